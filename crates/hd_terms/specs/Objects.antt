@@ -1,0 +1,61 @@
+-- The objects of a dump and their numbers, and the dump of a file.
+-- Source: HPROF binary format, OBJECT ARRAY DUMP. Where an ID has several records the first stands: this project's choice.
+use Rattle.std.specs.Prelude.{◌≡◌, ℕ, ◌==◌, Bool, true, false, if◌then◌else◌, List, [], ◌∷◌, ◌++◌, Option, Some, None, IsNone}
+use Rattle.std.specs.List.{flat_map, filter_map, find, list_any}
+use Rattle.byteorder.specs.Endian.{big_number}
+use Rattle.hd_terms.specs.declared.IdSize.{IdSize}
+use Rattle.hd_terms.specs.Records.{id_len, Record, HasHeader, AreRecords, header_len, segment_spans}
+use Rattle.hd_terms.specs.SubRecords.{SubRecord, RootUnknown, ObjectArray, Item, ObjArray, Sub, AreDumpSubRecords, dump_subs_at}
+use Rattle.hd_terms.specs.SubRecords as subs
+use Rattle.hd_terms.specs.Groups.{array_group, array_bytes}
+use Rattle.hd_terms.specs.Slots.{array_slots}
+use Rattle.hd_terms.specs.Roots.{roots_of}
+use Rattle.hd_terms.specs.Dump.{Object, Dump}
+
+-- the object of an object sub-record
+abbrev pub object_of : IdSize → SubRecord → Option Object
+object_of size (RootUnknown id) = None
+object_of size (ObjectArray id serial count class elements) = Some (record {
+  id = big_number (id_len size) id;
+  group = array_group size class;
+  bytes = array_bytes size count;
+  slots = array_slots size class elements;
+  referent = None;
+})
+
+-- the objects whose ID is none of those and no earlier one's
+abbrev pub first_of_each : List ℕ → List Object → List Object
+first_of_each earlier [] = []
+first_of_each earlier (x ∷ xs) =
+    if list_any (λ id. id == x.id) earlier then first_of_each earlier xs else x ∷ first_of_each (earlier ++ x.id ∷ []) xs
+
+-- the objects of sub-records: in their order, the first of each ID. An object's number is its place
+abbrev pub objects_of : IdSize → List SubRecord → List Object
+objects_of size subs = first_of_each [] (filter_map (object_of size) subs)
+
+-- the dump of sub-records
+abbrev pub dump_of : IdSize → List SubRecord → Dump
+dump_of size subs = record { objects = objects_of size subs; roots = roots_of size subs }
+
+-- an object sub-record with ID 0, which stands for null
+abbrev pub is_null_item : Item → Bool
+is_null_item (subs.Root kind id) = false
+is_null_item (ObjArray id class elements) = id == 0
+
+abbrev pub is_null_object : Sub → Bool
+is_null_object s = is_null_item s.item
+
+-- a file that reads without fault: its header, its records, the sub-records of its segments, no object with ID 0
+pub record ReadsAs (bytes : List ℕ) (size : IdSize) (records : List Record) (segments : List (List SubRecord)) : Type 0 where
+  pub header : HasHeader size bytes
+  pub whole : AreRecords bytes records
+  pub bodies : AreDumpSubRecords size records segments
+  pub no_null : IsNone (find is_null_object (dump_subs_at size (segment_spans header_len records) segments))
+
+-- the dump of a file that reads without fault
+pub record IsDumpOf (bytes : List ℕ) (dump : Dump) : Type 0 where
+  pub size : IdSize
+  pub records : List Record
+  pub segments : List (List SubRecord)
+  pub reads : ReadsAs bytes size records segments
+  pub is : dump ≡ dump_of size (flat_map (λ (ss : List SubRecord). ss) segments)

@@ -1,0 +1,36 @@
+-- Ranks of strengths, and what is passed on along a path.
+-- Source: java.lang.ref package specification (Java SE 17), "Reachability", whose list goes from strong to unreachable.
+use Rattle.std.specs.Prelude.{ℕ, ◌≤◌, nat_le, if◌then◌else◌}
+use Rattle.hd_terms.specs.declared.Strength.{Strength}
+use Rattle.hd_terms.specs.declared.Strength.TheVariants as strengths
+use Rattle.hd_terms.specs.declared.EdgeKind.{EdgeKind}
+use Rattle.hd_terms.specs.declared.EdgeKind.TheVariants as kinds
+
+-- the ranks, from the worst
+abbrev pub rank : Strength → ℕ
+rank strengths.Unreachable = 0
+rank strengths.Phantom = 1
+rank strengths.Final = 2
+rank strengths.Weak = 3
+rank strengths.Soft = 4
+rank strengths.Strong = 5
+
+-- the strength of an edge's kind
+abbrev pub given_by : EdgeKind → Strength
+given_by kinds.Strong = strengths.Strong
+given_by kinds.Soft = strengths.Soft
+given_by kinds.Weak = strengths.Weak
+given_by kinds.Final = strengths.Final
+given_by kinds.Phantom = strengths.Phantom
+
+-- the one of lesser rank
+abbrev pub weaker_of : Strength → Strength → Strength
+weaker_of a b = if nat_le (rank a) (rank b) then a else b
+
+-- the least strength that is passed on along a path: an object that is only phantom reachable passes nothing on
+abbrev pub least_passed_on : Strength
+least_passed_on = strengths.Final
+
+-- a strength that is passed on
+abbrev pub IsPassedOn : Strength → Type 0
+IsPassedOn s = rank least_passed_on ≤ rank s

@@ -1,0 +1,72 @@
+-- The read fault of a file: the first one of the first phase that has any. Phases go records, sub-records, objects.
+-- Source: HPROF binary format for what is a fault; their order and places are this project's choice.
+use Rattle.std.specs.Prelude.{◌≡◌, ◌≢◌, ℕ, ◌+◌, ◌≤◌, ◌<◌, false, List, [], ◌∷◌, ◌++◌, length, take, drop, slice_get, Some}
+use Rattle.std.specs.List.{flat_map, filter, find, AllByRecursion, AllZip}
+use Rattle.hd_terms.specs.declared.IdSize.{IdSize}
+use Rattle.hd_terms.specs.declared.Span.{Span}
+use Rattle.hd_terms.specs.declared.errors.Cause.{Cause}
+use Rattle.hd_terms.specs.declared.errors.Cause.TheVariants as causes
+use Rattle.hd_terms.specs.declared.errors.ReadFault.{ReadFault}
+use Rattle.hd_terms.specs.Records.{id_size_of, largest_file, header_len, magic, Record, IsRecord, record_text, HasHeader, AreRecords, is_segment, segment_spans}
+use Rattle.hd_terms.specs.SubRecords.{SubRecord, Sub, IsSubRecord, sub_record_text, is_known_tag, AreSubRecords, AreDumpSubRecords, dump_subs_at}
+use Rattle.hd_terms.specs.Objects.{is_null_object}
+
+-- a fault of a cause at a place
+abbrev pub fault : Cause → ℕ → ReadFault
+fault cause offset = record { cause = cause; offset = offset }
+
+-- these bytes end inside a text: there is some of it, and some is missing
+pub record IsCutOff (rest text : List ℕ) : Type 0 where
+  pub some : rest ≢ []
+  pub missing : List ℕ
+  pub lacks : missing ≢ []
+  pub whole : rest ++ missing ≡ text
+
+-- faults of the header and the records, in the order in which they are looked for
+pub data IsRecordsFault (bytes : List ℕ) : ReadFault → Type 0 where
+  too_large : largest_file < length bytes → IsRecordsFault bytes (fault causes.TooLarge 0)
+  no_header : length bytes < header_len → IsRecordsFault bytes (fault causes.Truncated 0)
+  other_text : length bytes ≤ largest_file → header_len ≤ length bytes → take 19 bytes ≢ magic → IsRecordsFault bytes (fault causes.BadMagic 0)
+  other_id_size : length bytes ≤ largest_file → header_len ≤ length bytes → take 19 bytes ≡ magic → id_size_of bytes ≢ 4 → id_size_of bytes ≢ 8
+      → IsRecordsFault bytes (fault causes.BadIdSize 19)
+  -- whole records, and then one that runs past the end
+  cut_off : (size : IdSize) (records : List Record) (rest : List ℕ) (r : Record) → HasHeader size bytes
+      → drop header_len bytes ≡ flat_map record_text records ++ rest → AllByRecursion IsRecord records → IsRecord r → IsCutOff rest (record_text r)
+      → IsRecordsFault bytes (fault causes.Truncated (header_len + length (flat_map record_text records)))
+
+-- why no sub-record can be read from the front of what is left of a body
+pub data IsStuck (size : IdSize) (rest : List ℕ) : Cause → Type 0 where
+  unknown : (tag : ℕ) (more : List ℕ) → rest ≡ tag ∷ more → is_known_tag tag ≡ false → IsStuck size rest causes.UnknownSub
+  short : (s : SubRecord) → IsSubRecord size s → IsCutOff rest (sub_record_text s) → IsStuck size rest causes.ShortSub
+
+-- the fault of a body that begins at a place: whole sub-records, and then bytes from which none can be read
+pub record IsSegmentFault (size : IdSize) (base : ℕ) (body : List ℕ) (f : ReadFault) : Type 0 where
+  pub front : List SubRecord
+  pub rest : List ℕ
+  pub whole : body ≡ flat_map sub_record_text front ++ rest
+  pub each : AllByRecursion (IsSubRecord size) front
+  pub stuck : IsStuck size rest f.cause
+  pub place : f.offset ≡ base + length (flat_map sub_record_text front)
+
+-- the fault of a dump's sub-records: that of the first segment in file order that has one
+pub record IsSubRecordsFault (size : IdSize) (records : List Record) (f : ReadFault) : Type 0 where
+  pub whole : List Record
+  pub r : Record
+  pub after : List Record
+  pub segments : List (List SubRecord)
+  pub span : Span
+  pub first : filter is_segment records ≡ whole ++ r ∷ after
+  pub before : AllZip (λ (w : Record) (subs : List SubRecord). AreSubRecords size w.body subs) whole segments
+  pub at : slice_get (segment_spans header_len records) (length whole) ≡ Some span
+  pub faulty : IsSegmentFault size span.start r.body f
+
+-- the fault of a file
+pub data IsReadFault (bytes : List ℕ) : ReadFault → Type 0 where
+  in_records : {f : ReadFault} → IsRecordsFault bytes f → IsReadFault bytes f
+  in_sub_records : {f : ReadFault} (size : IdSize) (records : List Record) → HasHeader size bytes → AreRecords bytes records
+      → IsSubRecordsFault size records f → IsReadFault bytes f
+  -- the first object with ID 0
+  in_objects : (size : IdSize) (records : List Record) (segments : List (List SubRecord)) (s : Sub)
+      → HasHeader size bytes → AreRecords bytes records → AreDumpSubRecords size records segments
+      → find is_null_object (dump_subs_at size (segment_spans header_len records) segments) ≡ Some s
+      → IsReadFault bytes (fault causes.NullObject s.offset)

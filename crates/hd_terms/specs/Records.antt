@@ -1,0 +1,70 @@
+-- Records of a file: the header of 31 bytes, and then one record after another.
+-- Source: HPROF binary format, JAVA PROFILE 1.0.2. The header is the zero-terminated text, u4 identifier size, u4 and u4
+-- of time; a record is u1 tag, u4 time, u4 length of the body, the body. Numbers have their highest byte first.
+use Rattle.std.specs.Prelude.{◌≡◌, ℕ, ◌+◌, ◌≤◌, Bool, ◌||◌, ◌==◌, if◌then◌else◌, List, [], ◌∷◌, ◌++◌, length, take, drop, codes}
+use Rattle.std.specs.List.{flat_map, AllByRecursion}
+use Rattle.byteorder.specs.Endian.{big_number}
+use Rattle.hd_terms.specs.declared.IdSize.{IdSize}
+use Rattle.hd_terms.specs.declared.IdSize.TheVariants as sizes
+use Rattle.hd_terms.specs.declared.Span.{Span}
+
+-- the bytes of an identifier
+abbrev pub id_len : IdSize → ℕ
+id_len sizes.Four = 4
+id_len sizes.Eight = 8
+
+-- the largest file that is read, in bytes
+abbrev pub largest_file : ℕ
+largest_file = 2147483647
+
+-- the bytes of the header
+abbrev pub header_len : ℕ
+header_len = 31
+
+-- the text that the file begins with, and its zero byte
+abbrev pub magic : List ℕ
+magic = codes "JAVA PROFILE 1.0.2" ++ 0 ∷ []
+
+-- the number that the header gives as identifier size
+abbrev pub id_size_of : List ℕ → ℕ
+id_size_of bytes = big_number 4 (drop 19 bytes)
+
+-- a record: its tag, the four bytes of its time, the four bytes of its length, its body
+pub record Record : Type 0 where
+  pub tag : ℕ
+  pub time : List ℕ
+  pub size : List ℕ
+  pub body : List ℕ
+
+-- the time and the size have four bytes each, and the size reads as the length of the body
+pub record IsRecord (r : Record) : Type 0 where
+  pub time : length r.time ≡ 4
+  pub size : length r.size ≡ 4
+  pub body : length r.body ≡ big_number 4 r.size
+
+-- how a record is spelled
+abbrev pub record_text : Record → List ℕ
+record_text r = r.tag ∷ r.time ++ r.size ++ r.body
+
+-- the header stands as it has to
+pub record HasHeader (size : IdSize) (bytes : List ℕ) : Type 0 where
+  pub fits : length bytes ≤ largest_file
+  pub long : header_len ≤ length bytes
+  pub magic : take 19 bytes ≡ magic
+  pub id_size : id_size_of bytes ≡ id_len size
+
+-- the records of a file: what follows the header is their spellings, joined
+pub record AreRecords (bytes : List ℕ) (records : List Record) : Type 0 where
+  pub whole : drop header_len bytes ≡ flat_map record_text records
+  pub each : AllByRecursion IsRecord records
+
+-- HEAP DUMP and HEAP DUMP SEGMENT have sub-records as their bodies
+abbrev pub is_segment : Record → Bool
+is_segment r = (r.tag == 0x0c) || (r.tag == 0x1c)
+
+-- where the bodies of the segments lie, for records that begin at a place of the file
+abbrev pub segment_spans : ℕ → List Record → List Span
+segment_spans at [] = []
+segment_spans at (r ∷ rs) =
+    if is_segment r then (record { start = at + 9; len = length r.body }) ∷ segment_spans (at + 9 + length r.body) rs
+    else segment_spans (at + 9 + length r.body) rs

@@ -1,0 +1,19 @@
+-- The roots of a dump.
+-- Source: HPROF binary format, the ROOT sub-records. Every root of a dump gives strong reachability.
+use Rattle.std.specs.Prelude.{ℕ, List, Option, Some, None}
+use Rattle.std.specs.List.{filter_map}
+use Rattle.byteorder.specs.Endian.{big_number}
+use Rattle.hd_terms.specs.declared.IdSize.{IdSize}
+use Rattle.hd_terms.specs.declared.RootKind.TheVariants as kinds
+use Rattle.hd_terms.specs.Records.{id_len}
+use Rattle.hd_terms.specs.SubRecords.{SubRecord, RootUnknown, ObjectArray}
+use Rattle.hd_terms.specs.Dump.{Root}
+
+-- the root of a root sub-record
+abbrev pub root_of : IdSize → SubRecord → Option Root
+root_of size (RootUnknown id) = Some (record { kind = kinds.Unknown; id = big_number (id_len size) id })
+root_of size (ObjectArray id serial count class elements) = None
+
+-- the roots of sub-records, in their order
+abbrev pub roots_of : IdSize → List SubRecord → List Root
+roots_of size subs = filter_map (root_of size) subs

@@ -1,0 +1,177 @@
+//! The plain types that every crate of the workbench speaks of, and, in `specs/`, the definitions that their
+//! contracts cite.
+//!
+//! Sources: the HPROF binary format of the JDK's heap dumper, format name `JAVA PROFILE 1.0.2`, and the section
+//! "Reachability" of the package specification of `java.lang.ref`, Java SE 17.
+#![tactic(auto)]
+
+mod errors;
+mod laws;
+
+ghost use Rattle.std.specs.Prelude.{◌≡◌};
+ghost use Rattle.hd_terms.specs.Ranks.{rank, given_by, weaker_of};
+ghost use Rattle.hd_terms.specs.Records.{id_len};
+
+pub use errors::{Cause, NoMemory, ReadFault};
+pub use laws::settled_supports_give_strengths;
+
+/// How well an object can be reached, the worst first.
+///
+/// The names are those of `java.lang.ref`; `Final` is what only a pending finalizer holds, and stands between
+/// `Weak` and `Phantom`.
+#[derive(Clone, Copy, Debug, PartialEq, Eq, PartialOrd, Ord)]
+pub enum Strength {
+    Unreachable,
+    Phantom,
+    Final,
+    Weak,
+    Soft,
+    Strong,
+}
+
+impl Strength {
+    /// The rank, from 0 for unreachable to 5 for strong.
+    pub fn rank(self) -> u8
+        ensures { result ≡ rank self }
+    {
+        self as u8
+    }
+
+    /// The one of lesser rank.
+    pub fn weaker(self, other: Strength) -> Strength
+        ensures { result ≡ weaker_of self other }
+    {
+        if self.rank() <= other.rank() {
+            self
+        } else {
+            other
+        }
+    }
+}
+
+/// What a reference goes through: a plain field, or the referent of a reference object of that class.
+#[derive(Clone, Copy, Debug, PartialEq, Eq)]
+pub enum EdgeKind {
+    Strong,
+    Soft,
+    Weak,
+    Final,
+    Phantom,
+}
+
+impl EdgeKind {
+    /// The strength that an edge of this kind gives at most.
+    pub fn strength(self) -> Strength
+        ensures { result ≡ given_by self }
+    {
+        match self {
+            EdgeKind::Strong => Strength::Strong,
+            EdgeKind::Soft => Strength::Soft,
+            EdgeKind::Weak => Strength::Weak,
+            EdgeKind::Final => Strength::Final,
+            EdgeKind::Phantom => Strength::Phantom,
+        }
+    }
+}
+
+/// The size of the identifiers in a dump: 4 or 8 bytes, as the header says.
+#[derive(Clone, Copy, Debug, PartialEq, Eq)]
+pub enum IdSize {
+    Four,
+    Eight,
+}
+
+impl IdSize {
+    /// The size in bytes, 4 or 8.
+    pub fn bytes(self) -> usize
+        ensures { result ≡ id_len self }
+    {
+        match self {
+            IdSize::Four => 4,
+            IdSize::Eight => 8,
+        }
+    }
+}
+
+/// A place of an object that holds a reference. Numbers count from 0 over all fields of the layout, all elements,
+/// all statics or all constants, those of primitive types included.
+#[derive(Clone, Copy, Debug, PartialEq, Eq)]
+pub enum Slot {
+    Field(u32),
+    Element(u32),
+    Static(u32),
+    Const(u32),
+    OfClass,
+    Super,
+    Loader,
+    Signers,
+    Domain,
+}
+
+/// A what-if edit. It is never written to the dump. A `u64` is an object's ID, in `Drop` a root's number.
+#[derive(Clone, Copy, Debug, PartialEq, Eq)]
+pub enum Edit {
+    /// The reference in a slot of an object is taken away.
+    Cut(u64, Slot),
+    /// The referent of a reference object is cleared.
+    Clear(u64),
+    /// A root is dropped.
+    Drop(u64),
+    /// An object gets one more root.
+    Add(u64),
+}
+
+/// What an event does.
+#[derive(Clone, Copy, Debug, PartialEq, Eq)]
+pub enum What {
+    Do(Edit),
+    /// Takes back the event of that number.
+    Undo(u32),
+}
+
+/// One entry of the log of edits: who made it, and what it does.
+#[derive(Clone, Copy, Debug, PartialEq, Eq)]
+pub struct Event {
+    pub who: u8,
+    pub what: What,
+}
+
+/// What objects are counted under: the class of an instance or an object array, the element type of a primitive
+/// array (4 to 11, as HPROF numbers the basic types), or all class objects. They are ordered so.
+#[derive(Clone, Copy, Debug, PartialEq, Eq, PartialOrd, Ord)]
+pub enum Group {
+    Class(u64),
+    Prim(u8),
+    Classes,
+}
+
+/// What an object owes its strength to.
+#[derive(Clone, Copy, Debug, PartialEq, Eq)]
+pub enum Support {
+    Nothing,
+    /// The root of that number.
+    Root(u64),
+    /// The edge from a slot of the object of that number.
+    Edge { source: u32, slot: Slot },
+}
+
+/// What a root of a dump is, after its sub-record's tag.
+#[derive(Clone, Copy, Debug, PartialEq, Eq)]
+pub enum RootKind {
+    Unknown,
+    JniGlobal,
+    JniLocal,
+    JavaFrame,
+    NativeStack,
+    StickyClass,
+    ThreadBlock,
+    MonitorUsed,
+    Thread,
+}
+
+/// A part of the file: the place of its first byte, and its length in bytes.
+#[derive(Clone, Copy, Debug, PartialEq, Eq)]
+pub struct Span {
+    pub start: u64,
+    pub len: u64,
+}
