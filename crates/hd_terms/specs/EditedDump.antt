@@ -10,7 +10,7 @@ use Rattle.hd_terms.specs.declared.Edit.TheVariants as edits
 use Rattle.hd_terms.specs.declared.Event.{Event}
 use Rattle.hd_terms.specs.Paths.{Edge, RootEntry, Standing}
 use Rattle.hd_terms.specs.Dump.{Object, Root, Dump}
-use Rattle.hd_terms.specs.Slots.{index_of, edges}
+use Rattle.hd_terms.specs.Edges.{index_of, edges}
 use Rattle.hd_terms.specs.Log.{live_edit, live_edits}
 
 -- a slot as a number of its kind and its own number
@@ -60,10 +60,14 @@ drops r (edits.Clear id) = false
 drops r (edits.Drop s) = s == r
 drops r (edits.Add id) = false
 
+-- the root of a number is dropped: a live edit drops it
+abbrev pub is_dropped : List Event → ℕ → Bool
+is_dropped log r = list_any (drops r) (live_edits log)
+
 -- a root of a number on an ID, where no live edit drops it and the ID is an object's
 abbrev pub standing_root : Dump → List Event → ℕ → ℕ → Option RootEntry
 standing_root dump log r id =
-    if list_any (drops r) (live_edits log) then None
+    if is_dropped log r then None
     else option_map (λ (target : ℕ). record { number = r; target = target }) (index_of dump.objects id)
 
 -- the root that event k adds to a dump of n roots, where it is live: its number is n + k

@@ -8,6 +8,7 @@ pub mod SubRecords
 pub mod Dump
 pub mod Groups
 pub mod Slots
+pub mod Edges
 pub mod Roots
 pub mod Objects
 pub mod ReadFaults

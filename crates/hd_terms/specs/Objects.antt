@@ -1,7 +1,7 @@
 -- The objects of a dump and their numbers, and the dump of a file.
 -- Source: HPROF binary format, OBJECT ARRAY DUMP. Where an ID has several records the first stands: this project's choice.
-use Rattle.std.specs.Prelude.{◌≡◌, ℕ, ◌==◌, Bool, true, false, if◌then◌else◌, List, [], ◌∷◌, ◌++◌, Option, Some, None, IsNone}
-use Rattle.std.specs.List.{flat_map, filter_map, find, list_any}
+use Rattle.std.specs.Prelude.{◌≡◌, ℕ, ◌==◌, Bool, true, false, if◌then◌else◌, List, [], ◌∷◌, take, Option, Some, None, IsNone}
+use Rattle.std.specs.List.{flat_map, filter_map, find, list_any, enumerate_from}
 use Rattle.byteorder.specs.Endian.{big_number}
 use Rattle.hd_terms.specs.declared.IdSize.{IdSize}
 use Rattle.hd_terms.specs.Records.{id_len, Record, HasHeader, AreRecords, header_len, segment_spans}
@@ -23,15 +23,17 @@ object_of size (ObjectArray id serial count class elements) = Some (record {
   referent = None;
 })
 
--- the objects whose ID is none of those and no earlier one's
-abbrev pub first_of_each : List ℕ → List Object → List Object
-first_of_each earlier [] = []
-first_of_each earlier (x ∷ xs) =
-    if list_any (λ id. id == x.id) earlier then first_of_each earlier xs else x ∷ first_of_each (earlier ++ x.id ∷ []) xs
+-- the object at a place stands: none before it has its ID
+abbrev pub standing_object : List Object → ℕ × Object → Option Object
+standing_object all (i, x) = if list_any (λ (y : Object). x.id == y.id) (take i all) then None else Some x
+
+-- the first object of each ID
+abbrev pub first_of_each : List Object → List Object
+first_of_each all = filter_map (standing_object all) (enumerate_from 0 all)
 
 -- the objects of sub-records: in their order, the first of each ID. An object's number is its place
 abbrev pub objects_of : IdSize → List SubRecord → List Object
-objects_of size subs = first_of_each [] (filter_map (object_of size) subs)
+objects_of size subs = first_of_each (filter_map (object_of size) subs)
 
 -- the dump of sub-records
 abbrev pub dump_of : IdSize → List SubRecord → Dump

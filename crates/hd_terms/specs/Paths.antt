@@ -1,6 +1,7 @@
 -- Paths from the roots, and their strength.
 -- Source: java.lang.ref package specification, "Reachability": an object is strongly reachable if it can be reached
--- without traversing any reference object, softly if by traversing a soft reference, and so on.
+-- without traversing any reference object, softly if by traversing a soft reference, and so on. That each root of a dump
+-- is strong is this project's choice.
 use Rattle.std.specs.Prelude.{◌≡◌, ℕ, List, [], ◌∷◌, map, Contains}
 use Rattle.hd_terms.specs.declared.Slot.{Slot}
 use Rattle.hd_terms.specs.declared.EdgeKind.{EdgeKind}
@@ -36,7 +37,7 @@ PassOn [] = Unit {0}
 PassOn (e ∷ []) = Unit {0}
 PassOn (e ∷ f ∷ es) = IsPassedOn (given_by e.kind) × PassOn (f ∷ es)
 
--- a root path: a standing root on an object, and then standing edges to another, of which only the last may be phantom
+-- a root path: a standing root on an object, and then any number of standing edges, of which only the last may be phantom
 pub record IsPath (g : Standing) (r : RootEntry) (es : List Edge) (o : ℕ) : Type 0 where
   pub root : Contains g.roots r
   pub edges : Lead g r.target es o

@@ -1,5 +1,6 @@
 -- Ranks of strengths, and what is passed on along a path.
 -- Source: java.lang.ref package specification (Java SE 17), "Reachability", whose list goes from strong to unreachable.
+-- That Final stands between Weak and Phantom, and what is passed on, are this project's choice.
 use Rattle.std.specs.Prelude.{ℕ, ◌≤◌, nat_le, if◌then◌else◌}
 use Rattle.hd_terms.specs.declared.Strength.{Strength}
 use Rattle.hd_terms.specs.declared.Strength.TheVariants as strengths

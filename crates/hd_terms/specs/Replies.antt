@@ -7,7 +7,7 @@ use Rattle.hd_terms.specs.declared.Strength.TheVariants as strengths
 use Rattle.hd_terms.specs.declared.Event.{Event}
 use Rattle.hd_terms.specs.Strengths.{HasStrength}
 use Rattle.hd_terms.specs.Dump.{Dump}
-use Rattle.hd_terms.specs.Slots.{index_of}
+use Rattle.hd_terms.specs.Edges.{index_of}
 use Rattle.hd_terms.specs.EditedDump.{standing}
 use Rattle.hd_terms.specs.Lines.{Command, Quit, LineFault, LineTooLong, UnknownCommand, BadArgument, command_of}
 use Rattle.hd_terms.specs.Lines as commands

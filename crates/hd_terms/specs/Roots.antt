@@ -1,5 +1,5 @@
 -- The roots of a dump.
--- Source: HPROF binary format, the ROOT sub-records. Every root of a dump gives strong reachability.
+-- Source: HPROF binary format, the ROOT sub-records.
 use Rattle.std.specs.Prelude.{ℕ, List, Option, Some, None}
 use Rattle.std.specs.List.{filter_map}
 use Rattle.byteorder.specs.Endian.{big_number}

@@ -6,6 +6,7 @@ use Rattle.hd_terms.specs.declared.Event.{Event}
 use Rattle.hd_terms.specs.Dump.{Dump}
 use Rattle.hd_terms.specs.Lines.{whole_lines, lines_of, run_lines, is_quit}
 use Rattle.hd_terms.specs.Replies.{IsReply}
+use Rattle.hd_terms.specs.Log.{IsLawful}
 
 -- one line, the log that its queries speak of, the log on which an edit is decided, the log after it, and the reply
 pub record Turn : Type 0 where
@@ -19,22 +20,22 @@ pub record Turn : Type 0 where
 abbrev pub own : ℕ → List Event → List Event
 own who log = filter (λ (e : Event). e.who == who) log
 
--- a later log: it begins with the earlier one, and has no more events of that analyst
+-- a later log: it is lawful, begins with the earlier one, and has no more events of that analyst
 pub record IsLater (who : ℕ) (before after : List Event) : Type 0 where
   pub more : List Event
   pub begins : after ≡ before ++ more
   pub same_own : own who after ≡ own who before
+  pub lawful : IsLawful after
 
--- a turn that reaches no edit: the reply is the one under its log, and nothing is added
-pub record IsAnswered (dump : Dump) (t : Turn) : Type 0 where
-  pub reply : IsReply dump t.log t.line t.reply
-  pub found : t.found ≡ t.log
-  pub after : t.after ≡ t.found
+-- what a turn may be
+pub data IsTurn (dump : Dump) (t : Turn) : Type 0 where
+  -- a line that reaches no edit: the reply is the one under its log, and nothing is added
+  answered : IsReply dump t.log t.line t.reply → t.found ≡ t.log → t.after ≡ t.found → IsTurn dump t
 
 -- the turns of an analyst from a log on
 abbrev pub IsSession : Dump → ℕ → List Event → List Turn → Type 0
 IsSession dump who front [] = Unit {0}
-IsSession dump who front (t ∷ ts) = IsLater who front t.log × IsLater who t.log t.found × IsAnswered dump t × IsSession dump who t.after ts
+IsSession dump who front (t ∷ ts) = IsLater who front t.log × IsLater who t.log t.found × IsTurn dump t × IsSession dump who t.after ts
 
 -- the analyst is alone: nothing comes between the turns
 abbrev pub IsAlone : List Event → List Turn → Type 0
@@ -57,10 +58,9 @@ pub record IsServed (dump : Dump) (input written : List ℕ) : Type 0 where
   pub session : IsSessionAlone dump (run_lines (lines_of input)) turns
   pub written_is : written ≡ replies turns
 
--- the input could be read no further: the replies to the whole lines of what was read of it
-pub record IsServedUntilRead (dump : Dump) (input written : List ℕ) : Type 0 where
+-- the input could be read no further, and this much of it is left: the replies to the whole lines of what was read
+pub record IsServedUntilRead (dump : Dump) (input rest written : List ℕ) : Type 0 where
   pub seen : List ℕ
-  pub rest : List ℕ
   pub front : input ≡ seen ++ rest
   pub turns : List Turn
   pub session : IsSessionAlone dump (whole_lines seen) turns

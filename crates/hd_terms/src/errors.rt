@@ -3,7 +3,7 @@ ghost use Rattle.std.specs.Prelude.{◌≡◌};
 
 use std::alloc::{AllocError, AllocFailed};
 
-/// Memory ran out. What the call was asked of stays as it was.
+/// Memory ran out.
 #[derive(Clone, Copy, Debug, PartialEq, Eq)]
 pub struct NoMemory;
 
@@ -34,13 +34,13 @@ pub enum Cause {
     ShortSub,
     /// No sub-record has this tag.
     UnknownSub,
-    /// No basic type has this number.
+    /// No basic type has this number, or an array can have no elements of it.
     UnknownType,
     /// An object has the ID 0, which stands for null.
     NullObject,
-    /// A class is above itself.
+    /// The chain of super classes of a class never ends.
     ClassCycle,
-    /// An instance's values don't have the size of its class's fields.
+    /// An instance's values don't have the size of the fields of its class and the classes above it.
     InstanceSize,
     /// The file has more than 2,147,483,647 bytes.
     TooLarge,

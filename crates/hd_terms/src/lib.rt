@@ -17,8 +17,8 @@ pub use laws::settled_supports_give_strengths;
 
 /// How well an object can be reached, the worst first.
 ///
-/// The names are those of `java.lang.ref`; `Final` is what only a pending finalizer holds, and stands between
-/// `Weak` and `Phantom`.
+/// The names are those of `java.lang.ref`. `Final` is what only a `FinalReference` leads to, as to an object with a
+/// finalizer; that it stands between `Weak` and `Phantom` is this project's choice.
 #[derive(Clone, Copy, Debug, PartialEq, Eq, PartialOrd, Ord)]
 pub enum Strength {
     Unreachable,
