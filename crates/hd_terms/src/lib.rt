@@ -8,10 +8,12 @@
 mod errors;
 mod laws;
 
-ghost use Rattle.std.specs.Prelude.{◌≡◌};
+ghost use Rattle.std.specs.Prelude.{◌≡◌, ◌≤◌, length};
+ghost use Rattle.byteorder.specs.Endian.{big_number};
 ghost use Rattle.hd_terms.specs.Ranks.{rank, given_by, weaker_of};
 ghost use Rattle.hd_terms.specs.Records.{id_len};
 
+use byteorder::{BigEndian, ByteOrder};
 pub use errors::{Cause, NoMemory, ReadFault};
 pub use laws::settled_supports_give_strengths;
 
@@ -89,6 +91,17 @@ impl IdSize {
         match self {
             IdSize::Four => 4,
             IdSize::Eight => 8,
+        }
+    }
+
+    /// The identifier that some bytes begin with, its highest byte first.
+    pub fn read(self, bytes: &[u8]) -> u64
+        requires { id_len self ≤ length bytes.now }
+        ensures { result ≡ big_number (id_len self) bytes.now }
+    {
+        match self {
+            IdSize::Four => u64::from(BigEndian::read_u32(bytes)),
+            IdSize::Eight => BigEndian::read_u64(bytes),
         }
     }
 }

@@ -1,0 +1,150 @@
+-- The dump of the sub-records of a file, from the list of them.
+use Rattle.std.proofs.Common.{◌≡◌, ◌∙◌, ℕ, zero, suc, ◌+◌, ◌-◌, ◌<◌, ◌≤◌, ◌^◌, ◌⊎◌, inl, inr, List, [], ◌∷◌, ◌++◌, length, map, take, drop, Option, Some, None, Bool, true, false, cond, eqb, refl, sym, ap, subst, arith, append_assoc, length-append, All}
+use Rattle.std.specs.List.{AllZip, AllByRecursion, zip, flat_map, filter, filter_map, cons_option, sum_by, find, list_any}
+use Rattle.std.proofs.lemmas.List.{append-nil, map-append, length-map, length-drop, drop-drop, take-append-drop, length-take}
+use Rattle.std.proofs.lemmas.List.Elements.{filter_map-append, All-nil, All-cons, All-append, All-head, All-tail}
+use Rattle.std.proofs.lemmas.List.Sums.{sum_by-append}
+use Rattle.std.proofs.Math.Seq.{drop-append_seam}
+use Rattle.hd_terms.specs.declared.IdSize.{IdSize}
+use Rattle.hd_terms.specs.declared.Span.{Span}
+use Rattle.hd_terms.specs.declared.errors.ReadFault.{ReadFault}
+use Rattle.hd_terms.specs.Records.{Record, HasHeader, AreRecords, header_len, segment_spans, is_segment, largest_file}
+use Rattle.hd_terms.specs.SubRecords.{SubRecord, RootUnknown, ObjectArray, IsSubRecord, AreSubRecords, AreDumpSubRecords, sub_record_text, Sub, subs_at, dump_subs_at, item_at}
+use Rattle.hd_terms.specs.Dump.{Object, Root, Dump}
+use Rattle.hd_terms.specs.Objects.{object_of, objects_of, first_of_each, dump_of, IsDumpOf, ReadsAs, is_null_object}
+use Rattle.hd_terms.specs.Roots.{root_of, roots_of}
+use Rattle.hd_graph.specs.declared.graph.RootRow.{RootRow}
+use Rattle.hd_graph.specs.GraphInside.{root_of_row}
+use Rattle.hd_graph.specs.Table.{Table}
+use Rattle.hd_graph.specs.Firsts.{firsts, firsts_from}
+use Rattle.hd_graph.specs.Arrays.{row_object, row_objects}
+use Rattle.hd_graph.specs.ArrayRows.{array_id, array_ids, array_of, arrays_of, item_weight, weight, IsItemWithin, AreWithin, roots_in}
+use Rattle.hd_graph.specs.Bodies.{AreBodies, body_at, IsSpanWithin}
+use Rattle.hd_graph.specs.Building.{IsNumbered, HasRowsOf}
+use Rattle.hd_graph.proofs.FirstLemmas.{firsts-map, first_of_each-firsts, is_known}
+use Rattle.hd_graph.proofs.RowLemmas.{id_of_array, row_of_array, ids-of-arrays}
+use Rattle.hd_graph.proofs.SpanLemmas.{IsBodyAt, span_total, bodies_at, total-le, all_within, bodies_of_records}
+use Rattle.hd_graph.proofs.LocatedLemmas.{object_of_array, array-object, array-within, array-weight}
+
+module _ (bytes : List ℕ) (size : IdSize) where
+  -- where the next sub-record begins
+  next : (at : ℕ) (s : SubRecord) (ss : List SubRecord) (rest : List ℕ) → drop at bytes ≡ flat_map sub_record_text (s ∷ ss) ++ rest → drop (at + length (sub_record_text s)) bytes ≡ flat_map sub_record_text ss ++ rest
+  next at s ss rest whole =
+      sym (drop-drop (length (sub_record_text s)) at bytes) ∙ ap (drop (length (sub_record_text s))) (whole ∙ append_assoc (sub_record_text s) (flat_map sub_record_text ss) rest)
+      ∙ drop-append_seam (sub_record_text s) (flat_map sub_record_text ss ++ rest)
+
+  here : (at : ℕ) (s : SubRecord) (ss : List SubRecord) (rest : List ℕ) → drop at bytes ≡ flat_map sub_record_text (s ∷ ss) ++ rest → drop at bytes ≡ sub_record_text s ++ (flat_map sub_record_text ss ++ rest)
+  here at s ss rest whole = whole ∙ append_assoc (sub_record_text s) (flat_map sub_record_text ss) rest
+
+  objects_at : (at : ℕ) (ss : List SubRecord) (rest : List ℕ) → drop at bytes ≡ flat_map sub_record_text ss ++ rest → AllByRecursion (IsSubRecord size) ss
+      → map (object_of_array size) (filter_map (array_of bytes size) (subs_at size at ss)) ≡ filter_map (object_of size) ss
+  objects_at at [] rest whole each = refl
+  objects_at at (RootUnknown id ∷ ss) rest whole each = objects_at (at + length (sub_record_text (RootUnknown id))) ss rest (next at (RootUnknown id) ss rest whole) each.1
+  objects_at at (ObjectArray id serial count class elements ∷ ss) rest whole each =
+      let s = ObjectArray id serial count class elements in
+      let x = array-object bytes size at id serial count class elements (flat_map sub_record_text ss ++ rest) each.0 (here at s ss rest whole) in
+      let more = objects_at (at + length (sub_record_text s)) ss rest (next at s ss rest whole) each.1 in
+      ap (cons_option (Some _)) more ∙ ap (λ (o : Option Object). cons_option o (filter_map (object_of size) ss)) x
+
+  within_at : (at : ℕ) (ss : List SubRecord) (rest : List ℕ) → drop at bytes ≡ flat_map sub_record_text ss ++ rest → AllByRecursion (IsSubRecord size) ss
+      → All (λ (s : Sub). IsItemWithin (length bytes) s.item) (subs_at size at ss)
+  within_at at [] rest whole each = All-nil (λ (s : Sub). IsItemWithin (length bytes) s.item)
+  within_at at (RootUnknown id ∷ ss) rest whole each =
+      All-cons (λ (s : Sub). IsItemWithin (length bytes) s.item) _ _ tt (within_at (at + length (sub_record_text (RootUnknown id))) ss rest (next at (RootUnknown id) ss rest whole) each.1)
+  within_at at (ObjectArray id serial count class elements ∷ ss) rest whole each =
+      let s = ObjectArray id serial count class elements in
+      All-cons (λ (s : Sub). IsItemWithin (length bytes) s.item) _ _
+      (array-within bytes size at id serial count class elements (flat_map sub_record_text ss ++ rest) each.0 (here at s ss rest whole))
+      (within_at (at + length (sub_record_text s)) ss rest (next at s ss rest whole) each.1)
+
+  pub weight-cons : (s : Sub) (list : List Sub) → weight (s ∷ list) ≡ item_weight s.item + weight list
+  weight-cons s list = omega (arith, sum_by-append (λ (x : Sub). item_weight x.item) (s ∷ []) list)
+
+  weight_at : (at : ℕ) (ss : List SubRecord) (rest : List ℕ) → drop at bytes ≡ flat_map sub_record_text ss ++ rest → AllByRecursion (IsSubRecord size) ss
+      → weight (subs_at size at ss) ≤ length (flat_map sub_record_text ss)
+  weight_at at [] rest whole each = omega arith
+  weight_at at (RootUnknown id ∷ ss) rest whole each =
+      let s = RootUnknown id in
+      let more = weight_at (at + length (sub_record_text s)) ss rest (next at s ss rest whole) each.1 in
+      omega (arith, weight-cons (record { offset = at; item = item_at size at s }) (subs_at size (at + length (sub_record_text s)) ss), more, length-append (sub_record_text s) (flat_map sub_record_text ss))
+  weight_at at (ObjectArray id serial count class elements ∷ ss) rest whole each =
+      let s = ObjectArray id serial count class elements in
+      let more = weight_at (at + length (sub_record_text s)) ss rest (next at s ss rest whole) each.1 in
+      let first = array-weight bytes size at id serial count class elements (flat_map sub_record_text ss ++ rest) each.0 (here at s ss rest whole) in
+      omega (arith, weight-cons (record { offset = at; item = item_at size at s }) (subs_at size (at + length (sub_record_text s)) ss), more, first, length-append (sub_record_text s) (flat_map sub_record_text ss))
+
+  roots_at : (at : ℕ) (ss : List SubRecord) → roots_in (subs_at size at ss) ≡ roots_of size ss
+  roots_at at [] = refl
+  roots_at at (RootUnknown id ∷ ss) = ap (cons_option (Some _)) (roots_at (at + length (sub_record_text (RootUnknown id))) ss)
+  roots_at at (ObjectArray id serial count class elements ∷ ss) = roots_at (at + length (sub_record_text (ObjectArray id serial count class elements))) ss
+
+  -- the bytes of a span, and those after it
+  from_span : (span : Span) (ss : List SubRecord) → AreSubRecords size (body_at bytes span) ss → drop span.start bytes ≡ flat_map sub_record_text ss ++ drop span.len (drop span.start bytes)
+  from_span span ss h = sym (take-append-drop span.len (drop span.start bytes)) ∙ ap (λ (xs : List ℕ). xs ++ drop span.len (drop span.start bytes)) h.whole
+
+  abbrev pub all_of : List (List SubRecord) → List SubRecord
+  all_of segments = flat_map (λ (ss : List SubRecord). ss) segments
+
+  pub objects_in : (spans : List Span) (segments : List (List SubRecord)) → AreBodies size bytes spans segments
+      → map (object_of_array size) (filter_map (array_of bytes size) (dump_subs_at size spans segments)) ≡ filter_map (object_of size) (all_of segments)
+  objects_in [] [] all = refl
+  objects_in [] (s ∷ segments) all = absurd all
+  objects_in (p ∷ spans) [] all = absurd all
+  objects_in (p ∷ spans) (s ∷ segments) all =
+      ap (map (object_of_array size)) (filter_map-append (array_of bytes size) (subs_at size p.start s) (dump_subs_at size spans segments))
+      ∙ map-append (object_of_array size) (filter_map (array_of bytes size) (subs_at size p.start s)) (filter_map (array_of bytes size) (dump_subs_at size spans segments))
+      ∙ ap (λ (xs : List Object). xs ++ map (object_of_array size) (filter_map (array_of bytes size) (dump_subs_at size spans segments))) (objects_at p.start s _ (from_span p s all.0) all.0.each)
+      ∙ ap (λ (xs : List Object). filter_map (object_of size) s ++ xs) (objects_in spans segments all.1)
+      ∙ sym (filter_map-append (object_of size) s (all_of segments))
+
+  pub roots_all : (spans : List Span) (segments : List (List SubRecord)) → AreBodies size bytes spans segments → roots_in (dump_subs_at size spans segments) ≡ roots_of size (all_of segments)
+  roots_all [] [] all = refl
+  roots_all [] (s ∷ segments) all = absurd all
+  roots_all (p ∷ spans) [] all = absurd all
+  roots_all (p ∷ spans) (s ∷ segments) all =
+      filter_map-append _ (subs_at size p.start s) (dump_subs_at size spans segments)
+      ∙ ap (λ (xs : List Root). xs ++ roots_in (dump_subs_at size spans segments)) (roots_at p.start s)
+      ∙ ap (λ (xs : List Root). roots_of size s ++ xs) (roots_all spans segments all.1)
+      ∙ sym (filter_map-append (root_of size) s (all_of segments))
+
+  pub within_all : (spans : List Span) (segments : List (List SubRecord)) → AreBodies size bytes spans segments → All (λ (s : Sub). IsItemWithin (length bytes) s.item) (dump_subs_at size spans segments)
+  within_all [] [] all = All-nil (λ (s : Sub). IsItemWithin (length bytes) s.item)
+  within_all [] (s ∷ segments) all = absurd all
+  within_all (p ∷ spans) [] all = absurd all
+  within_all (p ∷ spans) (s ∷ segments) all =
+      All-append (λ (s : Sub). IsItemWithin (length bytes) s.item) (subs_at size p.start s) (dump_subs_at size spans segments) (within_at p.start s _ (from_span p s all.0) all.0.each) (within_all spans segments all.1)
+
+  total-cons : (p : Span) (spans : List Span) → span_total (p ∷ spans) ≡ p.len + span_total spans
+  total-cons p spans = omega (arith, sum_by-append (λ (s : Span). s.len) (p ∷ []) spans)
+
+  pub weight_all : (spans : List Span) (segments : List (List SubRecord)) → AreBodies size bytes spans segments → weight (dump_subs_at size spans segments) ≤ span_total spans
+  weight_all [] [] all = omega arith
+  weight_all [] (s ∷ segments) all = absurd all
+  weight_all (p ∷ spans) [] all = absurd all
+  weight_all (p ∷ spans) (s ∷ segments) all =
+      let first = weight_at p.start s _ (from_span p s all.0) all.0.each in
+      let long : length (flat_map sub_record_text s) ≤ p.len = omega (arith, ap (λ (xs : List ℕ). length xs) all.0.whole, length-take p.len (drop p.start bytes)) in
+      omega (arith, first, long, weight_all spans segments all.1, total-cons p spans, sum_by-append (λ (x : Sub). item_weight x.item) (subs_at size p.start s) (dump_subs_at size spans segments))
+
+-- objects of IDs and rows that come in pairs
+pub row_objects-pairs : (size : IdSize) (xs : List (ℕ × List ℕ)) → row_objects size (map id_of_array xs) (map row_of_array xs) ≡ map (object_of_array size) xs
+row_objects-pairs size [] = refl
+row_objects-pairs size (x ∷ xs) = ap (λ (ys : List Object). row_object size x.0 x.1 ∷ ys) (row_objects-pairs size xs)
+
+-- no more than there are
+module _ {X : Type 0} where
+  known-le : (b : Bool) (x : X) (rest : List X) (n : ℕ) → length rest ≤ n → length (cond b rest (x ∷ rest)) ≤ suc n
+  known-le true x rest n le = omega arith
+  known-le false x rest n le = omega arith
+
+  option-le : (o : Option X) (rest : List X) (n : ℕ) → length rest ≤ n → length (cons_option o rest) ≤ suc n
+  option-le None rest n le = omega arith
+  option-le (Some y) rest n le = omega arith
+
+pub firsts-le : {X : Type 0} (key : X → ℕ) (before xs : List X) → length (firsts_from key before xs) ≤ length xs
+firsts-le key before [] = omega arith
+firsts-le key before (x ∷ xs) = known-le (is_known key before x) x (firsts_from key (before ++ x ∷ []) xs) (length xs) (firsts-le key (before ++ x ∷ []) xs)
+
+pub filter_map-le : {X Y : Type 0} (f : X → Option Y) (xs : List X) → length (filter_map f xs) ≤ length xs
+filter_map-le f [] = omega arith
+filter_map-le f (x ∷ xs) = option-le (f x) (filter_map f xs) (length xs) (filter_map-le f xs)

@@ -1,0 +1,12 @@
+pub mod CutLemmas
+pub mod CodeLemmas
+pub mod TableLemmas
+pub mod ArrayLemmas
+pub mod FirstLemmas
+pub mod NumberLemmas
+pub mod RowLemmas
+pub mod BodyLemmas
+pub mod SpanLemmas
+pub mod LocatedLemmas
+pub mod DumpLemmas
+pub mod OpenLemmas

@@ -1,0 +1,123 @@
+-- What the list of sub-records says of the sub-records of the definition, by their places in the file.
+use Rattle.std.proofs.Common.{◌≡◌, ◌∙◌, ℕ, zero, suc, ◌+◌, ◌-◌, ◌*◌, ◌/◌, ◌<◌, ◌≤◌, List, [], ◌∷◌, ◌++◌, length, map, take, drop, Option, Some, None, refl, sym, ap, subst, arith, append_assoc, length-append, All}
+use Rattle.std.specs.List.{AllZip, AllByRecursion, zip, flat_map, concat, filter_map, cons_option, sum_by}
+use Rattle.std.specs.Option.{option_map}
+use Rattle.std.proofs.lemmas.List.{append-nil, map-append, length-map, length-drop, drop-drop, take-append-drop, length-take}
+use Rattle.std.proofs.lemmas.List.Elements.{filter_map-append, All-nil, All-cons, All-append}
+use Rattle.std.proofs.lemmas.List.Sums.{sum_by-append}
+use Rattle.std.proofs.Math.Seq.{take-append_seam, drop-append_seam}
+use Rattle.byteorder.specs.Endian.{big_number}
+use Rattle.byteorder.specs.Numbers.{big_from-append}
+use Rattle.hd_terms.specs.declared.IdSize.{IdSize}
+use Rattle.hd_terms.specs.declared.IdSize.TheVariants as sizes
+use Rattle.hd_terms.specs.declared.Span.{Span}
+use Rattle.hd_terms.specs.declared.Slot.TheVariants as slots
+use Rattle.hd_terms.specs.declared.Group.{Group}
+use Rattle.hd_terms.specs.declared.Group.TheVariants as groups
+use Rattle.hd_terms.specs.Records.{id_len}
+use Rattle.hd_terms.specs.SubRecords.{SubRecord, RootUnknown, ObjectArray, IsSubRecord, AreElements, AreSubRecords, sub_record_text, Sub, subs_at, dump_subs_at, item_at}
+use Rattle.hd_terms.specs.Dump.{Object, Root, SlotEntry}
+use Rattle.hd_terms.specs.Slots.{strong_slot, element_slots, array_slots}
+use Rattle.hd_terms.specs.Objects.{object_of}
+use Rattle.hd_terms.specs.Roots.{root_of}
+use Rattle.hd_graph.specs.Cuts.{last_from}
+use Rattle.hd_graph.specs.Arrays.{row_object, row_slots}
+use Rattle.hd_graph.specs.ArrayRows.{array_of, array_row, ids_in, id_count, item_weight, weight, IsItemWithin, roots_in}
+use Rattle.hd_graph.specs.Bodies.{AreBodies, body_at, IsSpanWithin}
+use Rattle.hd_graph.proofs.CutLemmas.{last_from-push}
+use Rattle.hd_graph.proofs.SpanLemmas.{span_total}
+
+-- the array of an ID and a row
+abbrev pub object_of_array : IdSize → ℕ × List ℕ → Object
+object_of_array size a = row_object size a.0 a.1
+
+-- IDs that stand one after another are read as those of the elements
+pub ids-of-elements : (n : ℕ) (elements : List (List ℕ)) (rest : List ℕ) → AllByRecursion (λ element. length element ≡ n) elements
+    → ids_in n (length elements) (concat elements ++ rest) ≡ map (big_number n) elements
+ids-of-elements n [] rest each = refl
+ids-of-elements n (e ∷ elements) rest each =
+    let parts : concat (e ∷ elements) ++ rest ≡ e ++ (concat elements ++ rest) = append_assoc e (concat elements) rest in
+    let first : big_number n (concat (e ∷ elements) ++ rest) ≡ big_number n e = ap (big_number n) parts ∙ big_from-append n e (concat elements ++ rest) (omega (arith, each.0)) in
+    let dropped : drop n (concat (e ∷ elements) ++ rest) ≡ concat elements ++ rest = ap (drop n) parts ∙ ap (λ (k : ℕ). drop k (e ++ (concat elements ++ rest))) (sym each.0) ∙ drop-append_seam e (concat elements ++ rest) in
+    ap (λ (id : ℕ). id ∷ ids_in n (length elements) (drop n (concat (e ∷ elements) ++ rest))) first
+    ∙ ap (λ (bytes : List ℕ). big_number n e ∷ ids_in n (length elements) bytes) dropped
+    ∙ ap (λ (ids : List ℕ). big_number n e ∷ ids) (ids-of-elements n elements rest each.1)
+
+length-concat : (size : IdSize) (elements : List (List ℕ)) → AllByRecursion (λ element. length element ≡ id_len size) elements → length (concat elements) ≡ id_len size * length elements
+length-concat sizes.Four [] each = omega arith
+length-concat sizes.Eight [] each = omega arith
+length-concat sizes.Four (e ∷ elements) each = omega (arith, length-append e (concat elements), length-concat sizes.Four elements each.1, each.0)
+length-concat sizes.Eight (e ∷ elements) each = omega (arith, length-append e (concat elements), length-concat sizes.Eight elements each.1, each.0)
+
+-- the slots of such a row are those of the definition
+row_slots-elements : (size : IdSize) (i : ℕ) (elements : List (List ℕ)) (class : ℕ) → row_slots i (map (big_number (id_len size)) elements ++ class ∷ []) ≡ element_slots size i elements ++ strong_slot slots.OfClass class ∷ []
+row_slots-elements size i [] class = refl
+row_slots-elements size i (e ∷ []) class = refl
+row_slots-elements size i (e ∷ f ∷ elements) class = ap (λ (ss : List SlotEntry). strong_slot (slots.Element i) (big_number (id_len size) e) ∷ ss) (row_slots-elements size (i + 1) (f ∷ elements) class)
+
+count_of_bytes : (size : IdSize) (n : ℕ) → id_len size * n / id_len size ≡ n
+count_of_bytes sizes.Four n = omega arith
+count_of_bytes sizes.Eight n = omega arith
+
+count-le : (size : IdSize) (n : ℕ) → n ≤ id_len size * n
+count-le sizes.Four n = omega arith
+count-le sizes.Eight n = omega arith
+
+-- an object array's text before its elements
+abbrev array_head : List ℕ → List ℕ → List ℕ → List ℕ → List ℕ
+array_head id serial count class = 0x22 ∷ id ++ serial ++ count ++ class
+
+length-array_head : (size : IdSize) (id serial count class : List ℕ) → length id ≡ id_len size → length serial ≡ 4 → length count ≡ 4 → length class ≡ id_len size → length (array_head id serial count class) ≡ 9 + 2 * id_len size
+length-array_head size id serial count class a b c d =
+    omega (arith, length-append (0x22 ∷ id ++ serial ++ count) class, length-append (0x22 ∷ id ++ serial) count, length-append (0x22 ∷ id) serial)
+
+module _ (bytes : List ℕ) (size : IdSize) where
+  -- an object array at a place
+  module _ (at : ℕ) (id serial count class : List ℕ) (elements : List (List ℕ)) (rest : List ℕ) (is : IsSubRecord size (ObjectArray id serial count class elements))
+      (whole : drop at bytes ≡ sub_record_text (ObjectArray id serial count class elements) ++ rest) where
+    abbrev class_id : ℕ
+    class_id = big_number (id_len size) class
+
+    abbrev span : Span
+    span = record { start = at + 9 + 2 * id_len size; len = id_len size * big_number 4 count }
+
+    from_elements : drop (at + 9 + 2 * id_len size) bytes ≡ concat elements ++ rest
+    from_elements =
+        let h = array_head id serial count class in
+        let long = length-array_head size id serial count class is.0 is.1 is.2 is.3 in
+        let place : at + 9 + 2 * id_len size ≡ at + length h = omega arith in
+        ap (λ (n : ℕ). drop n bytes) place ∙ sym (drop-drop (length h) at bytes) ∙ ap (drop (length h)) (whole ∙ append_assoc h (concat elements) rest) ∙ drop-append_seam h (concat elements ++ rest)
+
+    row_is : array_row bytes size class_id span ≡ map (big_number (id_len size)) elements ++ class_id ∷ []
+    row_is =
+        let many : id_count size span ≡ length elements = count_of_bytes size (big_number 4 count) ∙ sym is.4.many in
+        ap (λ (n : ℕ). ids_in (id_len size) n (drop (at + 9 + 2 * id_len size) bytes) ++ class_id ∷ []) many
+        ∙ ap (λ (xs : List ℕ). ids_in (id_len size) (length elements) xs ++ class_id ∷ []) from_elements
+        ∙ ap (λ (xs : List ℕ). xs ++ class_id ∷ []) (ids-of-elements (id_len size) elements rest is.4.each)
+
+    length-row : length (map (big_number (id_len size)) elements ++ class_id ∷ []) - 1 ≡ big_number 4 count
+    length-row = omega (arith, length-append (map (big_number (id_len size)) elements) (class_id ∷ []), length-map elements (big_number (id_len size)), is.4.many)
+
+    pub array-object : Some (object_of_array size (big_number (id_len size) id, array_row bytes size class_id span)) ≡ object_of size (ObjectArray id serial count class elements)
+    array-object =
+        let row = map (big_number (id_len size)) elements ++ class_id ∷ [] in
+        let x : Group → ℕ → List SlotEntry → Object = λ g b ss. record { id = big_number (id_len size) id; group = g; bytes = b; slots = ss; referent = None } in
+        ap (λ (r : List ℕ). Some (row_object size (big_number (id_len size) id) r)) row_is
+        ∙ ap (λ (c : ℕ). Some (x (groups.Class c) ((length row - 1) * id_len size) (row_slots 0 row))) (last_from-push 0 (map (big_number (id_len size)) elements) class_id)
+        ∙ ap (λ (n : ℕ). Some (x (groups.Class class_id) (n * id_len size) (row_slots 0 row))) length-row
+        ∙ ap (λ (ss : List SlotEntry). Some (x (groups.Class class_id) (big_number 4 count * id_len size) ss)) (row_slots-elements size 0 elements class_id)
+
+    text-long : length (sub_record_text (ObjectArray id serial count class elements)) ≡ 9 + 2 * id_len size + id_len size * big_number 4 count
+    text-long =
+        length-append (array_head id serial count class) (concat elements)
+        ∙ ap (λ (n : ℕ). n + length (concat elements)) (length-array_head size id serial count class is.0 is.1 is.2 is.3)
+        ∙ ap (λ (n : ℕ). 9 + 2 * id_len size + n) (length-concat size elements is.4.each ∙ ap (λ (n : ℕ). id_len size * n) is.4.many)
+
+    pub array-within : span.start + span.len ≤ length bytes
+    array-within =
+        let all : length (drop at bytes) ≡ 9 + 2 * id_len size + id_len size * big_number 4 count + length rest =
+        ap (λ (xs : List ℕ). length xs) whole ∙ length-append (sub_record_text (ObjectArray id serial count class elements)) rest ∙ ap (λ (n : ℕ). n + length rest) text-long in
+        omega (arith, length-drop at bytes, all)
+
+    pub array-weight : 1 + span.len ≤ length (sub_record_text (ObjectArray id serial count class elements))
+    array-weight = omega (arith, text-long)

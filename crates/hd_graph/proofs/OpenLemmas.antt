@@ -1,0 +1,154 @@
+-- What opening a file comes to: its dump, or its fault.
+use Rattle.std.proofs.Common.{◌≡◌, ◌∙◌, ℕ, zero, suc, ◌+◌, ◌-◌, ◌<◌, ◌≤◌, ◌^◌, ◌⊎◌, inl, inr, List, [], ◌∷◌, ◌++◌, length, map, take, drop, Option, Some, None, Bool, true, false, refl, sym, ap, subst, arith, All}
+use Rattle.std.specs.List.{AllZip, zip, flat_map, filter, filter_map, find, slice_get}
+use Rattle.std.proofs.lemmas.List.{length-map}
+use Rattle.hd_terms.specs.declared.IdSize.{IdSize}
+use Rattle.hd_terms.specs.declared.Span.{Span}
+use Rattle.hd_terms.specs.declared.errors.ReadFault.{ReadFault}
+use Rattle.hd_terms.specs.Records.{Record, HasHeader, AreRecords, header_len, segment_spans, is_segment}
+use Rattle.hd_terms.specs.SubRecords.{SubRecord, Sub, Item, ObjArray, AreSubRecords, AreDumpSubRecords, dump_subs_at}
+use Rattle.hd_terms.specs.SubRecords as subs
+use Rattle.hd_terms.specs.declared.IdSize.TheVariants as sizes
+use Rattle.hd_terms.specs.Roots.{roots_of}
+use Rattle.hd_terms.specs.Dump.{Object, Root, Dump}
+use Rattle.hd_terms.specs.Objects.{object_of, objects_of, dump_of, IsDumpOf, is_null_object}
+use Rattle.hd_terms.specs.ReadFaults.{IsReadFault, in_records, in_sub_records, in_objects, IsSubRecordsFault, IsSegmentFault}
+use Rattle.hd_records.specs.Reading.{ReadsRecords, IsRecordsFaultOrMemory}
+use Rattle.hd_graph.specs.declared.graph.RootRow.{RootRow}
+use Rattle.hd_graph.specs.GraphInside.{root_of_row}
+use Rattle.hd_graph.specs.Table.{Table}
+use Rattle.hd_graph.specs.Firsts.{firsts}
+use Rattle.hd_graph.specs.Arrays.{row_objects}
+use Rattle.hd_graph.specs.ArrayRows.{array_id, array_ids, array_of, arrays_of, weight, item_weight, AreWithin, root_of_item, roots_in}
+use Rattle.hd_graph.specs.Bodies.{AreBodies, ReadsBodies, IsBodiesFault, body_at, IsSpanWithin}
+use Rattle.hd_graph.specs.Building.{IsNumbered, HasRowsOf, IsBodiesFaultOrMemory, IsNullFaultOrMemory, IsReadFaultOrMemory}
+use Rattle.hd_graph.proofs.FirstLemmas.{firsts-map, first_of_each-firsts}
+use Rattle.hd_graph.proofs.RowLemmas.{id_of_array, row_of_array, ids-of-arrays}
+use Rattle.hd_graph.proofs.SpanLemmas.{IsBodyAt, span_total, bodies_at, total-le, all_within, bodies_of_records}
+use Rattle.hd_graph.proofs.LocatedLemmas.{object_of_array}
+use Rattle.hd_graph.proofs.DumpLemmas.{all_of, objects_in, roots_all, within_all, weight_all, weight-cons, row_objects-pairs, firsts-le, filter_map-le}
+
+abbrev same : ℕ → ℕ
+same id = id
+
+item-heavy : (i : Item) → 1 ≤ item_weight i
+item-heavy (subs.Root kind id) = omega arith
+item-heavy (ObjArray id class elements) = omega arith
+
+-- each sub-record weighs something
+length-le-weight : (list : List Sub) → length list ≤ weight list
+length-le-weight [] = omega arith
+length-le-weight (s ∷ list) = omega (arith, length-le-weight list, item-heavy s.item, weight-cons [] sizes.Four s list)
+
+module _ (bytes : List ℕ) (size : IdSize) (spans : List Span) (r : ReadsRecords bytes size spans) where
+  -- the segments lie where they are said to
+  located : AllZip (IsBodyAt bytes) spans (filter is_segment r.records)
+  located = subst (λ (ss : List Span). AllZip (IsBodyAt bytes) ss (filter is_segment r.records)) (sym r.spans) (bodies_at bytes r.header.fits header_len r.records r.whole.whole r.whole.each)
+
+  pub spans-within : All (IsSpanWithin bytes) spans
+  spans-within = all_within bytes spans (filter is_segment r.records) located
+
+  -- a fault of the sub-records
+  split-records : (before : List Span) (span : Span) (after : List Span) (rs : List Record) (segments : List (List SubRecord)) → AllZip (IsBodyAt bytes) (before ++ span ∷ after) rs → AreBodies size bytes before segments
+      → (whole : List Record) × (here : Record) × (rest : List Record) × (rs ≡ whole ++ here ∷ rest) × AllZip (λ (w : Record) (subs : List SubRecord). AreSubRecords size w.body subs) whole segments × (length whole ≡ length before) × (body_at bytes span ≡ here.body)
+  split-records [] span after [] segments zipped bodies = absurd zipped
+  split-records [] span after (x ∷ rs) [] zipped bodies = ([], x, rs, refl, tt, refl, zipped.0.body)
+  split-records [] span after (x ∷ rs) (s ∷ segments) zipped bodies = absurd bodies
+  split-records (p ∷ before) span after [] segments zipped bodies = absurd zipped
+  split-records (p ∷ before) span after (x ∷ rs) [] zipped bodies = absurd bodies
+  split-records (p ∷ before) span after (x ∷ rs) (s ∷ segments) zipped bodies =
+      let more = split-records before span after rs segments zipped.1 bodies.1 in
+      (x ∷ more.0, more.1, more.2, ap (λ (xs : List Record). x ∷ xs) more.3, (subst (λ (body : List ℕ). AreSubRecords size body s) zipped.0.body bodies.0, more.4), ap suc more.5, more.6)
+
+  slice_get-middle : {X : Type 0} (xs : List X) (y : X) (ys : List X) → slice_get (xs ++ y ∷ ys) (length xs) ≡ Some y
+  slice_get-middle [] y ys = refl
+  slice_get-middle (x ∷ xs) y ys = slice_get-middle xs y ys
+
+  sub_records_fault : (f : ReadFault) → IsBodiesFault size bytes spans f → IsSubRecordsFault size r.records f
+  sub_records_fault f h =
+      let zipped : AllZip (IsBodyAt bytes) (h.before ++ h.span ∷ h.after) (filter is_segment r.records) = subst (λ (ss : List Span). AllZip (IsBodyAt bytes) ss (filter is_segment r.records)) h.spans_are located in
+      let parts = split-records h.before h.span h.after (filter is_segment r.records) h.segments zipped h.whole in
+      record {
+        whole = parts.0;
+        r = parts.1;
+        after = parts.2;
+        segments = h.segments;
+        span = h.span;
+        first = parts.3;
+        before = parts.4;
+        at = ap (λ (ss : List Span). slice_get ss (length parts.0)) (sym r.spans ∙ h.spans_are) ∙ ap (λ (n : ℕ). slice_get (h.before ++ h.span ∷ h.after) n) parts.5 ∙ slice_get-middle h.before h.span h.after;
+        faulty = subst (λ (body : List ℕ). IsSegmentFault size h.span.start body f) parts.6 h.faulty;
+      }
+
+  pub bodies-fault : (f : ReadFault) → IsBodiesFaultOrMemory size bytes spans f → IsReadFaultOrMemory bytes f
+  bodies-fault f (inl memory) = inl memory
+  bodies-fault f (inr h) = inr (in_sub_records size r.records r.header r.whole (sub_records_fault f h))
+
+  module _ (list : List Sub) (b : ReadsBodies size bytes spans list) where
+    dump_bodies : AreDumpSubRecords size r.records b.segments
+    dump_bodies = bodies_of_records bytes size spans (filter is_segment r.records) b.segments located b.whole
+
+    list_of_records : list ≡ dump_subs_at size (segment_spans header_len r.records) b.segments
+    list_of_records = b.list_is ∙ ap (λ (ss : List Span). dump_subs_at size ss b.segments) r.spans
+
+    pub list-within : AreWithin bytes list
+    list-within = rw b.list_is (record {
+      each = within_all bytes size spans b.segments b.whole;
+      few =
+          let total : span_total spans ≤ length bytes - header_len = subst (λ (ss : List Span). span_total ss ≤ length bytes - header_len) (sym r.spans) (total-le bytes header_len r.records r.whole.whole r.whole.each) in
+          omega (arith, weight_all bytes size spans b.segments b.whole, total, r.header.fits);
+    })
+
+    -- an object with ID 0
+    pub null-fault : (f : ReadFault) → IsNullFaultOrMemory list f → IsReadFaultOrMemory bytes f
+    null-fault f (inl memory) = inl memory
+    null-fault f (inr h) = inr (subst (IsReadFault bytes) (sym h.fault_is) (in_objects size r.records b.segments h.sub r.header r.whole dump_bodies (ap (find is_null_object) (sym list_of_records) ∙ h.first)))
+
+    module _ (ids : List ℕ) (roots : List RootRow) (n : IsNumbered list ids roots) where
+      short : length list ≤ weight list
+      short = length-le-weight list
+
+      pub few-ids : length ids < 2 ^ 31
+      few-ids = omega (arith, ap (λ (xs : List ℕ). length xs) n.ids_are, firsts-le same [] (filter_map array_id list), filter_map-le array_id list, short, list-within.few)
+
+      pub few-roots : length roots < 2 ^ 32
+      few-roots = omega (arith, ap (λ (xs : List Root). length xs) n.roots_are, length-map roots root_of_row, filter_map-le (λ (s : Sub). root_of_item s.item) list, short, list-within.few)
+
+      module _ (t : Table) (h : HasRowsOf bytes size list t) where
+        abbrev arrays : List (ℕ × List ℕ)
+        arrays = arrays_of bytes size list
+
+        ids_of_arrays : t.ids ≡ map id_of_array arrays
+        ids_of_arrays = h.ids_are ∙ ap (λ (xs : List ℕ). firsts same xs) (ids-of-arrays bytes size list) ∙ firsts-map same id_of_array (filter_map (array_of bytes size) list)
+
+        pub as-many-rows : length t.rows ≡ length t.ids
+        as-many-rows = ap (λ (xs : List (List ℕ)). length xs) h.rows_are ∙ length-map arrays row_of_array ∙ sym (length-map arrays id_of_array) ∙ ap (λ (xs : List ℕ). length xs) (sym ids_of_arrays)
+
+        objects_are : row_objects size t.ids t.rows ≡ objects_of size (all_of bytes size b.segments)
+        objects_are =
+            ap (λ (xs : List ℕ). row_objects size xs t.rows) ids_of_arrays ∙ ap (λ (xs : List (List ℕ)). row_objects size (map id_of_array arrays) xs) h.rows_are
+            ∙ row_objects-pairs size arrays
+            ∙ sym (firsts-map (λ (x : Object). x.id) (object_of_array size) (filter_map (array_of bytes size) list))
+            ∙ ap (λ (xs : List Object). firsts (λ (x : Object). x.id) xs) (ap (λ (l : List Sub). map (object_of_array size) (filter_map (array_of bytes size) l)) b.list_is ∙ objects_in bytes size spans b.segments b.whole)
+            ∙ sym (first_of_each-firsts (filter_map (object_of size) (all_of bytes size b.segments)))
+
+        roots_are : map root_of_row roots ≡ roots_of size (all_of bytes size b.segments)
+        roots_are = n.roots_are ∙ ap roots_in b.list_is ∙ roots_all bytes size spans b.segments b.whole
+
+        pub opened : IsDumpOf bytes (record { objects = row_objects size t.ids t.rows; roots = map root_of_row roots })
+        opened = record {
+          size = size;
+          records = r.records;
+          segments = b.segments;
+          reads = record {
+            header = r.header;
+            whole = r.whole;
+            bodies = dump_bodies;
+            no_null = rw (← list_of_records, n.not_found) refl;
+          };
+          is = ap (λ (xs : List Object). record { objects = xs; roots = map root_of_row roots }) objects_are ∙ ap (λ (xs : List Root). record { objects = objects_of size (all_of bytes size b.segments); roots = xs }) roots_are;
+        }
+
+pub records-fault : (bytes : List ℕ) (f : ReadFault) → IsRecordsFaultOrMemory bytes f → IsReadFaultOrMemory bytes f
+records-fault bytes f (inl memory) = inl memory
+records-fault bytes f (inr h) = inr (in_records h)

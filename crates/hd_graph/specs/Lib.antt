@@ -1,0 +1,12 @@
+pub mod Table
+pub mod Codes
+pub mod Cuts
+pub mod Parts
+pub mod Inside
+pub mod Rows
+pub mod Arrays
+pub mod GraphInside
+pub mod Firsts
+pub mod ArrayRows
+pub mod Bodies
+pub mod Building

@@ -1,0 +1,197 @@
+//! Making the graph of a dump, in passes over its sub-records.
+ghost use Rattle.std.specs.Prelude.{◌≡◌, ◌+◌, ◌*◌, ◌≤◌, ◌<◌, ◌-◌, ◌^◌, [], ◌∷◌, ◌++◌, length, map, All, IfOk, IfErr, OnOk};
+ghost use Rattle.hd_terms.specs.Records.{id_len};
+ghost use Rattle.hd_terms.specs.Objects.{IsDumpOf};
+ghost use Rattle.hd_graph.specs.Bodies.{ReadsBodies, IsSpanWithin, body_at};
+ghost use Rattle.hd_graph.specs.ArrayRows.{AreWithin, IsItemWithin, array_ids, array_row, id_count, ids_in, item_weight};
+ghost use Rattle.hd_graph.specs.Building.{IsBodiesFaultOrMemory, IsNullFaultOrMemory, IsNullAtOrMemory, IsReadFaultOrMemory, IsNumbered, NumbersOneMore, HasNoRows, HasRowsOf, FillsItem};
+ghost use Rattle.hd_subs.specs.Reading.{AppendsSegment, IsSegmentFaultOrMemory};
+ghost use Rattle.hd_subs.specs.Views.{sub_view, item_view};
+
+use crate::graph::{Graph, RootRow};
+use crate::references::References;
+use hd_records::{Segments, read_records};
+use hd_subs::{Item, Sub, Subs, read_segment_into};
+use hd_terms::{Cause, IdSize, ReadFault, Span};
+use indexmap::IndexSet;
+use std::alloc::{AllocError, Global};
+
+/// The numbers of the objects, and the roots.
+#[derive(Drop)]
+struct Numbered {
+    ids: IndexSet<u64>,
+    roots: Vec<RootRow>,
+}
+
+/// Adds the sub-records of one segment, whose body is a span of the file.
+fn read_body(list: &mut Subs, bytes: &[u8], id_size: IdSize, span: Span) -> Result<(), ReadFault>
+    requires { IsSpanWithin bytes.now span }
+    ensures ok { OnOk result (AppendsSegment id_size span.start (body_at bytes.now span) list.old list.new) }
+    ensures err { IfErr result (λ f. IsSegmentFaultOrMemory id_size span.start (body_at bytes.now span) f) }
+{
+    let start = span.start as usize;
+    let body = &bytes[start..start + span.len as usize];
+    read_segment_into(list, body, id_size, span.start)
+}
+
+/// The sub-records of the segments, in file order.
+fn read_bodies(
+    alloc: Global,
+    bytes: &[u8],
+    id_size: IdSize,
+    segments: &Segments,
+) -> Result<Subs, ReadFault>
+    requires { All (IsSpanWithin bytes.now) segments.now }
+    ensures ok { IfOk result (λ list. ReadsBodies id_size bytes.now segments.now list) }
+    ensures err { IfErr result (λ f. IsBodiesFaultOrMemory id_size bytes.now segments.now f) }
+{
+    let mut list = Subs::new(alloc);
+    for span in segments.as_slice() {
+        read_body(&mut list, bytes, id_size, *span)?;
+    }
+    Ok(list)
+}
+
+/// Numbers an array, if its ID is new, or keeps a root. An array with ID 0 is a fault.
+fn number_one(ids: &mut IndexSet<u64>, roots: &mut Vec<RootRow>, sub: Sub) -> Result<(), ReadFault>
+    ensures ok { OnOk result (NumbersOneMore (sub_view sub) ids.old.keys roots.old.items ids.new.keys roots.new.items) }
+    ensures err { IfErr result (λ f. IsNullAtOrMemory (sub_view sub) f) }
+{
+    match sub.item {
+        Item::Root(kind, id) => roots.push(RootRow { kind, id })?,
+        Item::ObjArray { id, .. } => {
+            if id == 0 {
+                return Err(ReadFault {
+                    cause: Cause::NullObject,
+                    offset: sub.offset,
+                });
+            }
+            ids.insert(id)?;
+        }
+    }
+    Ok(())
+}
+
+/// Numbers the arrays by their IDs, each ID once, and collects the roots. An array with ID 0 is a fault.
+fn number(alloc: Global, list: &Subs) -> Result<Numbered, ReadFault>
+    ensures ok { IfOk result (λ n. IsNumbered list.now n.ids.keys n.roots.items) }
+    ensures err { IfErr result (λ f. IsNullFaultOrMemory list.now f) }
+{
+    let mut ids = IndexSet::with_capacity(alloc, list.len())?;
+    let mut roots = Vec::new(alloc);
+    for i in 0..list.len() {
+        number_one(&mut ids, &mut roots, list.get(i))?;
+    }
+    Ok(Numbered { ids, roots })
+}
+
+/// Adds so many IDs that stand one after another to the row that is being filled.
+fn push_ids(
+    references: &mut References,
+    id_size: IdSize,
+    bytes: &[u8],
+    count: usize,
+) -> Result<(), AllocError>
+    requires within { id_len id_size * count ≤ length bytes.now }
+    requires room { length references.old.ids + references.old.count + count < 2 ^ 32 - 1 }
+    ensures { OnOk result (references.new ≡ record references.old {
+      filling = references.old.filling ++ ids_in (id_len id_size) count bytes.now;
+      count = references.old.count + count;
+    }) }
+{
+    let mut rest = bytes;
+    for i in 0..count {
+        references.push(id_size.read(rest))?;
+        (_, rest) = rest.split_at(id_size.bytes());
+    }
+    Ok(())
+}
+
+/// Adds the row of an object array: its elements, read from the file, and then its class.
+fn push_array(
+    references: &mut References,
+    id_size: IdSize,
+    bytes: &[u8],
+    class: u64,
+    elements: Span,
+) -> Result<(), AllocError>
+    requires within { elements.start + elements.len ≤ length bytes.now }
+    requires room { length references.old.ids + references.old.count + elements.len + 1 < 2 ^ 32 - 1 }
+    requires filled { references.old.filling ≡ [] }
+    ensures { OnOk result (references.new ≡ record references.old {
+      rows = references.old.rows ++ array_row bytes.now id_size class elements ∷ [];
+      count = references.old.count + id_count id_size elements + 1;
+    }) }
+{
+    let count = elements.len as usize / id_size.bytes();
+    push_ids(
+        references,
+        id_size,
+        &bytes[elements.start as usize..],
+        count,
+    )?;
+    references.push(class)?;
+    references.end_row()?;
+    Ok(())
+}
+
+/// Adds the row of an array, if its object comes next.
+fn fill_one(
+    references: &mut References,
+    id_size: IdSize,
+    bytes: &[u8],
+    item: Item,
+) -> Result<(), AllocError>
+    requires within { IsItemWithin (length bytes.now) (item_view item) }
+    requires room { length references.old.ids + references.old.count + item_weight (item_view item) < 2 ^ 32 - 1 }
+    requires filled { references.old.filling ≡ [] }
+    ensures { OnOk result (FillsItem bytes.now id_size (item_view item) references.old references.new) }
+{
+    if let Item::ObjArray {
+        id,
+        class,
+        elements,
+    } = item
+    {
+        if references.is_next(id) {
+            push_array(references, id_size, bytes, class, elements)?;
+        }
+    }
+    Ok(())
+}
+
+/// Adds the row of each object, in the order of their numbers.
+fn fill_rows(
+    references: &mut References,
+    id_size: IdSize,
+    bytes: &[u8],
+    list: &Subs,
+) -> Result<(), AllocError>
+    requires within { AreWithin bytes.now list.now }
+    requires ids { references.old.ids ≡ array_ids list.now }
+    requires few { length references.old.ids < 2 ^ 31 }
+    requires empty { HasNoRows references.old }
+    ensures { OnOk result (HasRowsOf bytes.now id_size list.now references.new) }
+{
+    for i in 0..list.len() {
+        fill_one(references, id_size, bytes, list.get(i).item)?;
+    }
+    Ok(())
+}
+
+/// The graph of a dump: all of the file is read, one segment after the other.
+///
+/// # Errors
+///
+/// The fault of the file, with its place as an offset in bytes; or want of memory, at 0.
+pub fn open_plain(alloc: Global, bytes: &[u8]) -> Result<Graph, ReadFault>
+    ensures ok { IfOk result (λ graph. IsDumpOf bytes.now graph) }
+    ensures err { IfErr result (λ f. IsReadFaultOrMemory bytes.now f) }
+{
+    let records = read_records(alloc, bytes)?;
+    let list = read_bodies(alloc, bytes, records.id_size, &records.segments)?;
+    let Numbered { ids, roots } = number(alloc, &list)?;
+    let mut references = References::new(alloc, ids)?;
+    fill_rows(&mut references, records.id_size, bytes, &list)?;
+    Ok(Graph::new(records.id_size, references, roots))
+}

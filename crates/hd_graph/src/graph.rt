@@ -1,0 +1,148 @@
+//! The graph as it is read: numbers of objects, their slots, the roots.
+ghost use Rattle.std.specs.Prelude.{◌≡◌, ◌<◌, ◌^◌, length, map, slice_get, Some};
+ghost use Rattle.hd_terms.specs.Edges.{index_of};
+ghost use Rattle.hd_graph.specs.Rows.{object_at};
+
+use crate::references::References;
+use hd_terms::{EdgeKind, IdSize, RootKind, Slot};
+use std::marker::Model;
+
+/// The objects, references and roots of a dump. Objects are numbered from 0 in file order.
+#[derive(Drop)]
+pub struct Graph {
+    id_size: IdSize,
+    references: References,
+    roots: Vec<RootRow>,
+}
+
+/// A root as it is kept.
+#[derive(Clone, Copy)]
+pub(crate) struct RootRow {
+    pub(crate) kind: RootKind,
+    pub(crate) id: u64,
+}
+
+/// A slot of an object.
+#[derive(Clone, Copy, Debug, PartialEq, Eq)]
+pub struct SlotRead {
+    pub slot: Slot,
+    /// What a reference in the slot goes through.
+    pub kind: EdgeKind,
+    /// The ID in the slot, 0 for null.
+    pub id: u64,
+    /// The number of the object with that ID, if there is one.
+    pub target: Option<u32>,
+}
+
+/// A root of the dump.
+#[derive(Clone, Copy, Debug, PartialEq, Eq)]
+pub struct RootRead {
+    pub kind: RootKind,
+    /// The ID of the object that the root holds.
+    pub id: u64,
+    /// The number of that object, if the dump has it.
+    pub object: Option<u32>,
+}
+
+impl Model for Graph {
+    ghost use Rattle.hd_terms.specs.Dump.{Dump};
+
+    ghost Value = { Dump };
+
+    ghost use Rattle.hd_graph.specs.GraphInside.{dump_of_graph, IsGraph};
+
+    ghost view = { dump_of_graph };
+
+    ghost invariant = { IsGraph };
+}
+
+impl Graph {
+    ghost use Rattle.hd_graph.specs.Arrays.{row_objects};
+    ghost use Rattle.hd_graph.specs.GraphInside.{root_of_row};
+
+    /// The graph of references, a row for each object, and roots.
+    pub(crate) fn new(id_size: IdSize, references: References, roots: Vec<RootRow>) -> Graph
+        requires rows { length references.rows ≡ length references.ids }
+        requires few { length references.ids < 2 ^ 31 }
+        requires few_roots { length roots.items < 2 ^ 32 }
+        ensures { result ≡ record { objects = row_objects id_size references.ids references.rows; roots = map root_of_row roots.items } }
+    {
+        Graph {
+            id_size,
+            references,
+            roots,
+        }
+    }
+
+    /// How many objects the dump has.
+    pub fn objects(&self) -> u32
+        ensures { result ≡ length self.now.objects }
+    {
+        self.references.ids().len() as u32
+    }
+
+    /// The ID of the object of a number.
+    pub fn id_of(&self, o: u32) -> u64
+        requires { o < length self.now.objects }
+        ensures { result ≡ (object_at self.now o).id }
+    {
+        self.references.ids()[o as usize]
+    }
+
+    /// The number of the object with an ID, if there is one.
+    pub fn index_of(&self, id: u64) -> Option<u32>
+        ensures { result ≡ index_of self.now.objects id }
+    {
+        self.references.index_of(id)
+    }
+
+    /// How many slots an object has.
+    pub fn slots_len(&self, o: u32) -> u32
+        requires { o < length self.now.objects }
+        ensures { result ≡ length (object_at self.now o).slots }
+    {
+        self.references.row_len(o)
+    }
+
+    /// The slot at a place of an object: elements first, then the class.
+    pub fn slots(&self, o: u32, i: u32) -> SlotRead
+        requires object { o < length self.now.objects }
+        requires place { i < length (object_at self.now o).slots }
+        ensures entry { slice_get (object_at self.now o).slots i ≡ Some (record { slot = result.slot; kind = result.kind; id = result.id }) }
+        ensures target { result.target ≡ index_of self.now.objects result.id }
+    {
+        let (id, target) = self.references.get(o, i);
+        let slot = if i == self.references.row_len(o) - 1 {
+            Slot::OfClass
+        } else {
+            Slot::Element(i)
+        };
+        SlotRead {
+            slot,
+            kind: EdgeKind::Strong,
+            id,
+            target,
+        }
+    }
+
+    /// How many roots the dump has.
+    pub fn roots_len(&self) -> u32
+        ensures { result ≡ length self.now.roots }
+    {
+        self.roots.len() as u32
+    }
+
+    /// The root of a number.
+    pub fn roots(&self, r: u32) -> RootRead
+        requires { r < length self.now.roots }
+        ensures entry { slice_get self.now.roots r ≡ Some (record { kind = result.kind; id = result.id }) }
+        ensures object { result.object ≡ index_of self.now.objects result.id }
+    {
+        let root = self.roots[r as usize];
+        RootRead {
+            kind: root.kind,
+            id: root.id,
+            object: self.references.index_of(root.id),
+        }
+    }
+}

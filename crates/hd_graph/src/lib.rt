@@ -1,0 +1,9 @@
+//! The graph of a dump: its objects by number, their slots, and its roots.
+#![tactic(auto)]
+
+mod build;
+mod graph;
+mod references;
+
+pub use build::open_plain;
+pub use graph::{Graph, RootRead, SlotRead};

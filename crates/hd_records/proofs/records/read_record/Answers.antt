@@ -1,0 +1,15 @@
+use Rattle.std.proofs.Common.{◌+◌, sym, arith}
+use Rattle.std.proofs.lemmas.List.{take_rest}
+use Rattle.hd_records.proofs.Fronts.{begins, cut_off}
+use Rattle.hd_records.proofs.records.read_record.Goals as goal
+
+pub returns-then-rest-lt-HEAD_LEN : goal.returns-then-rest-lt-HEAD_LEN
+returns-then-rest-lt-HEAD_LEN c = cut_off c.args.rest.now c.requires (omega arith)
+
+pub returns-then-rest-len : goal.returns-then-rest-len
+returns-then-rest-len c = cut_off c.args.rest.now c.requires (omega arith)
+
+pub returns : goal.returns
+returns c =
+    rw (take_rest c.args.rest.now (9 + c.number_at-body_len.result))
+    (begins c.args.rest.now c.number_at-body_len.result (sym c.number_at-body_len.ensures) c.if-rest-len.false)

@@ -1,0 +1,29 @@
+use Rattle.std.proofs.Common.{◌≡◌, ◌∙◌, ◌<◌, length, ap, sym, arith}
+use Rattle.hd_terms.specs.Ranks.{rank}
+use Rattle.hd_terms.specs.Settled.{Kept, kept_at, unreached}
+use Rattle.hd_strength.specs.Buckets.{bucket}
+use Rattle.hd_strength.specs.Growing.{rank_at}
+use Rattle.hd_strength.proofs.Lists.{read_is}
+use Rattle.hd_strength.proofs.Offering.{begins}
+use Rattle.hd_strength.proofs.Spreading.{one_offers, none_offers, all_offered}
+use Rattle.hd_strength.proofs.scratch.offer_held.Goals as goal
+use Rattle.hd_strength.proofs.scratch.offer_held.Goals.{then-rank-gt0+in_ok-offer_out, else-rank-gt0}
+
+pub loop-o-init : goal.loop-o-init
+loop-o-init c = begins c.args.graph.now c.args.kept.now (bucket c.new-buckets.result) c.requires.held c.new-buckets.ensures
+
+pub loop-o-preserved : goal.loop-o-preserved
+loop-o-preserved c =
+    let dump = c.args.graph.now in
+    let ks = c.args.kept.now in
+    let o = c.loop-o.o in
+    let lt : o < length ks = omega (arith, c.requires.count) in
+    let read : kept_at ks o ≡ c.index-kept-o.result = read_is ks o unreached c.index-kept-o.result lt c.index-kept-o.is in
+    let ranks : rank_at ks o ≡ c.rank.result = ap (λ (k : Kept). rank k.strength) read ∙ ap rank (sym c.strength.ensures) ∙ sym c.rank.ensures in
+    elim c.if-rank-gt0.branch [
+      | then-rank-gt0+in_ok-offer_out w ↦ rw w.buckets-is (one_offers dump ks c.requires.held o c.loop-o.buckets c.loop-o.invariant w.offer_out.new.buckets (omega arith) w.in_ok-offer_out.ensures.adds)
+      | else-rank-gt0 w ↦ rw w.buckets-is (none_offers dump ks c.requires.held o c.loop-o.buckets c.loop-o.invariant (omega arith))
+    ]
+
+pub returns : goal.returns
+returns c = all_offered c.args.graph.now c.args.kept.now c.requires.held c.loop-o.o c.loop-o.buckets c.loop-o.invariant (omega (arith, c.requires.count))

@@ -1,0 +1,4 @@
+pub mod Held
+pub mod Buckets
+pub mod Rows
+pub mod Growing

@@ -1,0 +1,4 @@
+pub mod Views
+pub mod Rows
+pub mod Fronts
+pub mod Reading
