@@ -1,12 +1,13 @@
 -- Lemmas on object arrays that are made of rows of IDs.
-use Rattle.std.proofs.Common.{◌≡◌, ◌≢◌, ◌∙◌, ℕ, zero, suc, ◌+◌, ◌-◌, ◌<◌, ◌≤◌, List, [], ◌∷◌, ◌++◌, length, map, get_or, Option, Some, None, refl, sym, ap, arith, cond, eqb, ltb, add-one, add-zero}
-use Rattle.std.specs.List.{zip, position, prefix_len, slice_get}
+use Rattle.std.proofs.Common.{◌≡◌, ◌∙◌, ℕ, zero, suc, ◌+◌, ◌<◌, List, [], ◌∷◌, length, get_or, Some, None, refl, ap, arith, cond, eqb, ltb}
+use Rattle.std.specs.List.{position, prefix_len, slice_get}
 use Rattle.std.specs.Prelude.{not}
 use Rattle.hd_terms.specs.declared.IdSize.{IdSize}
 use Rattle.hd_terms.specs.declared.Slot.TheVariants as slots
-use Rattle.hd_terms.specs.Dump.{SlotEntry, Object}
+use Rattle.hd_terms.specs.Dump.{Object}
 use Rattle.hd_terms.specs.Slots.{strong_slot}
 use Rattle.hd_terms.specs.Edges.{index_of}
+use Rattle.hd_graph.specs.Cuts.{last_from}
 use Rattle.hd_graph.specs.Rows.{no_object}
 use Rattle.hd_graph.specs.Arrays.{row_slots, row_object, row_objects}
 
@@ -61,3 +62,16 @@ row_slots-element i (id ∷ next ∷ rest) (suc k) before =
 pub slots-at : (size : IdSize) (ids : List ℕ) (rows : List (List ℕ)) → length rows ≡ length ids → (o : ℕ) → o < length (row_objects size ids rows)
     → (get_or (row_objects size ids rows) o no_object).slots ≡ row_slots 0 (get_or rows o [])
 slots-at size ids rows same o lt = ap (λ (x : Object). x.slots) (row_objects-at size ids rows same o (omega (arith, length-row_objects size ids rows same)))
+
+-- the last of a row stands at its last place
+pub last-at : (d : ℕ) (row : List ℕ) (k : ℕ) → suc k ≡ length row → last_from d row ≡ get_or row k 0
+last-at d [] k last = absurd (omega arith)
+last-at d (id ∷ []) zero last = refl
+last-at d (id ∷ []) (suc k) last = absurd (omega arith)
+last-at d (id ∷ next ∷ rest) zero last = absurd (omega arith)
+last-at d (id ∷ next ∷ rest) (suc k) last = last-at id (next ∷ rest) k (omega arith)
+
+-- the last of no row is what stands for it
+pub last-none : (row : List ℕ) → length row ≡ 0 → last_from 0 row ≡ 0
+last-none [] none = refl
+last-none (id ∷ rest) none = absurd (omega arith)

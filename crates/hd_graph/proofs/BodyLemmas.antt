@@ -1,14 +1,12 @@
 -- Reading the bodies of segments, one after another.
-use Rattle.std.proofs.Common.{◌≡◌, ◌∙◌, ℕ, ◌+◌, ◌<◌, ◌⊎◌, inl, inr, List, [], ◌∷◌, ◌++◌, length, take, drop, get_or, refl, sym, ap, subst, arith, append_assoc}
-use Rattle.std.specs.List.{AllZip, zip, flat_map}
+use Rattle.std.proofs.Common.{◌≡◌, ◌∙◌, ℕ, ◌+◌, ◌<◌, inl, inr, List, [], ◌∷◌, ◌++◌, length, take, drop, get_or, sym, ap, append_assoc}
 use Rattle.std.proofs.lemmas.List.{append-nil, take_more, take-append-drop}
-use Rattle.std.proofs.Math.Seq.{drop-cons}
 use Rattle.hd_terms.specs.declared.IdSize.{IdSize}
 use Rattle.hd_terms.specs.declared.Span.{Span}
 use Rattle.hd_terms.specs.declared.errors.ReadFault.{ReadFault}
 use Rattle.hd_terms.specs.SubRecords.{SubRecord, AreSubRecords, Sub, subs_at, dump_subs_at}
 use Rattle.hd_subs.specs.Reading.{AppendsSegment, IsSegmentFaultOrMemory}
-use Rattle.hd_graph.specs.Bodies.{AreBodies, ReadsBodies, IsBodiesFault, body_at}
+use Rattle.hd_graph.specs.Bodies.{AreBodies, ReadsBodies, body_at}
 use Rattle.hd_graph.specs.Building.{IsBodiesFaultOrMemory}
 
 module _ (size : IdSize) (bytes : List ℕ) where

@@ -1,13 +1,13 @@
 -- Lemmas on numbers in the place of IDs.
-use Rattle.std.proofs.Common.{◌≡◌, ◌≢◌, ◌∙◌, ℕ, zero, suc, ◌+◌, ◌-◌, ◌<◌, ◌≤◌, ◌^◌, ◌⊎◌, inl, inr, List, [], ◌∷◌, ◌++◌, length, map, get_or, Option, Some, None, refl, sym, ap, subst, arith, All, cond, Bool, true, false, ltb, eqb, eq-eqb, eqb-true, ne_eqb, append-nil, length-append}
-use Rattle.std.specs.List.{position, position_or_len, prefix_len, AllByRecursion}
-use Rattle.std.specs.Prelude.{not, slice_index}
-use Rattle.std.proofs.lemmas.Bool.{cases_eq, cases_lt, ltb-true, ltb-false, lt-ltb, le-ltb}
+use Rattle.std.proofs.Common.{◌≡◌, ◌≢◌, ◌∙◌, ℕ, zero, suc, ◌+◌, ◌-◌, ◌<◌, ◌≤◌, ◌^◌, inl, inr, List, [], ◌∷◌, ◌++◌, length, map, get_or, Some, None, refl, sym, ap, arith, All, eqb, eqb-true, ne_eqb, length-append}
+use Rattle.std.specs.List.{position, prefix_len}
+use Rattle.std.specs.Prelude.{not}
+use Rattle.std.proofs.lemmas.Bool.{cases_eq, cases_lt, lt-ltb, le-ltb}
 use Rattle.std.proofs.lemmas.List.{get_or_append_left, get_or-append_right}
 use Rattle.std.proofs.lemmas.List.Elements.{All-head, All-tail, All-weaker}
 use Rattle.std.proofs.lemmas.List.Quantifiers.{position-Some}
 use Rattle.hd_graph.specs.Table.{null_code}
-use Rattle.hd_graph.specs.Codes.{id_of_code, target_of_code, IsCode, IsLonger}
+use Rattle.hd_graph.specs.Codes.{id_of_code, IsCode}
 
 -- no object has the ID 0
 all_pass : (ids : List ℕ) → All (λ id. 0 < id) ids → prefix_len (λ x. not (eqb 0 x)) ids ≡ length ids

@@ -1,29 +1,23 @@
 -- The dump of the sub-records of a file, from the list of them.
-use Rattle.std.proofs.Common.{◌≡◌, ◌∙◌, ℕ, zero, suc, ◌+◌, ◌-◌, ◌<◌, ◌≤◌, ◌^◌, ◌⊎◌, inl, inr, List, [], ◌∷◌, ◌++◌, length, map, take, drop, Option, Some, None, Bool, true, false, cond, eqb, refl, sym, ap, subst, arith, append_assoc, length-append, All}
-use Rattle.std.specs.List.{AllZip, AllByRecursion, zip, flat_map, filter, filter_map, cons_option, sum_by, find, list_any}
-use Rattle.std.proofs.lemmas.List.{append-nil, map-append, length-map, length-drop, drop-drop, take-append-drop, length-take}
-use Rattle.std.proofs.lemmas.List.Elements.{filter_map-append, All-nil, All-cons, All-append, All-head, All-tail}
+use Rattle.std.proofs.Common.{◌≡◌, ◌∙◌, ℕ, suc, ◌+◌, ◌≤◌, List, [], ◌∷◌, ◌++◌, length, map, drop, Option, Some, None, Bool, true, false, cond, refl, sym, ap, arith, append_assoc, length-append, All}
+use Rattle.std.specs.List.{AllByRecursion, flat_map, filter_map, cons_option}
+use Rattle.std.proofs.lemmas.List.{map-append, drop-drop, take-append-drop, length-take}
+use Rattle.std.proofs.lemmas.List.Elements.{filter_map-append, All-nil, All-cons, All-append}
 use Rattle.std.proofs.lemmas.List.Sums.{sum_by-append}
 use Rattle.std.proofs.Math.Seq.{drop-append_seam}
 use Rattle.hd_terms.specs.declared.IdSize.{IdSize}
 use Rattle.hd_terms.specs.declared.Span.{Span}
-use Rattle.hd_terms.specs.declared.errors.ReadFault.{ReadFault}
-use Rattle.hd_terms.specs.Records.{Record, HasHeader, AreRecords, header_len, segment_spans, is_segment, largest_file}
-use Rattle.hd_terms.specs.SubRecords.{SubRecord, RootUnknown, ObjectArray, IsSubRecord, AreSubRecords, AreDumpSubRecords, sub_record_text, Sub, subs_at, dump_subs_at, item_at}
-use Rattle.hd_terms.specs.Dump.{Object, Root, Dump}
-use Rattle.hd_terms.specs.Objects.{object_of, objects_of, first_of_each, dump_of, IsDumpOf, ReadsAs, is_null_object}
+use Rattle.hd_terms.specs.SubRecords.{SubRecord, RootUnknown, ObjectArray, IsSubRecord, AreSubRecords, sub_record_text, Sub, subs_at, dump_subs_at, item_at}
+use Rattle.hd_terms.specs.Dump.{Object, Root}
+use Rattle.hd_terms.specs.Objects.{object_of}
 use Rattle.hd_terms.specs.Roots.{root_of, roots_of}
-use Rattle.hd_graph.specs.declared.graph.RootRow.{RootRow}
-use Rattle.hd_graph.specs.GraphInside.{root_of_row}
-use Rattle.hd_graph.specs.Table.{Table}
-use Rattle.hd_graph.specs.Firsts.{firsts, firsts_from}
+use Rattle.hd_graph.specs.Firsts.{firsts_from}
 use Rattle.hd_graph.specs.Arrays.{row_object, row_objects}
-use Rattle.hd_graph.specs.ArrayRows.{array_id, array_ids, array_of, arrays_of, item_weight, weight, IsItemWithin, AreWithin, roots_in}
-use Rattle.hd_graph.specs.Bodies.{AreBodies, body_at, IsSpanWithin}
-use Rattle.hd_graph.specs.Building.{IsNumbered, HasRowsOf}
-use Rattle.hd_graph.proofs.FirstLemmas.{firsts-map, first_of_each-firsts, is_known}
-use Rattle.hd_graph.proofs.RowLemmas.{id_of_array, row_of_array, ids-of-arrays}
-use Rattle.hd_graph.proofs.SpanLemmas.{IsBodyAt, span_total, bodies_at, total-le, all_within, bodies_of_records}
+use Rattle.hd_graph.specs.ArrayRows.{array_of, item_weight, weight, IsItemWithin, roots_in}
+use Rattle.hd_graph.specs.Bodies.{AreBodies, body_at}
+use Rattle.hd_graph.proofs.FirstLemmas.{is_known}
+use Rattle.hd_graph.proofs.RowLemmas.{id_of_array, row_of_array}
+use Rattle.hd_graph.proofs.SpanLemmas.{span_total}
 use Rattle.hd_graph.proofs.LocatedLemmas.{object_of_array, array-object, array-within, array-weight}
 
 module _ (bytes : List ℕ) (size : IdSize) where

@@ -1,9 +1,8 @@
 -- Lemmas on the first of each key.
-use Rattle.std.proofs.Common.{◌≡◌, ◌≢◌, ◌∙◌, ℕ, zero, suc, ◌+◌, ◌-◌, ◌<◌, ◌≤◌, ◌⊎◌, inl, inr, List, [], ◌∷◌, ◌++◌, length, map, take, drop, get_or, Option, Some, None, Bool, true, false, ◌||◌, cond, eqb, eq-eqb, eqb-true, refl, sym, ap, subst, arith, append_assoc, true≢false, length-append}
+use Rattle.std.proofs.Common.{◌≡◌, ◌∙◌, ℕ, ◌+◌, List, [], ◌∷◌, ◌++◌, length, map, Some, None, Bool, true, false, ◌||◌, cond, eqb, refl, sym, ap, append_assoc, length-append}
 use Rattle.std.specs.List.{list_any, filter_map, cons_option, enumerate_from}
 use Rattle.std.proofs.lemmas.List.{append-nil, map-append}
 use Rattle.std.proofs.Math.Seq.{take-append_seam}
-use Rattle.std.proofs.lemmas.List.Folds.{list_any-append}
 use Rattle.hd_terms.specs.Dump.{Object}
 use Rattle.hd_terms.specs.Objects.{standing_object, first_of_each}
 use Rattle.hd_graph.specs.Firsts.{firsts_from, firsts}

@@ -1,11 +1,8 @@
 -- What the list of sub-records says of the sub-records of the definition, by their places in the file.
-use Rattle.std.proofs.Common.{◌≡◌, ◌∙◌, ℕ, zero, suc, ◌+◌, ◌-◌, ◌*◌, ◌/◌, ◌<◌, ◌≤◌, List, [], ◌∷◌, ◌++◌, length, map, take, drop, Option, Some, None, refl, sym, ap, subst, arith, append_assoc, length-append, All}
-use Rattle.std.specs.List.{AllZip, AllByRecursion, zip, flat_map, concat, filter_map, cons_option, sum_by}
-use Rattle.std.specs.Option.{option_map}
-use Rattle.std.proofs.lemmas.List.{append-nil, map-append, length-map, length-drop, drop-drop, take-append-drop, length-take}
-use Rattle.std.proofs.lemmas.List.Elements.{filter_map-append, All-nil, All-cons, All-append}
-use Rattle.std.proofs.lemmas.List.Sums.{sum_by-append}
-use Rattle.std.proofs.Math.Seq.{take-append_seam, drop-append_seam}
+use Rattle.std.proofs.Common.{◌≡◌, ◌∙◌, ℕ, ◌+◌, ◌-◌, ◌*◌, ◌/◌, ◌≤◌, List, [], ◌∷◌, ◌++◌, length, map, drop, Some, None, refl, sym, ap, arith, append_assoc, length-append}
+use Rattle.std.specs.List.{AllByRecursion, concat}
+use Rattle.std.proofs.lemmas.List.{length-map, length-drop, drop-drop}
+use Rattle.std.proofs.Math.Seq.{drop-append_seam}
 use Rattle.byteorder.specs.Endian.{big_number}
 use Rattle.byteorder.specs.Numbers.{big_from-append}
 use Rattle.hd_terms.specs.declared.IdSize.{IdSize}
@@ -15,17 +12,13 @@ use Rattle.hd_terms.specs.declared.Slot.TheVariants as slots
 use Rattle.hd_terms.specs.declared.Group.{Group}
 use Rattle.hd_terms.specs.declared.Group.TheVariants as groups
 use Rattle.hd_terms.specs.Records.{id_len}
-use Rattle.hd_terms.specs.SubRecords.{SubRecord, RootUnknown, ObjectArray, IsSubRecord, AreElements, AreSubRecords, sub_record_text, Sub, subs_at, dump_subs_at, item_at}
-use Rattle.hd_terms.specs.Dump.{Object, Root, SlotEntry}
-use Rattle.hd_terms.specs.Slots.{strong_slot, element_slots, array_slots}
+use Rattle.hd_terms.specs.SubRecords.{ObjectArray, IsSubRecord, sub_record_text}
+use Rattle.hd_terms.specs.Dump.{Object, SlotEntry}
+use Rattle.hd_terms.specs.Slots.{strong_slot, element_slots}
 use Rattle.hd_terms.specs.Objects.{object_of}
-use Rattle.hd_terms.specs.Roots.{root_of}
-use Rattle.hd_graph.specs.Cuts.{last_from}
 use Rattle.hd_graph.specs.Arrays.{row_object, row_slots}
-use Rattle.hd_graph.specs.ArrayRows.{array_of, array_row, ids_in, id_count, item_weight, weight, IsItemWithin, roots_in}
-use Rattle.hd_graph.specs.Bodies.{AreBodies, body_at, IsSpanWithin}
+use Rattle.hd_graph.specs.ArrayRows.{array_row, ids_in, id_count}
 use Rattle.hd_graph.proofs.CutLemmas.{last_from-push}
-use Rattle.hd_graph.proofs.SpanLemmas.{span_total}
 
 -- the array of an ID and a row
 abbrev pub object_of_array : IdSize → ℕ × List ℕ → Object

@@ -1,5 +1,5 @@
 -- Numbering arrays, one sub-record after another.
-use Rattle.std.proofs.Common.{◌≡◌, ◌≢◌, ◌∙◌, ℕ, zero, suc, ◌+◌, ◌<◌, ◌≤◌, ◌⊎◌, inl, inr, List, [], ◌∷◌, ◌++◌, length, map, take, drop, get_or, Option, Some, None, Bool, true, false, ◌||◌, cond, eqb, eq-eqb, eqb-true, ne_eqb, refl, sym, ap, subst, arith, All, IsNone}
+use Rattle.std.proofs.Common.{◌≡◌, ◌∙◌, ℕ, ◌+◌, ◌<◌, List, [], ◌∷◌, ◌++◌, take, drop, Option, Some, None, Bool, true, false, ◌||◌, cond, eqb, eqb-true, refl, sym, ap, All}
 use Rattle.std.specs.List.{list_any, filter_map, cons_option, find, slice_get}
 use Rattle.std.specs.Option.{option_or}
 use Rattle.std.proofs.lemmas.List.{append-nil, map-append, take_more, take-append-drop}
@@ -8,11 +8,10 @@ use Rattle.std.proofs.lemmas.List.Folds.{list_any-append, find-append}
 use Rattle.std.proofs.lemmas.Option.{get_or_from_slice_get, slice_get_within}
 use Rattle.hd_terms.specs.SubRecords.{Sub, Item, ObjArray}
 use Rattle.hd_terms.specs.SubRecords as subs
-use Rattle.hd_terms.specs.declared.RootKind.{RootKind}
-use Rattle.hd_terms.specs.Objects.{is_null_object, is_null_item}
+use Rattle.hd_terms.specs.Objects.{is_null_object}
 use Rattle.hd_graph.specs.declared.graph.RootRow.{RootRow}
 use Rattle.hd_graph.specs.GraphInside.{root_of_row}
-use Rattle.hd_graph.specs.ArrayRows.{array_id, array_ids, roots_in}
+use Rattle.hd_graph.specs.ArrayRows.{array_id, roots_in}
 use Rattle.hd_graph.specs.Firsts.{firsts}
 use Rattle.hd_graph.specs.Building.{IsNumbered}
 use Rattle.hd_graph.proofs.FirstLemmas.{firsts-push, is_known, if_new}

@@ -1,17 +1,17 @@
 -- What opening a file comes to: its dump, or its fault.
-use Rattle.std.proofs.Common.{◌≡◌, ◌∙◌, ℕ, zero, suc, ◌+◌, ◌-◌, ◌<◌, ◌≤◌, ◌^◌, ◌⊎◌, inl, inr, List, [], ◌∷◌, ◌++◌, length, map, take, drop, Option, Some, None, Bool, true, false, refl, sym, ap, subst, arith, All}
-use Rattle.std.specs.List.{AllZip, zip, flat_map, filter, filter_map, find, slice_get}
+use Rattle.std.proofs.Common.{◌≡◌, ◌∙◌, ℕ, suc, ◌-◌, ◌<◌, ◌≤◌, ◌^◌, inl, inr, List, [], ◌∷◌, ◌++◌, length, map, Some, refl, sym, ap, subst, arith, All}
+use Rattle.std.specs.List.{AllZip, filter, filter_map, find, slice_get}
 use Rattle.std.proofs.lemmas.List.{length-map}
 use Rattle.hd_terms.specs.declared.IdSize.{IdSize}
 use Rattle.hd_terms.specs.declared.Span.{Span}
 use Rattle.hd_terms.specs.declared.errors.ReadFault.{ReadFault}
-use Rattle.hd_terms.specs.Records.{Record, HasHeader, AreRecords, header_len, segment_spans, is_segment}
+use Rattle.hd_terms.specs.Records.{Record, header_len, segment_spans, is_segment}
 use Rattle.hd_terms.specs.SubRecords.{SubRecord, Sub, Item, ObjArray, AreSubRecords, AreDumpSubRecords, dump_subs_at}
 use Rattle.hd_terms.specs.SubRecords as subs
 use Rattle.hd_terms.specs.declared.IdSize.TheVariants as sizes
 use Rattle.hd_terms.specs.Roots.{roots_of}
-use Rattle.hd_terms.specs.Dump.{Object, Root, Dump}
-use Rattle.hd_terms.specs.Objects.{object_of, objects_of, dump_of, IsDumpOf, is_null_object}
+use Rattle.hd_terms.specs.Dump.{Object, Root}
+use Rattle.hd_terms.specs.Objects.{object_of, objects_of, IsDumpOf, is_null_object}
 use Rattle.hd_terms.specs.ReadFaults.{IsReadFault, in_records, in_sub_records, in_objects, IsSubRecordsFault, IsSegmentFault}
 use Rattle.hd_records.specs.Reading.{ReadsRecords, IsRecordsFaultOrMemory}
 use Rattle.hd_graph.specs.declared.graph.RootRow.{RootRow}
@@ -19,7 +19,7 @@ use Rattle.hd_graph.specs.GraphInside.{root_of_row}
 use Rattle.hd_graph.specs.Table.{Table}
 use Rattle.hd_graph.specs.Firsts.{firsts}
 use Rattle.hd_graph.specs.Arrays.{row_objects}
-use Rattle.hd_graph.specs.ArrayRows.{array_id, array_ids, array_of, arrays_of, weight, item_weight, AreWithin, root_of_item, roots_in}
+use Rattle.hd_graph.specs.ArrayRows.{array_id, array_of, arrays_of, weight, item_weight, AreWithin, root_of_item, roots_in}
 use Rattle.hd_graph.specs.Bodies.{AreBodies, ReadsBodies, IsBodiesFault, body_at, IsSpanWithin}
 use Rattle.hd_graph.specs.Building.{IsNumbered, HasRowsOf, IsBodiesFaultOrMemory, IsNullFaultOrMemory, IsReadFaultOrMemory}
 use Rattle.hd_graph.proofs.FirstLemmas.{firsts-map, first_of_each-firsts}

@@ -1,7 +1,6 @@
 -- Filling the rows of arrays, one sub-record after another.
-use Rattle.std.proofs.Common.{◌≡◌, ◌≢◌, ◌∙◌, ℕ, zero, suc, ◌+◌, ◌-◌, ◌*◌, ◌/◌, ◌<◌, ◌≤◌, ◌⊎◌, inl, inr, List, [], ◌∷◌, ◌++◌, length, map, take, drop, get_or, Option, Some, None, Bool, true, false, ◌||◌, cond, eqb, eq-eqb, eqb-true, refl, sym, ap, subst, arith, append_assoc, true≢false, length-append, All}
+use Rattle.std.proofs.Common.{◌≡◌, ◌∙◌, ℕ, suc, ◌+◌, ◌-◌, ◌*◌, ◌<◌, ◌≤◌, List, [], ◌∷◌, ◌++◌, length, map, take, drop, Some, Bool, true, false, ◌||◌, cond, eqb, eq-eqb, refl, sym, ap, subst, arith, append_assoc, true≢false}
 use Rattle.std.specs.List.{list_any, filter_map, cons_option, slice_get}
-use Rattle.std.specs.Option.{option_map}
 use Rattle.std.proofs.lemmas.List.{append-nil, map-append, length-map, take-append-drop}
 use Rattle.std.proofs.lemmas.List.Elements.{filter_map-append}
 use Rattle.std.proofs.lemmas.List.Folds.{list_any-append}
@@ -17,7 +16,7 @@ use Rattle.hd_graph.specs.ArrayRows.{array_id, array_id_of_item, array_ids, arra
 use Rattle.byteorder.specs.Endian.{big_number}
 use Rattle.hd_terms.specs.Records.{id_len}
 use Rattle.hd_graph.proofs.NumberLemmas.{take-next}
-use Rattle.hd_graph.specs.Building.{FillsItem, HasRowsOf, HasNoRows}
+use Rattle.hd_graph.specs.Building.{FillsItem}
 use Rattle.hd_graph.proofs.FirstLemmas.{firsts-push, firsts_from-append, firsts-map, is_known, if_new, known-map}
 
 abbrev same : ℕ → ℕ

@@ -1,5 +1,5 @@
 -- Where the bodies of segments lie in a file.
-use Rattle.std.proofs.Common.{◌≡◌, ◌∙◌, ℕ, zero, suc, ◌+◌, ◌-◌, ◌<◌, ◌≤◌, List, [], ◌∷◌, ◌++◌, length, map, take, drop, Bool, true, false, cond, refl, sym, ap, subst, arith, append_assoc, length-append, All}
+use Rattle.std.proofs.Common.{◌≡◌, ◌∙◌, ℕ, ◌+◌, ◌-◌, ◌≤◌, List, [], ◌∷◌, ◌++◌, length, take, drop, Bool, true, false, cond, sym, ap, subst, arith, append_assoc, length-append, All}
 use Rattle.std.specs.List.{AllZip, AllByRecursion, flat_map, filter, sum_by}
 use Rattle.std.proofs.lemmas.List.{length-drop, drop-drop}
 use Rattle.std.proofs.lemmas.List.Elements.{All-nil, All-cons}
@@ -8,7 +8,7 @@ use Rattle.std.proofs.Math.Seq.{take-append_seam, drop-append_seam}
 use Rattle.hd_terms.specs.declared.IdSize.{IdSize}
 use Rattle.hd_terms.specs.declared.Span.{Span}
 use Rattle.hd_terms.specs.Records.{Record, IsRecord, record_text, is_segment, segment_spans, largest_file}
-use Rattle.hd_terms.specs.SubRecords.{SubRecord, AreSubRecords, AreDumpSubRecords}
+use Rattle.hd_terms.specs.SubRecords.{SubRecord, AreSubRecords}
 use Rattle.hd_graph.specs.Bodies.{IsSpanWithin, AreBodies, body_at}
 
 -- a record's body has this span

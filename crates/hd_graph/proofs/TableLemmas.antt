@@ -1,5 +1,5 @@
 -- Lemmas on rows of IDs: one more ID, one more row, what a row holds.
-use Rattle.std.proofs.Common.{◌≡◌, ◌≢◌, ◌∙◌, ℕ, zero, suc, ◌+◌, ◌-◌, ◌<◌, ◌≤◌, ◌^◌, List, [], ◌∷◌, ◌++◌, length, map, take, drop, get_or, refl, sym, ap, subst, arith, All, length-append}
+use Rattle.std.proofs.Common.{◌≡◌, ◌∙◌, ℕ, suc, ◌+◌, ◌-◌, ◌<◌, ◌≤◌, ◌^◌, List, [], ◌∷◌, ◌++◌, length, map, take, drop, get_or, sym, ap, subst, arith, All, length-append}
 use Rattle.std.proofs.lemmas.List.{map-append, length-map, drop-append-le, take_all, length-take, length-drop, get_or-take, get_or-drop, get_or-map, drop_all}
 use Rattle.std.proofs.lemmas.List.Elements.{All-push, All-weaker}
 use Rattle.hd_graph.specs.Table.{Table, row_at}

@@ -1,6 +1,6 @@
 -- The rows of object arrays, read from the file by their sub-records' spans.
 -- Source: HPROF binary format, OBJECT ARRAY DUMP.
-use Rattle.std.specs.Prelude.{◌≡◌, ℕ, zero, suc, ◌+◌, ◌*◌, ◌/◌, ◌≤◌, ◌==◌, List, [], ◌∷◌, ◌++◌, length, map, drop, sum_by, All, Option, Some, None}
+use Rattle.std.specs.Prelude.{ℕ, zero, suc, ◌+◌, ◌/◌, ◌≤◌, List, [], ◌∷◌, ◌++◌, length, drop, sum_by, All, Option, Some, None}
 use Rattle.std.specs.List.{filter_map}
 use Rattle.byteorder.specs.Endian.{big_number}
 use Rattle.hd_terms.specs.declared.IdSize.{IdSize}

@@ -4,7 +4,7 @@ ghost use Rattle.hd_terms.specs.Edges.{index_of};
 ghost use Rattle.hd_graph.specs.Rows.{object_at};
 
 use crate::references::References;
-use hd_terms::{EdgeKind, IdSize, RootKind, Slot};
+use hd_terms::{EdgeKind, Group, IdSize, RootKind, Slot};
 use std::marker::Model;
 
 /// The objects, references and roots of a dump. Objects are numbered from 0 in file order.
@@ -94,6 +94,23 @@ impl Graph {
         ensures { result ≡ index_of self.now.objects id }
     {
         self.references.index_of(id)
+    }
+
+    /// What an object is counted under: an object array under its array class.
+    pub fn group_of(&self, o: u32) -> Group
+        requires { o < length self.now.objects }
+        ensures { result ≡ (object_at self.now o).group }
+    {
+        Group::Class(self.references.last(o))
+    }
+
+    /// The recorded bytes of an object: of an object array its count times the size of an ID.
+    pub fn bytes_of(&self, o: u32) -> u64
+        requires { o < length self.now.objects }
+        ensures { result ≡ (object_at self.now o).bytes }
+    {
+        let elements = self.references.row_len(o).saturating_sub(1);
+        u64::from(elements) * self.id_size.bytes() as u64
     }
 
     /// How many slots an object has.

@@ -1,5 +1,6 @@
 //! The references of all objects in four bytes each, row by row.
 ghost use Rattle.std.specs.Prelude.{◌≡◌, ◌+◌, ◌<◌, ◌-◌, ◌^◌, ◌==◌, [], ◌∷◌, ◌++◌, length, position, slice_index, All, IfOk, OnOk, OnErr, IsTrue, ◌↔◌, Some, slice_get};
+ghost use Rattle.hd_graph.specs.Cuts.{last_from};
 ghost use Rattle.hd_graph.specs.Table.{row_at};
 ghost use Rattle.hd_graph.specs.Codes.{IsCode, IsLonger, id_of_code, target_of_code};
 
@@ -151,5 +152,16 @@ impl References {
         let start = self.starts.as_slice()[o as usize] as usize;
         let code = self.items.as_slice()[start + i as usize];
         read_code(self.ids.as_slice(), self.absent.as_slice(), code)
+    }
+
+    /// The last ID of an object's row, 0 where it has none.
+    pub(crate) fn last(&self, o: u32) -> u64
+        requires { o < length self.now.rows }
+        ensures { result ≡ last_from 0 (row_at self.now o) }
+    {
+        match self.row_len(o) {
+            0 => 0,
+            len => self.get(o, len - 1).0,
+        }
     }
 }

@@ -1,10 +1,9 @@
-use Rattle.std.proofs.Common.{◌≡◌, ◌≢◌, ◌∙◌, ℕ, zero, suc, ◌+◌, ◌≤◌, ◌<◌, ◌⊎◌, inl, inr, List, [], ◌∷◌, ◌++◌, map, length, Contains, subst, sym, ap, refl, arith}
+use Rattle.std.proofs.Common.{◌≡◌, ◌≢◌, ◌∙◌, ℕ, zero, suc, ◌+◌, ◌≤◌, ◌<◌, ◌⊎◌, inl, inr, List, [], ◌∷◌, ◌++◌, map, Contains, subst, sym, ap, refl, arith}
 use Rattle.std.specs.List.{AllByRecursion}
 use Rattle.std.proofs.lemmas.List.Elements.{Contains-push_cases}
 use Rattle.std.proofs.lemmas.List.{map-append}
 use Rattle.hd_terms.specs.declared.Strength.{Strength}
 use Rattle.hd_terms.specs.declared.Strength.TheVariants as strengths
-use Rattle.hd_terms.specs.declared.EdgeKind.TheVariants as kinds
 use Rattle.hd_terms.specs.declared.Slot.{Slot}
 use Rattle.hd_terms.specs.declared.Support.{Support}
 use Rattle.hd_terms.specs.declared.Support.TheVariants as supports
@@ -12,7 +11,7 @@ use Rattle.hd_terms.specs.Ranks.{rank, given_by, weaker_of, IsPassedOn}
 use Rattle.hd_terms.specs.Paths.{Edge, RootEntry, Standing, Lead, PassOn, path_strength, IsPath, objects_on}
 use Rattle.hd_terms.specs.Chains.{NoneTwice, IsChain}
 use Rattle.hd_terms.specs.Settled.{Kept, Settled, IsStoredChain, kept_at, PassesOn, IsBefore, SupportedBy, IsSupported}
-use Rattle.hd_terms.proofs.RankLemmas.{weaker-le_left, weaker-le_right, weaker-greatest, rank-le, same_rank, given-positive, reached_rank, weaker_comm, weaker_assoc}
+use Rattle.hd_terms.proofs.RankLemmas.{weaker-le_left, weaker-le_right, rank-le, reached_rank, weaker_comm, weaker_assoc}
 
 -- one more edge at the end
 

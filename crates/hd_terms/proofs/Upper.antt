@@ -1,7 +1,7 @@
-use Rattle.std.proofs.Common.{◌≡◌, ◌≢◌, ℕ, ◌≤◌, List, [], ◌∷◌, Contains, subst, arith}
+use Rattle.std.proofs.Common.{◌≡◌, ℕ, ◌≤◌, List, [], ◌∷◌, Contains, subst, arith}
 use Rattle.hd_terms.specs.Ranks.{rank, given_by, weaker_of, least_passed_on}
 use Rattle.hd_terms.specs.Paths.{Edge, RootEntry, Standing, Lead, PassOn, path_strength, IsPath}
-use Rattle.hd_terms.specs.Settled.{Kept, Settled, kept_at, PassesOn}
+use Rattle.hd_terms.specs.Settled.{Kept, Settled, kept_at}
 use Rattle.hd_terms.proofs.RankLemmas.{weaker-le_left, weaker-le_right, weaker-greatest, rank-le}
 
 module _ (g : Standing) (ks : List Kept) (settled : Settled g ks) where

@@ -1,6 +1,6 @@
 -- The edited dump: which edges and roots stand under a log.
 -- Source: this project. Edits are what-if: they are never written to the dump, and one that names nothing has no effect.
-use Rattle.std.specs.Prelude.{◌≡◌, ℕ, ◌+◌, ◌==◌, Bool, true, false, ◌&&◌, not, if◌then◌else◌, List, ◌++◌, length, Option, Some, None, slice_get}
+use Rattle.std.specs.Prelude.{ℕ, ◌+◌, ◌==◌, Bool, false, ◌&&◌, not, if◌then◌else◌, List, ◌++◌, length, Option, Some, None, slice_get}
 use Rattle.std.specs.Option.{option_map}
 use Rattle.std.specs.List.{filter, filter_map, list_any, enumerate_from}
 use Rattle.hd_terms.specs.declared.Slot.{Slot}

@@ -17,3 +17,4 @@ pub mod EditedDump
 pub mod Lines
 pub mod Replies
 pub mod Sessions
+pub mod Examples

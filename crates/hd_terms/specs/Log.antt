@@ -1,6 +1,6 @@
 -- The log of events: which logs are lawful, which events are live.
 -- Source: this project. The log is one list that all analysts share; an undo names an earlier event of the same analyst.
-use Rattle.std.specs.Prelude.{◌≡◌, ℕ, ◌≤◌, ◌<◌, ◌==◌, Bool, true, false, not, if◌then◌else◌, List, length, Option, Some, None, slice_get}
+use Rattle.std.specs.Prelude.{◌≡◌, ℕ, ◌≤◌, ◌<◌, ◌==◌, Bool, false, not, if◌then◌else◌, List, length, Option, Some, None, slice_get}
 use Rattle.std.specs.List.{list_any, filter_map, enumerate_from}
 use Rattle.hd_terms.specs.declared.Edit.{Edit}
 use Rattle.hd_terms.specs.declared.Event.{Event}

@@ -1,6 +1,6 @@
 -- The objects of a dump and their numbers, and the dump of a file.
 -- Source: HPROF binary format, OBJECT ARRAY DUMP. Where an ID has several records the first stands: this project's choice.
-use Rattle.std.specs.Prelude.{◌≡◌, ℕ, ◌==◌, Bool, true, false, if◌then◌else◌, List, [], ◌∷◌, take, Option, Some, None, IsNone}
+use Rattle.std.specs.Prelude.{◌≡◌, ℕ, ◌==◌, Bool, false, if◌then◌else◌, List, take, Option, Some, None, IsNone}
 use Rattle.std.specs.List.{flat_map, filter_map, find, list_any, enumerate_from}
 use Rattle.byteorder.specs.Endian.{big_number}
 use Rattle.hd_terms.specs.declared.IdSize.{IdSize}

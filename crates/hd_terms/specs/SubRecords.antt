@@ -1,7 +1,7 @@
 -- Sub-records of a segment, one after another.
 -- Source: HPROF binary format, HEAP DUMP and HEAP DUMP SEGMENT. So far ROOT UNKNOWN (0xFF) and OBJECT ARRAY DUMP (0x22)
 -- are read; any other tag is unknown.
-use Rattle.std.specs.Prelude.{◌≡◌, ℕ, ◌+◌, ◌*◌, Bool, ◌||◌, ◌==◌, if◌then◌else◌, List, [], ◌∷◌, ◌++◌, length}
+use Rattle.std.specs.Prelude.{◌≡◌, ℕ, ◌+◌, ◌*◌, Bool, ◌||◌, ◌==◌, List, [], ◌∷◌, ◌++◌, length}
 use Rattle.std.specs.List.{flat_map, concat, filter, zip, AllZip, AllByRecursion}
 use Rattle.byteorder.specs.Endian.{big_number}
 use Rattle.hd_terms.specs.declared.IdSize.{IdSize}

@@ -1,6 +1,13 @@
 //! Laws over the definitions. Each is the contract of a function with an empty body.
-ghost use Rattle.std.specs.Prelude.{ℕ, List, ◌≢◌};
+ghost use Rattle.std.specs.Prelude.{ℕ, List, ◌≡◌, ◌≢◌};
+ghost use Rattle.hd_terms.specs.declared.IdSize.{IdSize};
+ghost use Rattle.hd_terms.specs.declared.errors.ReadFault.{ReadFault};
 ghost use Rattle.hd_terms.specs.declared.Strength.TheVariants as strengths;
+ghost use Rattle.hd_terms.specs.Records.{Record, AreRecords};
+ghost use Rattle.hd_terms.specs.SubRecords.{SubRecord, AreSubRecords};
+ghost use Rattle.hd_terms.specs.Dump.{Dump};
+ghost use Rattle.hd_terms.specs.Objects.{IsDumpOf};
+ghost use Rattle.hd_terms.specs.ReadFaults.{IsReadFault};
 ghost use Rattle.hd_terms.specs.Paths.{Edge, RootEntry, Standing};
 ghost use Rattle.hd_terms.specs.Strengths.{HasStrength};
 ghost use Rattle.hd_terms.specs.Chains.{IsChain};
@@ -12,4 +19,14 @@ pub fn settled_supports_give_strengths()
     ensures strengths { (g : Standing) (ks : List Kept) → Settled g ks → (o : ℕ) → HasStrength g o (kept_at ks o).strength }
     ensures chains { (g : Standing) (ks : List Kept) → Settled g ks → (o : ℕ) → (kept_at ks o).strength ≢ strengths.Unreachable
         → (r : RootEntry) × (es : List Edge) × IsChain g r es o (kept_at ks o).strength × IsStoredChain g ks r es o }
+{}
+
+/// A file reads as one list of records, a body as one list of sub-records. So a file has one dump or one fault at most,
+/// and never both.
+pub fn one_reading()
+    ensures records { (bytes : List ℕ) (rs ss : List Record) → AreRecords bytes rs → AreRecords bytes ss → rs ≡ ss }
+    ensures sub_records { (size : IdSize) (body : List ℕ) (ss ts : List SubRecord) → AreSubRecords size body ss → AreSubRecords size body ts → ss ≡ ts }
+    ensures dumps { (bytes : List ℕ) (a b : Dump) → IsDumpOf bytes a → IsDumpOf bytes b → a ≡ b }
+    ensures no_fault { (bytes : List ℕ) (dump : Dump) (f : ReadFault) → IsDumpOf bytes dump → IsReadFault bytes f → ⊥ }
+    ensures faults { (bytes : List ℕ) (f g : ReadFault) → IsReadFault bytes f → IsReadFault bytes g → f ≡ g }
 {}

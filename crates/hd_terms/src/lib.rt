@@ -6,6 +6,7 @@
 #![tactic(auto)]
 
 mod errors;
+mod examples;
 mod laws;
 
 ghost use Rattle.std.specs.Prelude.{◌≡◌, ◌≤◌, length};
@@ -15,7 +16,8 @@ ghost use Rattle.hd_terms.specs.Records.{id_len};
 
 use byteorder::{BigEndian, ByteOrder};
 pub use errors::{Cause, NoMemory, ReadFault};
-pub use laws::settled_supports_give_strengths;
+pub use examples::{file_examples, heap_examples, line_examples, log_examples, reply_examples};
+pub use laws::{one_reading, settled_supports_give_strengths};
 
 /// How well an object can be reached, the worst first.
 ///

@@ -1,4 +1,4 @@
-use Rattle.std.proofs.Common.{◌≡◌, ◌∙◌, ℕ, ◌+◌, ◌<◌, ap, sym, arith, length, List}
+use Rattle.std.proofs.Common.{◌∙◌, ℕ, ap, sym, arith, length, List}
 use Rattle.hd_graph.proofs.RowLemmas.{fill-next, weight-at}
 use Rattle.hd_graph.proofs.build.fill_rows.Goals as goal
 

@@ -1,4 +1,4 @@
-use Rattle.std.proofs.Common.{◌≡◌, ◌≢◌, ◌∙◌, ◌+◌, ℕ, List, take, ap, sym, subst, rules, refl, inl, inr, ◌⊎◌, Some, None}
+use Rattle.std.proofs.Common.{◌≡◌, ℕ, List, take, inl, inr, Some, None}
 use Rattle.std.specs.List.{find, slice_get}
 use Rattle.std.proofs.lemmas.Result.{err_from_is_err_and}
 use Rattle.hd_terms.specs.declared.errors.ReadFault.{ReadFault}

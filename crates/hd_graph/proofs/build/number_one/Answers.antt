@@ -1,9 +1,8 @@
-use Rattle.std.proofs.Common.{◌≡◌, ◌≢◌, ◌∙◌, ◌<◌, ℕ, List, [], ap, sym, subst, arith, rules, refl, ne_eqb, Some}
+use Rattle.std.proofs.Common.{◌∙◌, [], ap, arith, ne_eqb}
 use Rattle.std.specs.List.{cons_option}
 use Rattle.hd_terms.specs.SubRecords.{Sub}
 use Rattle.hd_subs.specs.Views.{sub_view, item_view}
-use Rattle.hd_graph.specs.Building.{IsNumbered}
-use Rattle.hd_graph.specs.ArrayRows.{array_id_of_item, root_of_item, roots_in}
+use Rattle.hd_graph.specs.ArrayRows.{array_id_of_item, root_of_item}
 use Rattle.hd_terms.specs.Objects.{is_null_item}
 use Rattle.hd_graph.proofs.NumberLemmas.{root-push, array-push}
 use Rattle.hd_graph.proofs.build.number_one.Goals as goal

@@ -1,4 +1,3 @@
-use Rattle.std.proofs.Common.{◌≡◌, ◌∙◌, ap, sym, subst}
 use Rattle.std.proofs.lemmas.Result.{err_from_is_err_and}
 use Rattle.hd_graph.proofs.OpenLemmas.{spans-within, bodies-fault, list-within, null-fault, few-ids, few-roots, as-many-rows, opened, records-fault}
 use Rattle.hd_graph.proofs.build.open_plain.Goals as goal

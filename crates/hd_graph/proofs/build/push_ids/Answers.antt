@@ -1,10 +1,9 @@
-use Rattle.std.proofs.Common.{◌≡◌, ◌∙◌, ℕ, ◌+◌, ◌-◌, ◌*◌, ◌≤◌, ◌<◌, List, [], ◌∷◌, ◌++◌, length, drop, ap, sym, arith, subst}
+use Rattle.std.proofs.Common.{◌≡◌, ◌∙◌, ℕ, ◌+◌, ◌-◌, List, [], ◌∷◌, ◌++◌, length, drop, ap, sym, arith}
 use Rattle.std.proofs.lemmas.List.{length-drop}
-use Rattle.byteorder.specs.Endian.{big_number}
 use Rattle.hd_terms.specs.Records.{id_len}
 use Rattle.hd_graph.specs.Table.{Table}
 use Rattle.hd_graph.specs.ArrayRows.{ids_in}
-use Rattle.hd_graph.proofs.RowLemmas.{ids-step, room-here, room-step}
+use Rattle.hd_graph.proofs.RowLemmas.{ids-step, room-step}
 use Rattle.hd_graph.proofs.build.push_ids.Goals as goal
 
 pub loop-i-preserved : goal.loop-i-preserved

@@ -1,6 +1,5 @@
-use Rattle.std.proofs.Common.{◌≡◌, ◌∙◌, ◌<◌, ap, sym, subst, length, List, arith}
+use Rattle.std.proofs.Common.{arith}
 use Rattle.std.proofs.lemmas.Result.{err_from_is_err_and}
-use Rattle.hd_terms.specs.declared.Span.{Span}
 use Rattle.hd_graph.proofs.BodyLemmas.{reads-next, fault-here}
 use Rattle.hd_graph.proofs.build.read_bodies.Goals as goal
 

@@ -1,7 +1,5 @@
-use Rattle.std.proofs.Common.{◌≡◌, ◌+◌, ◌<◌, ◌-◌, ◌^◌, length, arith, sym, rules, subst, ap, ◌∙◌, Some, None}
-use Rattle.std.specs.List.{position}
-use Rattle.hd_graph.specs.Codes.{IsCode, id_of_code}
-use Rattle.hd_graph.proofs.CodeLemmas.{null-code, id-null, object-code, absent-code}
+use Rattle.std.proofs.Common.{arith, sym, ◌∙◌}
+use Rattle.hd_graph.proofs.CodeLemmas.{null-code, object-code, absent-code}
 use Rattle.hd_graph.proofs.references.code_of.Goals as goal
 
 pub returns-then-id-eq0-clause-code : goal.returns-then-id-eq0-clause-code

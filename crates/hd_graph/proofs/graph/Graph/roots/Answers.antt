@@ -1,11 +1,7 @@
-use Rattle.std.proofs.Common.{◌≡◌, ◌∙◌, ℕ, suc, zero, ◌+◌, ◌-◌, ◌<◌, ◌≤◌, List, [], length, map, get_or, ap, sym, arith, refl, rules, Some, None, eqb}
-use Rattle.std.specs.List.{position, slice_get}
-use Rattle.hd_terms.specs.Dump.{Dump, Object, SlotEntry}
+use Rattle.std.proofs.Common.{◌∙◌, ap, sym}
+use Rattle.hd_terms.specs.Dump.{Dump}
 use Rattle.hd_terms.specs.Edges.{index_of}
-use Rattle.hd_graph.specs.Table.{row_at}
-use Rattle.hd_graph.specs.Rows.{object_at, no_object}
-use Rattle.hd_graph.specs.Arrays.{row_object, row_objects, row_slots}
-use Rattle.hd_graph.proofs.ArrayLemmas.{length-row_objects, row_objects-at, index_of-row_objects, length-row_slots, row_slots-class, row_slots-element}
+use Rattle.hd_graph.proofs.ArrayLemmas.{index_of-row_objects}
 use Rattle.hd_graph.proofs.graph.Graph.roots.Goals as goal
 
 pub returns-clause-object : goal.returns-clause-object

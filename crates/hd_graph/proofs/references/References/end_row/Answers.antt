@@ -1,7 +1,7 @@
-use Rattle.std.proofs.Common.{◌≡◌, ◌∙◌, List, ℕ, [], ◌∷◌, ◌++◌, length, ap, subst, sym}
+use Rattle.std.proofs.Common.{◌≡◌, ◌∙◌, List, ℕ, [], ◌∷◌, ◌++◌, length, ap}
 use Rattle.hd_graph.specs.Table.{Table}
-use Rattle.hd_graph.specs.Parts.{table_from, AreParts}
-use Rattle.hd_graph.proofs.TableLemmas.{table-end, parts-end}
+use Rattle.hd_graph.specs.Parts.{table_from}
+use Rattle.hd_graph.proofs.TableLemmas.{table-end}
 use Rattle.hd_graph.proofs.references.References.end_row.Goals as goal
 use Rattle.hd_graph.proofs.references.References.end_row.Goals.{In_ok-push}
 

@@ -1,8 +1,7 @@
-use Rattle.std.proofs.Common.{◌≡◌, ◌∙◌, ℕ, suc, ◌+◌, ◌-◌, ◌<◌, ◌^◌, List, length, map, get_or, ap, subst, sym, arith, refl, nat_eq}
+use Rattle.std.proofs.Common.{◌≡◌, ◌∙◌, ℕ, ◌+◌, get_or, ap, sym, arith, refl, nat_eq}
 use Rattle.std.specs.List.{position}
 use Rattle.hd_graph.specs.Table.{Table, row_at}
-use Rattle.hd_graph.specs.Codes.{id_of_code, target_of_code, IsCode}
-use Rattle.hd_graph.specs.Cuts.{rows_from}
+use Rattle.hd_graph.specs.Codes.{id_of_code, target_of_code}
 use Rattle.hd_graph.proofs.TableLemmas.{starts-before, item-within, item-code, get_or-row}
 use Rattle.hd_graph.proofs.references.References.get.Goals as goal
 

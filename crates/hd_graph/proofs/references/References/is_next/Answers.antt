@@ -1,7 +1,7 @@
-use Rattle.std.proofs.Common.{◌≡◌, ◌∙◌, ℕ, ◌-◌, ◌<◌, ◌≤◌, List, length, map, get_or, ap, sym, subst, arith, true, false, eq-eqb, eqb-true, true≢false, Some, None, ltb, eqb, Bool, refl}
+use Rattle.std.proofs.Common.{◌≡◌, ◌∙◌, ℕ, ◌-◌, ◌<◌, ◌≤◌, List, length, map, get_or, ap, sym, arith, true, eq-eqb, eqb-true, true≢false, Some, ltb, eqb, Bool, refl}
 use Rattle.std.specs.List.{slice_get}
-use Rattle.std.proofs.lemmas.Bool.{ltb-true, ltb-false, lt-ltb, le-ltb}
-use Rattle.std.proofs.lemmas.Option.{slice_get_past, get_or_from_slice_get, slice_get_within, slice_get-get_or}
+use Rattle.std.proofs.lemmas.Bool.{le-ltb}
+use Rattle.std.proofs.lemmas.Option.{get_or_from_slice_get, slice_get_within, slice_get-get_or}
 use Rattle.hd_graph.specs.Table.{Table}
 use Rattle.hd_graph.specs.Codes.{id_of_code}
 use Rattle.hd_graph.proofs.CutLemmas.{length-rows_from}

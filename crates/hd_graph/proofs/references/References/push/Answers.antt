@@ -1,6 +1,6 @@
-use Rattle.std.proofs.Common.{◌≡◌, ◌∙◌, List, ℕ, [], ◌∷◌, ◌++◌, ◌+◌, ◌<◌, ◌-◌, ◌^◌, length, ap, subst, sym, arith}
+use Rattle.std.proofs.Common.{◌∙◌, List, ℕ, [], ◌∷◌, ◌++◌, ◌+◌, ◌<◌, ◌-◌, ◌^◌, length, ap}
 use Rattle.hd_graph.specs.Table.{Table}
-use Rattle.hd_graph.specs.Parts.{table_from, AreParts}
+use Rattle.hd_graph.specs.Parts.{table_from}
 use Rattle.hd_graph.proofs.TableLemmas.{table-push, parts-push}
 use Rattle.hd_graph.proofs.references.References.push.Goals as goal
 

@@ -1,7 +1,5 @@
-use Rattle.std.proofs.Common.{◌≡◌, ◌∙◌, ℕ, suc, ◌+◌, ◌-◌, ◌<◌, List, length, map, get_or, ap, subst, sym, arith, add-one}
+use Rattle.std.proofs.Common.{◌∙◌, ℕ, ◌+◌, ◌-◌, List, length, get_or, ap, sym, arith, add-one}
 use Rattle.hd_graph.specs.Table.{Table, row_at}
-use Rattle.hd_graph.specs.Codes.{id_of_code}
-use Rattle.hd_graph.specs.Cuts.{rows_from}
 use Rattle.hd_graph.proofs.TableLemmas.{starts-before, length-row}
 use Rattle.hd_graph.proofs.references.References.row_len.Goals as goal
 

@@ -1,0 +1,21 @@
+use Rattle.std.proofs.Common.{◌∙◌, ℕ, ◌<◌, length, ap, sym, arith}
+use Rattle.hd_terms.specs.declared.Group.TheVariants as groups
+use Rattle.hd_terms.specs.Dump.{Dump, Object}
+use Rattle.hd_graph.specs.Rows.{object_at}
+use Rattle.hd_graph.specs.Arrays.{row_objects}
+use Rattle.hd_graph.proofs.ArrayLemmas.{length-row_objects, row_objects-at}
+use Rattle.hd_graph.proofs.graph.Graph.group_of.Goals as goal
+
+pub last-requires : goal.last-requires
+last-requires c =
+    let a = c.self.inside in
+    let lt : c.args.o < length (row_objects a.id_size a.references.ids a.references.rows) = rw (← c.self.view_is) at c.requires in
+    omega (arith, length-row_objects a.id_size a.references.ids a.references.rows c.self.invariant.rows, c.self.invariant.rows)
+
+pub returns : goal.returns
+returns c =
+    let a = c.self.inside in
+    let lt : c.args.o < length (row_objects a.id_size a.references.ids a.references.rows) = rw (← c.self.view_is) at c.requires in
+    ap (λ (id : ℕ). groups.Class id) c.last.ensures
+    ∙ sym (ap (λ (x : Object). x.group) (row_objects-at a.id_size a.references.ids a.references.rows c.self.invariant.rows c.args.o (omega (arith, length-row_objects a.id_size a.references.ids a.references.rows c.self.invariant.rows))))
+    ∙ ap (λ (dump : Dump). (object_at dump c.args.o).group) c.self.view_is

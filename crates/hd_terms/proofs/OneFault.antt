@@ -1,0 +1,223 @@
+-- A file has at most one fault, and one that has a dump has none.
+use Rattle.std.proofs.Common.{◌≡◌, ◌≢◌, ◌∙◌, ℕ, ◌+◌, Bool, true, false, List, [], ◌∷◌, ◌++◌, length, slice_get, Option, Some, None, subst, sym, ap, refl, arith}
+use Rattle.std.specs.List.{flat_map, find, AllByRecursion, AllZip}
+use Rattle.std.specs.Option.{IsNone}
+use Rattle.std.proofs.lemmas.List.{append-nil}
+use Rattle.hd_terms.specs.declared.IdSize.{IdSize}
+use Rattle.hd_terms.specs.declared.IdSize.TheVariants as sizes
+use Rattle.hd_terms.specs.declared.Span.{Span}
+use Rattle.hd_terms.specs.declared.errors.Cause.{Cause}
+use Rattle.hd_terms.specs.declared.errors.Cause.TheVariants as causes
+use Rattle.hd_terms.specs.declared.errors.ReadFault.{ReadFault}
+use Rattle.hd_terms.specs.Records.{id_len, id_size_of, header_len, Record, IsRecord, record_text, HasHeader, AreRecords, segment_spans}
+use Rattle.hd_terms.specs.SubRecords.{SubRecord, RootUnknown, ObjectArray, Sub, sub_record_text, is_known_tag, IsSubRecord, AreSubRecords, AreDumpSubRecords, dump_subs_at}
+use Rattle.hd_terms.specs.Objects.{is_null_object, IsDumpOf}
+use Rattle.hd_terms.specs.Dump.{Dump}
+use Rattle.hd_terms.specs.ReadFaults.{fault, IsCutOff, IsRecordsFault, too_large, no_header, other_text, other_id_size, cut_off, IsStuck, unknown, short, IsSegmentFault, IsSubRecordsFault, IsReadFault, in_records, in_sub_records, in_objects}
+use Rattle.hd_terms.proofs.Spellings.{IsEnd, same_texts, whole_has_no_end, cut_off_ends}
+use Rattle.hd_terms.proofs.OneReading.{records_apart, no_record, sub_records_apart, no_sub_record, same_records, same_size, same_bodies}
+
+-- the records
+
+-- whole records aren't followed by one that is cut off
+no_cut_off : (rs front : List Record) (rest : List ℕ) (r : Record) → flat_map record_text rs ≡ flat_map record_text front ++ rest → AllByRecursion IsRecord rs → AllByRecursion IsRecord front → IsRecord r → IsCutOff rest (record_text r) → ⊥
+no_cut_off rs front rest r e hr hf is cut =
+    cut.some (whole_has_no_end Record record_text IsRecord records_apart no_record rs front rest e hr hf (cut_off_ends Record record_text IsRecord records_apart rest r is cut))
+
+-- an identifier size is 4 or 8
+one_of_two : (size : IdSize) (n : ℕ) → n ≡ id_len size → n ≢ 4 → n ≢ 8 → ⊥
+one_of_two sizes.Four n is four eight = four is
+one_of_two sizes.Eight n is four eight = eight is
+
+-- a file with a header and whole records has no fault there
+no_records_fault : (bytes : List ℕ) (size : IdSize) (rs : List Record) (f : ReadFault) → HasHeader size bytes → AreRecords bytes rs → IsRecordsFault bytes f → ⊥
+no_records_fault bytes size rs f header whole (too_large more) = let fits = header.fits in omega arith
+no_records_fault bytes size rs f header whole (no_header less) = let long = header.long in omega arith
+no_records_fault bytes size rs f header whole (other_text fits long other) = other header.magic
+no_records_fault bytes size rs f header whole (other_id_size fits long text four eight) = one_of_two size (id_size_of bytes) header.id_size four eight
+no_records_fault bytes size rs f header whole (cut_off size' front rest r header' e each is cut) = no_cut_off rs front rest r (sym whole.whole ∙ e) whole.each each is cut
+
+-- a place where records are cut off
+one_cut : (bytes : List ℕ) (front front' : List Record) (rest rest' : List ℕ) (r r' : Record) → flat_map record_text front ++ rest ≡ flat_map record_text front' ++ rest' → AllByRecursion IsRecord front → AllByRecursion IsRecord front' → IsRecord r → IsRecord r' → IsCutOff rest (record_text r) → IsCutOff rest' (record_text r') → front ≡ front'
+one_cut bytes front front' rest rest' r r' e hf hf' is is' cut cut' =
+    (same_texts Record record_text IsRecord records_apart front front' rest rest' e hf hf'
+    (cut_off_ends Record record_text IsRecord records_apart rest r is cut) (cut_off_ends Record record_text IsRecord records_apart rest' r' is' cut')).0
+
+-- records have one fault
+same_records_fault : (bytes : List ℕ) (f g : ReadFault) → IsRecordsFault bytes f → IsRecordsFault bytes g → f ≡ g
+same_records_fault bytes f g (too_large more) (too_large more') = refl
+same_records_fault bytes f g (too_large more) (no_header less) = absurd (omega arith)
+same_records_fault bytes f g (too_large more) (other_text fits long other) = absurd (omega arith)
+same_records_fault bytes f g (too_large more) (other_id_size fits long text four eight) = absurd (omega arith)
+same_records_fault bytes f g (too_large more) (cut_off size front rest r header e each is cut) = let fits = header.fits in absurd (omega arith)
+same_records_fault bytes f g (no_header less) (too_large more) = absurd (omega arith)
+same_records_fault bytes f g (no_header less) (no_header less') = refl
+same_records_fault bytes f g (no_header less) (other_text fits long other) = absurd (omega arith)
+same_records_fault bytes f g (no_header less) (other_id_size fits long text four eight) = absurd (omega arith)
+same_records_fault bytes f g (no_header less) (cut_off size front rest r header e each is cut) = let long = header.long in absurd (omega arith)
+same_records_fault bytes f g (other_text fits long other) (too_large more) = absurd (omega arith)
+same_records_fault bytes f g (other_text fits long other) (no_header less) = absurd (omega arith)
+same_records_fault bytes f g (other_text fits long other) (other_text fits' long' other') = refl
+same_records_fault bytes f g (other_text fits long other) (other_id_size fits' long' text four eight) = absurd (other text)
+same_records_fault bytes f g (other_text fits long other) (cut_off size front rest r header e each is cut) = absurd (other header.magic)
+same_records_fault bytes f g (other_id_size fits long text four eight) (too_large more) = absurd (omega arith)
+same_records_fault bytes f g (other_id_size fits long text four eight) (no_header less) = absurd (omega arith)
+same_records_fault bytes f g (other_id_size fits long text four eight) (other_text fits' long' other) = absurd (other text)
+same_records_fault bytes f g (other_id_size fits long text four eight) (other_id_size fits' long' text' four' eight') = refl
+same_records_fault bytes f g (other_id_size fits long text four eight) (cut_off size front rest r header e each is cut) = absurd (one_of_two size (id_size_of bytes) header.id_size four eight)
+same_records_fault bytes f g (cut_off size front rest r header e each is cut) (too_large more) = let fits = header.fits in absurd (omega arith)
+same_records_fault bytes f g (cut_off size front rest r header e each is cut) (no_header less) = let long = header.long in absurd (omega arith)
+same_records_fault bytes f g (cut_off size front rest r header e each is cut) (other_text fits long other) = absurd (other header.magic)
+same_records_fault bytes f g (cut_off size front rest r header e each is cut) (other_id_size fits long text four eight) = absurd (one_of_two size (id_size_of bytes) header.id_size four eight)
+same_records_fault bytes f g (cut_off size front rest r header e each is cut) (cut_off size' front' rest' r' header' e' each' is' cut') =
+    ap (λ (rs : List Record). fault causes.Truncated (header_len + length (flat_map record_text rs))) (one_cut bytes front front' rest rest' r r' (sym e ∙ e') each each' is is' cut cut')
+
+-- the sub-records
+
+-- a text's tag is known
+known : (size : IdSize) (s : SubRecord) (tag : ℕ) (more z : List ℕ) → tag ∷ more ≡ sub_record_text s ++ z → is_known_tag tag ≡ true
+known size (RootUnknown id) tag more z e = let same : tag ≡ 0xff = cc in ap is_known_tag same
+known size (ObjectArray id serial count class elements) tag more z e = let same : tag ≡ 0x22 = cc in ap is_known_tag same
+
+-- true isn't false
+never_both : (b : Bool) → b ≡ true → b ≡ false → ⊥
+never_both b holds fails = cc
+
+-- no sub-record begins bytes that are stuck
+stuck_ends : (size : IdSize) (rest : List ℕ) (cause : Cause) → IsStuck size rest cause → IsEnd SubRecord sub_record_text (IsSubRecord size) (sub_records_apart size) rest
+stuck_ends size rest cause (unknown tag more e other) = λ s z is same. never_both (is_known_tag tag) (known size s tag more z (sym e ∙ same)) other
+stuck_ends size rest cause (short s is cut) = cut_off_ends SubRecord sub_record_text (IsSubRecord size) (sub_records_apart size) rest s is cut
+
+-- no bytes aren't stuck
+stuck_some : (size : IdSize) (rest : List ℕ) (cause : Cause) → IsStuck size rest cause → rest ≢ []
+stuck_some size rest cause (unknown tag more e other) none = let both : tag ∷ more ≡ [] = sym e ∙ none in cc
+stuck_some size rest cause (short s is cut) none = cut.some none
+
+-- bytes are stuck for one cause
+same_cause : (size : IdSize) (rest : List ℕ) (a b : Cause) → IsStuck size rest a → IsStuck size rest b → a ≡ b
+same_cause size rest a b (unknown tag more e other) (unknown tag' more' e' other') = refl
+same_cause size rest a b (unknown tag more e other) (short s is cut) =
+    absurd (never_both (is_known_tag tag) (known size s tag (more ++ cut.missing) [] (ap (λ (xs : List ℕ). xs ++ cut.missing) (sym e) ∙ cut.whole ∙ sym (append-nil (sub_record_text s)))) other)
+same_cause size rest a b (short s is cut) (unknown tag more e other) =
+    absurd (never_both (is_known_tag tag) (known size s tag (more ++ cut.missing) [] (ap (λ (xs : List ℕ). xs ++ cut.missing) (sym e) ∙ cut.whole ∙ sym (append-nil (sub_record_text s)))) other)
+same_cause size rest a b (short s is cut) (short s' is' cut') = refl
+
+-- a body of whole sub-records has no fault
+no_segment_fault : (size : IdSize) (base : ℕ) (body : List ℕ) (ss : List SubRecord) (f : ReadFault) → AreSubRecords size body ss → IsSegmentFault size base body f → ⊥
+no_segment_fault size base body ss f are h =
+    stuck_some size h.rest f.cause h.stuck
+    (whole_has_no_end SubRecord sub_record_text (IsSubRecord size) (sub_records_apart size) (no_sub_record size) ss h.front h.rest
+    (sym are.whole ∙ h.whole) are.each h.each (stuck_ends size h.rest f.cause h.stuck))
+
+-- faults of one cause and one place are one
+same_fault : (f g : ReadFault) → f.cause ≡ g.cause → f.offset ≡ g.offset → f ≡ g
+same_fault f g cause offset = ap (λ (c : Cause). fault c f.offset) cause ∙ ap (λ (n : ℕ). fault g.cause n) offset
+
+-- a body has one fault
+same_segment_fault : (size : IdSize) (base : ℕ) (body : List ℕ) (f g : ReadFault) → IsSegmentFault size base body f → IsSegmentFault size base body g → f ≡ g
+same_segment_fault size base body f g h k =
+    let same = same_texts SubRecord sub_record_text (IsSubRecord size) (sub_records_apart size) h.front k.front h.rest k.rest (sym h.whole ∙ k.whole) h.each k.each
+    (stuck_ends size h.rest f.cause h.stuck) (stuck_ends size k.rest g.cause k.stuck) in
+    let front : h.front ≡ k.front = same.0 in
+    let stuck : IsStuck size k.rest f.cause = subst (λ (xs : List ℕ). IsStuck size xs f.cause) same.1 h.stuck in
+    same_fault f g (same_cause size k.rest f.cause g.cause stuck k.stuck)
+    (h.place ∙ ap (λ (ss : List SubRecord). base + length (flat_map sub_record_text ss)) front ∙ sym k.place)
+
+-- a record has these sub-records
+abbrev Has : IdSize → Record → List SubRecord → Type 0
+Has size r subs = AreSubRecords size r.body subs
+
+-- where each record has sub-records, one among them has
+has_some : (size : IdSize) (ws : List Record) (r : Record) (after : List Record) (segments : List (List SubRecord)) → AllZip (Has size) (ws ++ r ∷ after) segments → (ss : List SubRecord) × Has size r ss
+has_some size [] r after [] h = absurd h
+has_some size [] r after (ss ∷ segments) h = (ss, h.0)
+has_some size (w ∷ ws) r after [] h = absurd h
+has_some size (w ∷ ws) r after (ss ∷ segments) h = has_some size ws r after segments h.1
+
+-- the first record that has none is one, and so is what stands before it
+one_first : (size : IdSize) (ws ws' : List Record) (r r' : Record) (after after' : List Record) (segments segments' : List (List SubRecord)) → ws ++ r ∷ after ≡ ws' ++ r' ∷ after' → AllZip (Has size) ws segments → AllZip (Has size) ws' segments' → ((ss : List SubRecord) → Has size r ss → ⊥) → ((ss : List SubRecord) → Has size r' ss → ⊥) → (ws ≡ ws') × (r ≡ r')
+one_first size [] [] r r' after after' us vs e hu hv none none' = (refl, cc)
+one_first size [] (w ∷ ws') r r' after after' us [] e hu hv none none' = absurd hv
+one_first size [] (w ∷ ws') r r' after after' us (v ∷ vs) e hu hv none none' = let same : w ≡ r = cc in absurd (none v (subst (λ (x : Record). Has size x v) same hv.0))
+one_first size (w ∷ ws) [] r r' after after' [] vs e hu hv none none' = absurd hu
+one_first size (w ∷ ws) [] r r' after after' (u ∷ us) vs e hu hv none none' = let same : w ≡ r' = cc in absurd (none' u (subst (λ (x : Record). Has size x u) same hu.0))
+one_first size (w ∷ ws) (w' ∷ ws') r r' after after' [] vs e hu hv none none' = absurd hu
+one_first size (w ∷ ws) (w' ∷ ws') r r' after after' (u ∷ us) [] e hu hv none none' = absurd hv
+one_first size (w ∷ ws) (w' ∷ ws') r r' after after' (u ∷ us) (v ∷ vs) e hu hv none none' =
+    let rest : ws ++ r ∷ after ≡ ws' ++ r' ∷ after' = cc in
+    let more = one_first size ws ws' r r' after after' us vs rest hu.1 hv.1 none none' in
+    let first : w ≡ w' = cc in
+    let whole : ws ≡ ws' = more.0 in
+    (cc, more.1)
+
+-- whole segments have no fault
+no_sub_records_fault : (size : IdSize) (rs : List Record) (segments : List (List SubRecord)) (f : ReadFault) → AreDumpSubRecords size rs segments → IsSubRecordsFault size rs f → ⊥
+no_sub_records_fault size rs segments f whole h =
+    let some = has_some size h.whole h.r h.after segments (subst (λ (xs : List Record). AllZip (Has size) xs segments) h.first whole) in
+    no_segment_fault size h.span.start h.r.body some.0 f some.1 h.faulty
+
+-- segments have one fault
+same_sub_records_fault : (size : IdSize) (rs : List Record) (f g : ReadFault) → IsSubRecordsFault size rs f → IsSubRecordsFault size rs g → f ≡ g
+same_sub_records_fault size rs f g h k =
+    let first = one_first size h.whole k.whole h.r k.r h.after k.after h.segments k.segments (sym h.first ∙ k.first) h.before k.before
+    (λ ss is. no_segment_fault size h.span.start h.r.body ss f is h.faulty) (λ ss is. no_segment_fault size k.span.start k.r.body ss g is k.faulty) in
+    let found : Some h.span ≡ Some k.span = sym h.at ∙ ap (λ (ws : List Record). slice_get (segment_spans header_len rs) (length ws)) first.0 ∙ k.at in
+    let span : h.span ≡ k.span = cc in
+    let at_span : IsSegmentFault size k.span.start h.r.body f = subst (λ (s : Span). IsSegmentFault size s.start h.r.body f) span h.faulty in
+    let at_record : IsSegmentFault size k.span.start k.r.body f = subst (λ (r : Record). IsSegmentFault size k.span.start r.body f) first.1 at_span in
+    same_segment_fault size k.span.start k.r.body f g at_record k.faulty
+
+-- files
+
+-- a sub-records fault as that of another reading
+moved : (a b : IdSize) (rs ss : List Record) (f : ReadFault) → a ≡ b → rs ≡ ss → IsSubRecordsFault a rs f → IsSubRecordsFault b ss f
+moved a b rs ss f size records h = subst (λ (xs : List Record). IsSubRecordsFault b xs f) records (subst (λ (x : IdSize). IsSubRecordsFault x rs f) size h)
+
+-- the first null object of another reading
+null_at : (a b : IdSize) (rs ss : List Record) (us vs : List (List SubRecord)) → a ≡ b → rs ≡ ss → us ≡ vs
+    → find is_null_object (dump_subs_at a (segment_spans header_len rs) us) ≡ find is_null_object (dump_subs_at b (segment_spans header_len ss) vs)
+null_at a b rs ss us vs size records segments =
+    ap (λ (x : IdSize). find is_null_object (dump_subs_at x (segment_spans header_len rs) us)) size
+    ∙ ap (λ (xs : List Record). find is_null_object (dump_subs_at b (segment_spans header_len xs) us)) records
+    ∙ ap (λ (xs : List (List SubRecord)). find is_null_object (dump_subs_at b (segment_spans header_len ss) xs)) segments
+
+-- one element found
+same_found : (s t : Sub) → Some s ≡ Some t → s ≡ t
+same_found s t e = cc
+
+-- none found
+not_found : (o : Option Sub) (s : Sub) → IsNone o → o ≡ Some s → ⊥
+not_found None s none e = cc
+not_found (Some t) s none e = cc
+
+-- a file that reads without fault has none
+pub no_fault : (bytes : List ℕ) (dump : Dump) (f : ReadFault) → IsDumpOf bytes dump → IsReadFault bytes f → ⊥
+no_fault bytes dump f is (in_records h) = no_records_fault bytes is.size is.records f is.reads.header is.reads.whole h
+no_fault bytes dump f is (in_sub_records size rs header whole h) =
+    no_sub_records_fault is.size is.records is.segments f is.reads.bodies
+    (moved size is.size rs is.records f (same_size size is.size bytes header is.reads.header) (same_records bytes rs is.records whole is.reads.whole) h)
+no_fault bytes dump f is (in_objects size rs segments s header whole bodies found) =
+    let same : size ≡ is.size = same_size size is.size bytes header is.reads.header in
+    let records : rs ≡ is.records = same_records bytes rs is.records whole is.reads.whole in
+    let lists : segments ≡ is.segments = same_bodies size is.size rs is.records segments is.segments same records bodies is.reads.bodies in
+    not_found (find is_null_object (dump_subs_at is.size (segment_spans header_len is.records) is.segments)) s is.reads.no_null
+    (sym (null_at size is.size rs is.records segments is.segments same records lists) ∙ found)
+
+-- a file has one fault
+pub same_read_fault : (bytes : List ℕ) (f g : ReadFault) → IsReadFault bytes f → IsReadFault bytes g → f ≡ g
+same_read_fault bytes f g (in_records h) (in_records k) = same_records_fault bytes f g h k
+same_read_fault bytes f g (in_records h) (in_sub_records size rs header whole k) = absurd (no_records_fault bytes size rs f header whole h)
+same_read_fault bytes f g (in_records h) (in_objects size rs segments s header whole bodies found) = absurd (no_records_fault bytes size rs f header whole h)
+same_read_fault bytes f g (in_sub_records size rs header whole h) (in_records k) = absurd (no_records_fault bytes size rs g header whole k)
+same_read_fault bytes f g (in_sub_records size rs header whole h) (in_sub_records size' rs' header' whole' k) =
+    same_sub_records_fault size' rs' f g (moved size size' rs rs' f (same_size size size' bytes header header') (same_records bytes rs rs' whole whole') h) k
+same_read_fault bytes f g (in_sub_records size rs header whole h) (in_objects size' rs' segments s header' whole' bodies found) =
+    absurd (no_sub_records_fault size' rs' segments f bodies (moved size size' rs rs' f (same_size size size' bytes header header') (same_records bytes rs rs' whole whole') h))
+same_read_fault bytes f g (in_objects size rs segments s header whole bodies found) (in_records k) = absurd (no_records_fault bytes size rs g header whole k)
+same_read_fault bytes f g (in_objects size rs segments s header whole bodies found) (in_sub_records size' rs' header' whole' k) =
+    absurd (no_sub_records_fault size rs segments g bodies (moved size' size rs' rs g (same_size size' size bytes header' header) (same_records bytes rs' rs whole' whole) k))
+same_read_fault bytes f g (in_objects size rs segments s header whole bodies found) (in_objects size' rs' segments' s' header' whole' bodies' found') =
+    let same : size ≡ size' = same_size size size' bytes header header' in
+    let records : rs ≡ rs' = same_records bytes rs rs' whole whole' in
+    let lists : segments ≡ segments' = same_bodies size size' rs rs' segments segments' same records bodies bodies' in
+    ap (λ (t : Sub). fault causes.NullObject t.offset) (same_found s s' (sym found ∙ null_at size size' rs rs' segments segments' same records lists ∙ found'))

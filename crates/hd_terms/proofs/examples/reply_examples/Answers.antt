@@ -1,0 +1,96 @@
+use Rattle.std.proofs.Common.{◌≡◌, ℕ, inr, List, [], ◌∷◌, ◌++◌, codes, lit<, sym, ap, refl}
+use Rattle.std.proofs.lemmas.Fmt.{decimal_digit}
+use Rattle.hd_terms.specs.declared.Slot.TheVariants as slots
+use Rattle.hd_terms.specs.declared.Strength.TheVariants as strengths
+use Rattle.hd_terms.specs.declared.Support.TheVariants as supports
+use Rattle.hd_terms.specs.EditedDump.{standing}
+use Rattle.hd_terms.specs.Replies.{IsReply, answered, with_newline}
+use Rattle.hd_terms.specs.Sessions.{Turn, IsLater, IsSessionAlone}
+use Rattle.hd_terms.specs.Sessions as sessions
+use Rattle.hd_terms.specs.Examples as examples
+use Rattle.hd_terms.proofs.SettledByTest.{strengths_of}
+use Rattle.hd_terms.proofs.LawfulByTest.{lawful}
+use Rattle.hd_terms.proofs.examples.reply_examples.Goals as goal
+
+-- `ok 1` and STRONG
+abbrev ok_strong : List ℕ
+ok_strong = codes "ok 1" ++ 10 ∷ codes "STRONG" ++ 10 ∷ []
+
+-- `ok 0`
+abbrev ok_none : List ℕ
+ok_none = codes "ok 0" ++ 10 ∷ []
+
+-- the answers with their numbers spelled
+ok_strong_is : ok_strong ≡ answered (codes "STRONG" ∷ [])
+ok_strong_is = sym (ap (λ (digits : List ℕ). with_newline (codes "ok " ++ digits) ++ with_newline (codes "STRONG")) (decimal_digit 1 (lit< tt)))
+
+ok_none_is : ok_none ≡ answered []
+ok_none_is = sym (ap (λ (digits : List ℕ). with_newline (codes "ok " ++ digits) ++ []) (decimal_digit 0 (lit< tt)))
+
+-- the second object is strong
+strong_reply : IsReply examples.two_arrays [] (codes "strength 0x2") ok_strong
+strong_reply = (
+  strengths.Strong,
+  strengths_of (standing examples.two_arrays [])
+      ((record { strength = strengths.Strong; support = supports.Root 0; stamp = 0 })
+      ∷ (record { strength = strengths.Strong; support = supports.Edge 0 (slots.Element 0); stamp = 1 }) ∷ []) refl 1,
+  ok_strong_is,
+)
+
+-- a turn under the empty log that leaves it empty
+abbrev turn : List ℕ → List ℕ → Turn
+turn line reply = record { line = line; log = []; found = []; after = []; reply = reply }
+
+-- nothing came to the empty log
+nothing_came : IsLater 0 [] []
+nothing_came = record { more = []; begins = refl; same_own = refl; lawful = lawful [] refl }
+
+-- a session of the one line
+one_turn : IsSessionAlone examples.two_arrays (codes "strength 0x2" ∷ []) (turn (codes "strength 0x2") ok_strong ∷ [])
+one_turn = record {
+  session = (nothing_came, nothing_came, sessions.answered strong_reply refl refl, tt);
+  alone = (refl, refl, tt);
+  over = refl;
+}
+
+pub returns-clause-strength : goal.returns-clause-strength
+returns-clause-strength c = strong_reply
+
+pub returns-clause-served : goal.returns-clause-served
+returns-clause-served c = record {
+  turns = turn (codes "strength 0x2") ok_strong ∷ turn (codes "quit") ok_none ∷ [];
+  session = record {
+    session = (
+      nothing_came,
+      nothing_came,
+      sessions.answered strong_reply refl refl,
+      (nothing_came, nothing_came, sessions.answered ok_none_is refl refl, tt),
+    );
+    alone = (refl, refl, (refl, refl, tt));
+    over = refl;
+  };
+  written_is = refl;
+}
+
+pub returns-clause-read_failed : goal.returns-clause-read_failed
+returns-clause-read_failed c = record {
+  seen = codes "strength 0x";
+  front = refl;
+  turns = [];
+  session = record { session = tt; alone = tt; over = refl };
+  no_quit = tt;
+  written_is = refl;
+}
+
+pub returns-clause-write_failed : goal.returns-clause-write_failed
+returns-clause-write_failed c = record {
+  seen = codes "strength 0x2";
+  rest = [];
+  front = refl;
+  lines = codes "strength 0x2" ∷ [];
+  read = inr (refl, refl);
+  turns = turn (codes "strength 0x2") ok_strong ∷ [];
+  session = one_turn;
+  more = codes "RONG" ++ 10 ∷ [];
+  written_is = refl;
+}

@@ -1,0 +1,235 @@
+-- The worked examples of docs/DEFINITIONS.md as data: files, dumps, logs and lines. What the definitions say of them is
+-- proved in `examples`.
+-- Source: this project.
+use Rattle.std.specs.Prelude.{ℕ, ◌+◌, ◌*◌, List, [], ◌∷◌, ◌++◌, length, drop, Some, None}
+use Rattle.hd_terms.specs.declared.Slot.{Slot}
+use Rattle.hd_terms.specs.declared.Slot.TheVariants as slots
+use Rattle.hd_terms.specs.declared.EdgeKind.{EdgeKind}
+use Rattle.hd_terms.specs.declared.EdgeKind.TheVariants as kinds
+use Rattle.hd_terms.specs.declared.Group.TheVariants as groups
+use Rattle.hd_terms.specs.declared.RootKind.TheVariants as roots
+use Rattle.hd_terms.specs.declared.Edit.{Edit}
+use Rattle.hd_terms.specs.declared.Edit.TheVariants as edits
+use Rattle.hd_terms.specs.declared.Event.{Event}
+use Rattle.hd_terms.specs.declared.What.TheVariants as whats
+use Rattle.hd_terms.specs.Paths.{Edge, RootEntry}
+use Rattle.hd_terms.specs.Dump.{SlotEntry, Object, Root, Dump}
+
+-- files
+
+-- a header of 31 bytes whose identifier size ends with a byte
+abbrev pub head_of : ℕ → List ℕ
+head_of n =
+    0x4a ∷ 0x41 ∷ 0x56 ∷ 0x41 ∷ 0x20 ∷ 0x50 ∷ 0x52 ∷ 0x4f ∷ 0x46 ∷ 0x49 ∷ 0x4c ∷ 0x45 ∷ 0x20 ∷ 0x31 ∷ 0x2e ∷ 0x30 ∷ 0x2e ∷ 0x32 ∷ 0x00
+    ∷ 0x00 ∷ 0x00 ∷ 0x00 ∷ n ∷ 0x00 ∷ 0x00 ∷ 0x00 ∷ 0x00 ∷ 0x00 ∷ 0x00 ∷ 0x00 ∷ 0x00 ∷ []
+
+-- the head of a HEAP DUMP SEGMENT whose body has a number of bytes below 256
+abbrev pub segment_head : ℕ → List ℕ
+segment_head n = 0x1c ∷ 0x00 ∷ 0x00 ∷ 0x00 ∷ 0x00 ∷ 0x00 ∷ 0x00 ∷ 0x00 ∷ n ∷ []
+
+-- a number below 256 in four bytes
+abbrev pub four : ℕ → List ℕ
+four n = 0x00 ∷ 0x00 ∷ 0x00 ∷ n ∷ []
+
+-- the header alone
+abbrev pub empty_dump_file : List ℕ
+empty_dump_file = head_of 4
+
+-- one root and two object arrays, in one segment: 91 bytes
+abbrev pub two_arrays_file : List ℕ
+two_arrays_file =
+    head_of 4 ++ segment_head 0x33
+    ++ 0xff ∷ four 1
+    ++ 0x22 ∷ four 1 ++ four 0 ++ four 3 ++ four 0 ++ four 2 ++ four 0 ++ four 9
+    ++ 0x22 ∷ four 2 ++ four 0 ++ four 0 ++ four 0
+
+-- an object array with ID 0
+abbrev pub null_object_file : List ℕ
+null_object_file = head_of 4 ++ segment_head 17 ++ 0x22 ∷ four 0 ++ four 0 ++ four 0 ++ four 0
+
+-- a segment with the one byte 9
+abbrev pub unknown_sub_record_file : List ℕ
+unknown_sub_record_file = head_of 4 ++ segment_head 1 ++ 0x09 ∷ []
+
+-- a header and eight zero bytes
+abbrev pub cut_record_file : List ℕ
+cut_record_file = head_of 4 ++ four 0 ++ four 0
+
+-- a segment with four of the five bytes of a ROOT UNKNOWN
+abbrev pub short_sub_record_file : List ℕ
+short_sub_record_file = head_of 4 ++ segment_head 4 ++ 0xff ∷ 0x00 ∷ 0x00 ∷ 0x00 ∷ []
+
+-- a record whose length says 5, and four bytes of its body
+abbrev pub cut_body_file : List ℕ
+cut_body_file = head_of 4 ++ segment_head 5 ++ 0xff ∷ 0x00 ∷ 0x00 ∷ 0x00 ∷ []
+
+-- that of two_arrays behind a record of a tag that has no meaning
+abbrev pub skipped_record_file : List ℕ
+skipped_record_file = head_of 4 ++ 0x77 ∷ four 0 ++ four 2 ++ 0xab ∷ 0xcd ∷ [] ++ drop 31 two_arrays_file
+
+-- [1: 2]  [2:]  [1: 5]
+abbrev pub repeated_id_file : List ℕ
+repeated_id_file =
+    head_of 4 ++ segment_head 59
+    ++ 0x22 ∷ four 1 ++ four 0 ++ four 1 ++ four 0 ++ four 2
+    ++ 0x22 ∷ four 2 ++ four 0 ++ four 0 ++ four 0
+    ++ 0x22 ∷ four 1 ++ four 0 ++ four 1 ++ four 0 ++ four 5
+
+-- an unknown tag, and behind its segment three bytes of a record that is cut off
+abbrev pub two_mistakes_file : List ℕ
+two_mistakes_file = head_of 4 ++ segment_head 1 ++ 0x09 ∷ 0x00 ∷ 0x00 ∷ 0x00 ∷ []
+
+-- dumps
+
+-- a slot of kind strong
+abbrev pub strong : Slot → ℕ → SlotEntry
+strong slot id = record { slot = slot; kind = kinds.Strong; id = id }
+
+-- the elements of an array, numbered from a number on
+abbrev pub elements : ℕ → List ℕ → List SlotEntry
+elements i [] = []
+elements i (id ∷ ids) = strong (slots.Element i) id ∷ elements (i + 1) ids
+
+-- [id: ids]
+abbrev pub array : ℕ → List ℕ → Object
+array id ids = record {
+  id = id;
+  group = groups.Class 0;
+  bytes = 4 * length ids;
+  slots = elements 0 ids ++ strong slots.OfClass 0 ∷ [];
+  referent = None;
+}
+
+-- <id: super>
+abbrev pub class_object : ℕ → ℕ → Object
+class_object id super = record {
+  id = id;
+  group = groups.Classes;
+  bytes = 0;
+  slots = strong slots.Super super ∷ strong slots.Loader 0 ∷ strong slots.Signers 0 ∷ strong slots.Domain 0 ∷ [];
+  referent = None;
+}
+
+-- (id of class: kind referent)
+abbrev pub reference : ℕ → ℕ → EdgeKind → ℕ → Object
+reference id class kind referent = record {
+  id = id;
+  group = groups.Class class;
+  bytes = 4;
+  slots = (record { slot = slots.Field 0; kind = kind; id = referent }) ∷ strong slots.OfClass class ∷ [];
+  referent = Some (slots.Field 0);
+}
+
+-- root id
+abbrev pub root : ℕ → Root
+root id = record { kind = roots.Unknown; id = id }
+
+-- the classes of references and of finalizers
+abbrev pub refs : List Object
+refs = class_object 0x11 0 ∷ class_object 0x12 0x11 ∷ class_object 0x13 0x11 ∷ class_object 0x14 0x11 ∷ class_object 0x15 0x11 ∷ class_object 0x16 0x14 ∷ []
+
+-- nothing
+abbrev pub empty_dump : Dump
+empty_dump = record { objects = []; roots = [] }
+
+-- root 1  [1: 2 0 9]  [2:]
+abbrev pub two_arrays : Dump
+two_arrays = record {
+  objects =
+      (record {
+        id = 1;
+        group = groups.Class 0;
+        bytes = 12;
+        slots = strong (slots.Element 0) 2 ∷ strong (slots.Element 1) 0 ∷ strong (slots.Element 2) 9 ∷ strong slots.OfClass 0 ∷ [];
+        referent = None;
+      })
+      ∷ (record { id = 2; group = groups.Class 0; bytes = 0; slots = strong slots.OfClass 0 ∷ []; referent = None })
+      ∷ [];
+  roots = (record { kind = roots.Unknown; id = 1 }) ∷ [];
+}
+
+-- [1: 2]  [2:]
+abbrev pub repeated_id : Dump
+repeated_id = record { objects = array 1 (2 ∷ []) ∷ array 2 [] ∷ []; roots = [] }
+
+-- refs  root 1  [1: 21 31]  (21 of 13: weak 5)  (31 of 16: final 5)  [5:]
+abbrev pub weak_and_final_referents : Dump
+weak_and_final_referents = record {
+  objects = refs ++ array 1 (0x21 ∷ 0x31 ∷ []) ∷ reference 0x21 0x13 kinds.Weak 5 ∷ reference 0x31 0x16 kinds.Final 5 ∷ array 5 [] ∷ [];
+  roots = root 1 ∷ [];
+}
+
+-- refs  root 1  [1: 21 23]  (21 of 12: soft 22)  (22 of 13: weak 3)  [3: 4]  (23 of 12: soft 5)  [5: 4]  [4:]
+abbrev pub soft_then_weak : Dump
+soft_then_weak = record {
+  objects =
+      refs ++ array 1 (0x21 ∷ 0x23 ∷ []) ∷ reference 0x21 0x12 kinds.Soft 0x22 ∷ reference 0x22 0x13 kinds.Weak 3 ∷ array 3 (4 ∷ [])
+      ∷ reference 0x23 0x12 kinds.Soft 5 ∷ array 5 (4 ∷ []) ∷ array 4 [] ∷ [];
+  roots = root 1 ∷ [];
+}
+
+-- root 1  [1: 2]  [2: 3]  [3: 2 4]  [4: 5]  [5: 4]
+abbrev pub cycle_behind_one_edge : Dump
+cycle_behind_one_edge = record {
+  objects = array 1 (2 ∷ []) ∷ array 2 (3 ∷ []) ∷ array 3 (2 ∷ 4 ∷ []) ∷ array 4 (5 ∷ []) ∷ array 5 (4 ∷ []) ∷ [];
+  roots = root 1 ∷ [];
+}
+
+-- refs  root 1  [1: 21]  (21 of 15: phantom 6)  [6: 7]  [7:]  (22 of 15: phantom 22)
+abbrev pub phantom_referent : Dump
+phantom_referent = record {
+  objects =
+      refs ++ array 1 (0x21 ∷ []) ∷ reference 0x21 0x15 kinds.Phantom 6 ∷ array 6 (7 ∷ []) ∷ array 7 []
+      ∷ reference 0x22 0x15 kinds.Phantom 0x22 ∷ [];
+  roots = root 1 ∷ [];
+}
+
+-- root 1  root 2  [1:]  [2:]  [7:]
+abbrev pub added_and_dropped_roots : Dump
+added_and_dropped_roots = record { objects = array 1 [] ∷ array 2 [] ∷ array 7 [] ∷ []; roots = root 1 ∷ root 2 ∷ [] }
+
+-- logs
+
+-- an analyst's edit
+abbrev pub does : ℕ → Edit → Event
+does who edit = record { who = who; what = whats.Do edit }
+
+-- an analyst's undo
+abbrev pub undoes : ℕ → ℕ → Event
+undoes who k = record { who = who; what = whats.Undo k }
+
+-- cut 0x1 of an element
+abbrev pub cut : ℕ → Edit
+cut i = edits.Cut 1 (slots.Element i)
+
+-- both analysts cut one slot, and then both take that back
+abbrev pub two_cuts_of_one_slot : List Event
+two_cuts_of_one_slot = does 0 (cut 0) ∷ does 1 (cut 0) ∷ undoes 0 0 ∷ undoes 1 1 ∷ []
+
+-- the weak referent is cleared, and then the final one
+abbrev pub clears : List Event
+clears = does 0 (edits.Clear 0x21) ∷ does 0 (edits.Clear 0x31) ∷ []
+
+-- one analyst cuts a slot and takes that back
+abbrev pub cut_and_undo : List Event
+cut_and_undo = does 0 (cut 0) ∷ undoes 0 0 ∷ []
+
+-- an undo of an edit, and an undo of that undo
+abbrev pub undo_of_an_undo : List Event
+undo_of_an_undo = does 0 (edits.Add 1) ∷ undoes 0 0 ∷ undoes 0 1 ∷ []
+
+-- the events of `added_and_dropped_roots`
+abbrev pub add_and_drop : List Event
+add_and_drop = does 0 (edits.Add 7) ∷ does 0 (edits.Drop 2) ∷ undoes 0 0 ∷ undoes 0 1 ∷ []
+
+-- another log over the same dump, which drops the root before it is added
+abbrev pub drop_and_add : List Event
+drop_and_add = does 0 (edits.Drop 3) ∷ does 0 (edits.Add 7) ∷ []
+
+-- a standing root by its number and the number of its object
+abbrev pub root_on : ℕ → ℕ → RootEntry
+root_on number target = record { number = number; target = target }
+
+-- edges of kind strong, by the numbers of the objects
+abbrev pub strong_edge : ℕ → Slot → ℕ → Edge
+strong_edge source slot target = record { source = source; slot = slot; target = target; kind = kinds.Strong }

@@ -1,0 +1,6 @@
+pub mod Words
+pub mod Digits
+pub mod Writing
+pub mod Lines
+pub mod Told
+pub mod Serving

@@ -1,0 +1,51 @@
+use Rattle.std.proofs.Common.{◌≡◌, ◌∙◌, Ok, Err, length, sym, ap, subst, arith}
+use Rattle.std.proofs.KnownBytes.{Keeps-refl}
+use Rattle.std.proofs.lemmas.Result.{err_from_is_err_and}
+use Rattle.std.specs.Io.KnownBytes.{Consumes}
+use Rattle.hdesk.specs.Serving.{RunsBytes, RunsEnd, Serves}
+use Rattle.hdesk.proofs.Serving.{IsRunning, running_none, running_read, read_ends, flush_ends, quit_ends, fault_ends, end_ends}
+use Rattle.hdesk.proofs.serve.run_input.Goals as goal
+
+pub loop-init : goal.loop-init
+loop-init g c =
+    subst (IsRunning c.args.graph.now (g.R.Read.remaining c.args.reader.now) (g.R.Read.remaining c.args.reader.now) (g.W.Write.contents c.args.writer.now) (g.W.Write.contents c.args.writer.now)) (sym c.requires.line)
+    (running_none c.args.graph.now (g.R.Read.remaining c.args.reader.now) (g.W.Write.contents c.args.writer.now))
+
+pub returns-in_err-flush : goal.returns-in_err-flush
+returns-in_err-flush g c =
+    let p = err_from_is_err_and c.from_residual.result c.from_residual.ensures.1 in
+    subst (Serves c.args.graph.now _ _ _ _) (sym (p.1 ∙ ap Err p.2 ∙ ap Err c.in_err-flush.ensures.write))
+    (flush_ends c.args.graph.now _ _ _ _ _ c.loop.invariant _ c.in_err-flush.ensures.bytes)
+
+pub returns-in_err-refill : goal.returns-in_err-refill
+returns-in_err-refill g c =
+    let p = err_from_is_err_and c.from_residual-in_err-refill.result c.from_residual-in_err-refill.ensures.1 in
+    subst (Serves c.args.graph.now _ _ _ _) (sym (p.1 ∙ ap Err p.2 ∙ ap Err c.in_err-refill.ensures.read))
+    (read_ends c.args.graph.now _ _ _ _ _ c.loop.invariant _ _ c.in_ok-flush.ensures.bytes c.in_err-refill.ensures.err)
+
+pub returns-then-is_empty : goal.returns-then-is_empty
+returns-then-is_empty g c =
+    let none : length c.refill.new.chunk ≡ 0 = grind arith in
+    end_ends c.args.graph.now _ _ _ _ c.loop.line c.loop.invariant _ _ c.refill.new.chunk c.in_ok-flush.ensures.bytes c.in_ok-refill.ensures.ok _
+    c.run_end.result none (c.in_ok-refill.ensures.end none) (subst (λ l. RunsEnd c.args.graph.now l (g.W.Write.contents c.flush.new.writer) (g.W.Write.contents c.run_end.new.writer) c.run_end.result) c.as_slice.ensures.bytes c.run_end.ensures)
+
+pub returns-in_err-run_chunk : goal.returns-in_err-run_chunk
+returns-in_err-run_chunk g c =
+    let p = err_from_is_err_and c.from_residual-in_err-run_chunk.result c.from_residual-in_err-run_chunk.ensures.1 in
+    fault_ends c.args.graph.now _ _ _ _ c.loop.line c.loop.invariant _ _ c.as_slice-bytes.result.now c.in_ok-flush.ensures.bytes (subst (Consumes _ _) (sym c.as_slice-bytes.ensures.bytes) c.in_ok-refill.ensures.ok) _
+    c.run_chunk.new.line c.in_err-run_chunk.field-0.0 c.from_residual-in_err-run_chunk.result (p.1 ∙ ap Err p.2) c.in_err-run_chunk.ensures
+
+pub returns-in-Quits : goal.returns-in-Quits
+returns-in-Quits g c =
+    quit_ends c.args.graph.now _ _ _ _ c.loop.line c.loop.invariant _ _ c.as_slice-bytes.result.now c.in_ok-flush.ensures.bytes (subst (Consumes _ _) (sym c.as_slice-bytes.ensures.bytes) c.in_ok-refill.ensures.ok) _
+    c.run_chunk.new.line
+    (subst (λ f. RunsBytes c.args.graph.now c.as_slice-bytes.result.now c.loop.line c.run_chunk.new.line (g.W.Write.contents c.flush.new.writer) (g.W.Write.contents c.run_chunk.new.writer) (Ok f)) c.in-Quits.is c.in_ok-run_chunk.ensures)
+
+pub loop-preserved : goal.loop-preserved
+loop-preserved g c =
+    running_read c.args.graph.now _ _ _ _ c.loop.line c.loop.invariant _ _ c.as_slice-bytes.result.now c.in_ok-flush.ensures.bytes (subst (Consumes _ _) (sym c.as_slice-bytes.ensures.bytes) c.in_ok-refill.ensures.ok) _
+    c.run_chunk.new.line
+    (subst (λ f. RunsBytes c.args.graph.now c.as_slice-bytes.result.now c.loop.line c.run_chunk.new.line (g.W.Write.contents c.flush.new.writer) (g.W.Write.contents c.run_chunk.new.writer) (Ok f)) c.in-GoesOn.is c.in_ok-run_chunk.ensures)
+
+pub returns : goal.returns
+returns g c = read_ends c.args.graph.now _ _ _ _ _ c.loop.invariant _ _ (Keeps-refl _) (Keeps-refl _)

@@ -1,0 +1,4 @@
+pub mod Commands
+pub mod Replying
+pub mod Serving
+pub mod Running

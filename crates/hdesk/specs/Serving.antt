@@ -1,0 +1,112 @@
+-- What serving does: to a front of the input, and to all of it.
+-- Source: this project.
+use Rattle.std.specs.Prelude.{◌≡◌, ℕ, true, false, List, [], ◌∷◌, ◌++◌, map, take, Option, Some, Result, Ok, Err, IfSome}
+use Rattle.std.specs.List.{flat_map, AllByRecursion}
+use Rattle.std.specs.Io.KnownBytes.{Keeps, Appends}
+use Rattle.hd_terms.specs.Dump.{Dump}
+use Rattle.hd_terms.specs.Lines.{pieces, whole_lines, is_quit}
+use Rattle.hd_terms.specs.Replies.{IsReply}
+use Rattle.hd_terms.specs.Sessions.{IsServed, IsServedUntilRead, IsServedUntilWrite}
+use Rattle.hdesk.specs.declared.serve.ServeFault.{ServeFault}
+use Rattle.hdesk.specs.declared.serve.ServeFault.TheVariants as faults
+use Rattle.hdesk.specs.declared.serve.Flow.{Flow}
+use Rattle.hdesk.specs.declared.serve.Flow.TheVariants as flows
+
+-- the last of the pieces
+abbrev pub last_piece : List (List ℕ) → List ℕ
+last_piece [] = []
+last_piece (piece ∷ []) = piece
+last_piece (piece ∷ next ∷ rest) = last_piece (next ∷ rest)
+
+-- the line that no newline ends yet
+abbrev pub open_line : List ℕ → List ℕ
+open_line seen = last_piece (pieces seen)
+
+-- as much of a line as is kept
+abbrev pub kept_of : List ℕ → List ℕ
+kept_of line = take 4097 line
+
+-- a line and its reply
+pub record Answer : Type 0 where
+  pub line : List ℕ
+  pub reply : List ℕ
+
+-- the reply is the line's
+abbrev pub IsAnswer : Dump → Answer → Type 0
+IsAnswer dump a = IsReply dump [] a.line a.reply
+
+-- these lines were answered so
+pub record IsTold (dump : Dump) (lines : List (List ℕ)) (written : List ℕ) : Type 0 where
+  pub answers : List Answer
+  pub each : AllByRecursion (IsAnswer dump) answers
+  pub lines_are : map (λ (a : Answer). a.line) answers ≡ lines
+  pub written_is : written ≡ flat_map (λ (a : Answer). a.reply) answers
+
+-- the lines that don't end a session
+abbrev pub NoneQuits : List (List ℕ) → Type 0
+NoneQuits lines = AllByRecursion (λ line. is_quit line ≡ false) lines
+
+-- the whole lines of what was read are answered, none of them is `quit`, and the open line is kept
+pub record IsOpen (dump : Dump) (seen kept written : List ℕ) : Type 0 where
+  pub told : IsTold dump (whole_lines seen) written
+  pub none_quits : NoneQuits (whole_lines seen)
+  pub kept_is : kept ≡ kept_of (open_line seen)
+
+-- how it stands once these bytes were read and those written: open, ended by `quit`, or by a fault of the writer
+abbrev pub Stands : Dump → (seen kept written : List ℕ) → Result Flow ServeFault → Type 0
+Stands dump seen kept written (Ok flows.GoesOn) = IsOpen dump seen kept written
+Stands dump seen kept written (Ok flows.Quits) = (rest : List ℕ) → IsServed dump (seen ++ rest) written
+Stands dump seen kept written (Err faults.Read) = ⊥
+Stands dump seen kept written (Err faults.Write) = (rest : List ℕ) → IsServedUntilWrite dump (seen ++ rest) written
+Stands dump seen kept written (Err faults.OutOfMemory) = ⊥
+
+-- bytes are run: from how it stood before them to how it stands after them
+abbrev pub RunsBytes : Dump → (bytes kept kept' : List ℕ) → (before after : Option (List ℕ)) → Result Flow ServeFault → Type 0
+RunsBytes dump bytes kept kept' before after result =
+    (seen written : List ℕ) → IsOpen dump seen kept written → (more : List ℕ) × Appends before after more × Stands dump (seen ++ bytes) kept' (written ++ more) result
+
+-- how a line that has this reply ends: the whole reply is written, or a front of it at a fault of the writer
+abbrev pub EndsLine : (line reply : List ℕ) → (before after : Option (List ℕ)) → Result Flow ServeFault → Type 0
+EndsLine line reply before after (Ok flows.GoesOn) = Appends before after reply × (is_quit line ≡ false)
+EndsLine line reply before after (Ok flows.Quits) = Appends before after reply × (is_quit line ≡ true)
+EndsLine line reply before after (Err faults.Read) = ⊥
+EndsLine line reply before after (Err faults.Write) = (k : ℕ) × Appends before after (take k reply)
+EndsLine line reply before after (Err faults.OutOfMemory) = ⊥
+
+-- a line is run
+pub record RunsLine (dump : Dump) (line : List ℕ) (before after : Option (List ℕ)) (result : Result Flow ServeFault) : Type 0 where
+  pub reply : List ℕ
+  pub is_reply : IsReply dump [] line reply
+  pub ends : EndsLine line reply before after result
+
+-- how it stands at the end of the input
+abbrev pub StandsAtEnd : Dump → (seen written : List ℕ) → Result Unit ServeFault → Type 0
+StandsAtEnd dump seen written (Ok done) = IsServed dump seen written
+StandsAtEnd dump seen written (Err faults.Read) = ⊥
+StandsAtEnd dump seen written (Err faults.Write) = IsServedUntilWrite dump seen written
+StandsAtEnd dump seen written (Err faults.OutOfMemory) = ⊥
+
+-- what is open at the end of the input is run
+abbrev pub RunsEnd : Dump → (kept : List ℕ) → (before after : Option (List ℕ)) → Result Unit ServeFault → Type 0
+RunsEnd dump kept before after result =
+    (seen written : List ℕ) → IsOpen dump seen kept written → (more : List ℕ) × Appends before after more × StandsAtEnd dump seen (written ++ more) result
+
+-- where the input is known, all of it was served, and the replies were written
+abbrev pub ServesAll : Dump → (input before after : Option (List ℕ)) → Type 0
+ServesAll dump input before after = IfSome input (λ bytes. (written : List ℕ) × Appends before after written × IsServed dump bytes written)
+
+-- where the input is known, a front of it was read and its whole lines served, and the replies were written
+abbrev pub ServesUntilRead : Dump → (input rest before after : Option (List ℕ)) → Type 0
+ServesUntilRead dump input rest before after =
+    IfSome input (λ bytes. (left : List ℕ) × (rest ≡ Some left) × (written : List ℕ) × Appends before after written × IsServedUntilRead dump bytes left written)
+
+-- where the input is known, lines of a front of it were served, and a front of the replies was written
+abbrev pub ServesUntilWrite : Dump → (input before after : Option (List ℕ)) → Type 0
+ServesUntilWrite dump input before after = IfSome input (λ bytes. (written : List ℕ) × Appends before after written × IsServedUntilWrite dump bytes written)
+
+-- how serving ends
+abbrev pub Serves : Dump → (input rest before after : Option (List ℕ)) → Result Unit ServeFault → Type 0
+Serves dump input rest before after (Ok done) = ServesAll dump input before after
+Serves dump input rest before after (Err faults.Read) = ServesUntilRead dump input rest before after
+Serves dump input rest before after (Err faults.Write) = ServesUntilWrite dump input before after
+Serves dump input rest before after (Err faults.OutOfMemory) = Keeps input rest × Keeps before after

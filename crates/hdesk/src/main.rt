@@ -1,0 +1,38 @@
+//! The workbench: a dump is opened, and an analyst's lines are read, run over it, and answered.
+#![tactic(auto)]
+
+mod command;
+mod program;
+mod reply;
+mod room;
+mod run;
+mod sample;
+mod serve;
+#[cfg(test)]
+mod tests;
+
+use std::env;
+use std::io::{self, BufReader};
+use std::process::ExitCode;
+
+/// Binds the program to the words, the standard streams and the memory of the process.
+fn start(rt: &HostRuntime) -> io::Result<u8> {
+    let mut words = env::args(rt)?;
+    let _name = words.next();
+    let words: Vec<String> = words.collect(rt.alloc())?;
+    let mut input = BufReader::new(rt.alloc(), rt.reader())?;
+    let mut output = io::writer(rt);
+    let mut faults = rt.stderr();
+    let status = program::program(rt, words.as_slice(), &mut input, &mut output, &mut faults);
+    Ok(status)
+}
+
+fn main(rt: HostRuntime) -> ExitCode {
+    match start(&rt) {
+        Ok(status) => ExitCode::from(status),
+        Err(_) => {
+            let _ = rt.eprintln("hdesk: OutOfMemory");
+            ExitCode::from(program::FAILED)
+        }
+    }
+}

@@ -1,0 +1,77 @@
+//! A run: a dump's bytes are opened, and lines are served over it.
+ghost use Rattle.std.specs.Prelude.{◌≡◌, ◌≤◌};
+ghost use Rattle.hdesk.specs.Running.{RunsDump};
+
+use crate::serve::{ServeFault, serve};
+use hd_graph::open_plain;
+use hd_log::Front;
+use hd_strength::from_scratch;
+use hd_terms::{NoMemory, ReadFault};
+use std::io::{BufRead, Write};
+use thiserror::Error;
+
+/// Why a run ended early. The texts are what the program tells of it.
+#[derive(Clone, Copy, Debug, PartialEq, Eq, Error)]
+pub enum RunFault {
+    /// The dump can't be read: the fault's name and its place.
+    #[error("{:?} at {}", .0.cause, .0.offset)]
+    Dump(ReadFault),
+    /// Memory ran out before anything was read or written.
+    #[error("OutOfMemory")]
+    Memory,
+    #[error(transparent)]
+    Serve(ServeFault),
+    #[error("cannot close")]
+    Close,
+}
+
+impl From<ReadFault> for RunFault {
+    ghost use Rattle.hdesk.specs.declared.run.RunFault.TheVariants.{Dump};
+
+    ghost from_gives = { λ fault e. e ≡ Dump fault };
+
+    fn from(fault: ReadFault) -> RunFault {
+        RunFault::Dump(fault)
+    }
+}
+
+impl From<NoMemory> for RunFault {
+    ghost use Rattle.hdesk.specs.declared.run.RunFault.TheVariants.{Memory};
+
+    ghost from_gives = { λ _ e. e ≡ Memory };
+
+    fn from(_fault: NoMemory) -> RunFault {
+        RunFault::Memory
+    }
+}
+
+impl From<ServeFault> for RunFault {
+    ghost use Rattle.hdesk.specs.declared.run.RunFault.TheVariants.{Serve};
+
+    ghost from_gives = { λ fault e. e ≡ Serve fault };
+
+    fn from(fault: ServeFault) -> RunFault {
+        RunFault::Serve(fault)
+    }
+}
+
+/// Opens the bytes of a dump and serves one analyst's lines over it.
+///
+/// `workers` is the number of threads that decode, 1 to 16; it isn't used yet.
+pub fn run_bytes<T: AllocGlobal, R: BufRead, W: Write>(
+    rt: &T,
+    bytes: &[u8],
+    workers: u32,
+    input: &mut R,
+    output: &mut W,
+) -> Result<(), RunFault>
+    requires few { workers ≤ 16 }
+    requires some { 1 ≤ workers }
+    ensures { RunsDump bytes.now (R.remaining input.old) (R.remaining input.new) (W.contents output.old) (W.contents output.new) result }
+{
+    let graph = open_plain(rt.alloc(), bytes)?;
+    let front = Front::empty(rt.alloc())?;
+    let strengths = from_scratch(rt.alloc(), &graph, &front)?;
+    serve(rt.alloc(), input, output, &graph, &strengths)?;
+    Ok(())
+}
