@@ -1,13 +1,17 @@
 #!/usr/bin/env bash
-# Measures how long a program takes to open a heap dump and compute one strength, and how much memory it needs,
-# beside a plain reading of the same file in the same run. Prints a Markdown table.
+# Measures how long a program takes to open a heap dump and compute one strength, and how much memory it needs, beside
+# a plain reading of the same file and a plain Rust program that does the same work, in the same run. Prints a Markdown
+# table.
 #
 #   bench/measure.sh PROGRAM [SIZE..]
 #
-# PROGRAM is run as `PROGRAM FILE ID`. It opens FILE, computes the strengths and prints that of the object ID, in one
-# line. Where this line has the word `objects` and a number after it, the table shows that number, else that of the
-# generator. A SIZE is a number of bytes, or a number and M or G (2^20, 2^30 bytes); without any they are 100M and 1G.
-# Each size is measured with 4-byte and with 8-byte identifiers.
+# PROGRAM is run as `PROGRAM FILE ID`. It opens FILE, computes the strengths and prints several lines, as hd_bench does.
+# One has to be `strength Strong`, which is right for the ID that the generator gives, and one `objects N`, where N is
+# how many objects the generator wrote. A SIZE is a number of bytes, or a number and M or G (2^20, 2^30 bytes); without
+# any they are 100M and 1G. Each size is measured with 4-byte and with 8-byte identifiers.
+#
+# The answers of the plain programs are checked too. Where an answer is wrong or a status not 0, the row says `failed`
+# or is left out, standard error tells why, and the script's status is 1.
 #
 # The dumps are generated into a temporary folder, which is removed at the end. It needs room for the largest of them:
 # set TMPDIR where the usual folder has too little. Needed are bash 5, rustc, coreutils, awk, and either GNU time or
@@ -90,11 +94,27 @@ measured() {
     return "$status"
 }
 
-# Runs a command several times and sets `best`, the least time, and `peak_kilobytes`, the greatest peak.
+# Whether the last run printed a line of that form: printed_line FORM COMMAND
+printed_line() {
+    grep -qxE -e "$1" "$room/output" || {
+        complain "$(basename "$2") printed no line \`$1\`, but: $(all_printed)"
+        return 1
+    }
+}
+
+# What the last run printed, in one line.
+all_printed() {
+    head -n 20 "$room/output" | paste -s -d ';'
+}
+
+# Runs a command several times and sets `best`, the least time, and `peak_kilobytes`, the greatest peak. Each run has to
+# print a line of a form, a regular expression: best_of_runs FORM COMMAND..
 best_of_runs() {
-    local times=() peaks=() run
+    local times=() peaks=() run form=$1
+    shift
     for ((run = 0; run < runs; run++)); do
         measured "$@" || return
+        printed_line "$form" "$1" || return
         times+=("$microseconds")
         peaks+=("$kilobytes")
     done
@@ -118,9 +138,9 @@ time_cat() {
     least "${times[@]}"
 }
 
-# Measures one dump and prints its row of the table.
-measure_dump() {
-    local asked=$1 id_size=$2 dump=$room/dump id bytes objects cat_time read_time row
+# Generates the dump and sets `id`, an object that a root holds, and `bytes`, `objects` and `roots`.
+generate() {
+    local dump=$1 asked=$2 id_size=$3
     complain "generating $asked bytes with $id_size-byte identifiers"
     rm -f "$dump"
     id=$("$room/generate" "$dump" "$asked" "$id_size" "$seed" 2>"$room/counts") || {
@@ -129,20 +149,37 @@ measure_dump() {
     }
     bytes=$(stat -c %s "$dump")
     objects=$(sed -nE 's/.* objects ([0-9]+).*/\1/p' "$room/counts")
+    roots=$(sed -nE 's/.* roots ([0-9]+).*/\1/p' "$room/counts")
+}
+
+# A peak of memory in kilobytes, divided by the dump's bytes.
+peak_to_file() {
+    quotient "$(($1 * 1024))" "$bytes" 2
+}
+
+# Measures one dump and prints its row of the table.
+measure_dump() {
+    local asked=$1 id_size=$2 dump=$room/dump id bytes objects roots
+    local cat_time read_time plain_time plain_peak row
+    generate "$dump" "$asked" "$id_size" || return
     cat_time=$(time_cat "$dump")
-    best_of_runs "$room/read" "$dump" || return
+    best_of_runs 'sum [0-9]+' "$room/read" "$dump" || return
     read_time=$best
-    row="| $id_size-byte IDs, seed $seed | $bytes"
-    if ! best_of_runs "$program" "$dump" "$id"; then
-        printf '%s | %s | %s | %s | failed | | |\n' "$row" "$objects" "$(seconds "$cat_time")" "$(seconds "$read_time")"
+    row="| $id_size-byte IDs, seed $seed | $bytes | $objects | $(seconds "$cat_time") | $(seconds "$read_time")"
+    if ! best_of_runs "$id STRONG objects $objects roots $roots reached [0-9]+" "$room/plain" "$dump" "$id"; then
+        echo "$row | failed | | | | | |"
         return 1
     fi
-    complain "it printed: $(head -n 1 "$room/output")"
-    local printed
-    printed=$(sed -nE 's/(^|.*[^a-z])objects[ :=]+([0-9]+).*/\2/p' "$room/output" | head -n 1)
-    printf '%s | %s | %s | %s | %s | %s | %s |\n' "$row" "${printed:-$objects}" \
-        "$(seconds "$cat_time")" "$(seconds "$read_time")" "$(seconds "$best")" \
-        "$(quotient "$best" "$read_time" 2)" "$(quotient "$((peak_kilobytes * 1024))" "$bytes" 2)"
+    plain_time=$best plain_peak=$peak_kilobytes
+    row+=" | $(seconds "$plain_time")"
+    if ! best_of_runs 'strength Strong' "$program" "$dump" "$id" || ! printed_line "objects $objects" "$program"; then
+        echo "$row | failed | | | | $(peak_to_file "$plain_peak") |"
+        return 1
+    fi
+    complain "it printed: $(all_printed)"
+    row+=" | $(seconds "$best")"
+    row+=" | $(quotient "$best" "$read_time" 2) | $(quotient "$best" "$plain_time" 2)"
+    echo "$row | $(peak_to_file "$peak_kilobytes") | $(peak_to_file "$plain_peak") |"
 }
 
 (($# >= 1)) || usage
@@ -158,11 +195,12 @@ here=$(cd -P "$(dirname "$(readlink -f "${BASH_SOURCE[0]}")")" && pwd)
 room=$(mktemp -d)
 trap 'rm -rf "$room"' EXIT
 trap 'exit 130' INT TERM
-rustc --edition 2021 -O "$here/generate.rs" -o "$room/generate"
-rustc --edition 2021 -O "$here/read.rs" -o "$room/read"
+for tool in generate read plain; do
+    rustc --edition 2021 -O "$here/$tool.rs" -o "$room/$tool"
+done
 
-echo '| Dump | Bytes | Objects | `cat`, s | Plain reading, s | Opening and one strength, s | Ratio to plain reading | Peak memory to file |'
-echo '|---|---|---|---|---|---|---|---|'
+echo '| Dump | Bytes | Objects | `cat`, s | Plain reading, s | Plain program, s | Opening and one strength, s | Ratio to plain reading | Ratio to plain program | Peak memory to file | Plain program'"'"'s peak to file |'
+echo '|---|---|---|---|---|---|---|---|---|---|---|'
 failed=0
 for size in "${sizes[@]}"; do
     for id_size in 4 8; do

@@ -4,7 +4,8 @@
 //! Build:  rustc --edition 2021 -O plain.rs
 //! Run:    plain FILE ID
 //!
-//! It believes that the file is right, and ends with a panic where it isn't.
+//! It believes that the file is right, and ends with a panic where it isn't. It prints one line: the ID, its strength,
+//! and the counts of objects, roots and reached objects. Standard error gets when each pass ended, in seconds.
 
 use std::env;
 use std::fs::File;
@@ -120,34 +121,56 @@ fn read_file(path: &str) -> io::Result<Vec<u8>> {
     Ok(bytes)
 }
 
+/// The sub-record at `at`, and where the next one is.
+fn read_row(bytes: &[u8], id_len: usize, at: usize) -> (Row, usize) {
+    let (fields, is_root) = (&bytes[at + 1..], bytes[at] == 0xff);
+    let mut row = Row {
+        id: number(fields, id_len),
+        class: 0,
+        offset: at as u64,
+        count: 0,
+        is_root,
+    };
+    if is_root {
+        return (row, at + 1 + id_len);
+    }
+    assert_eq!(bytes[at], 0x22);
+    row.count = number(&fields[id_len + 4..], 4) as u32;
+    row.class = number(&fields[id_len + 8..], id_len);
+    let next = at + 9 + 2 * id_len + row.count as usize * id_len;
+    (row, next)
+}
+
+/// Adds the sub-records in the first `end` bytes, from `at` on.
+fn read_segment(bytes: &[u8], id_len: usize, mut at: usize, end: usize, rows: &mut Vec<Row>) {
+    while at < end {
+        let (row, next) = read_row(&bytes[..end], id_len, at);
+        rows.push(row);
+        at = next;
+    }
+}
+
 fn read_rows(bytes: &[u8], id_len: usize) -> Vec<Row> {
     let (mut rows, mut at) = (Vec::new(), HEADER_LEN);
     while at < bytes.len() {
-        let end = at + RECORD_HEAD_LEN + number(&bytes[at + 5..], 4) as usize;
-        let mut sub = at + RECORD_HEAD_LEN;
-        while bytes[at] == 0x1c && sub < end {
-            let fields = &bytes[sub + 1..end];
-            let (id, offset, is_root) = (number(fields, id_len), sub as u64, bytes[sub] == 0xff);
-            let (mut class, mut count) = (0, 0);
-            if is_root {
-                sub += 1 + id_len;
-            } else {
-                assert_eq!(bytes[sub], 0x22);
-                count = number(&fields[id_len + 4..], 4) as u32;
-                class = number(&fields[id_len + 8..], id_len);
-                sub += 9 + 2 * id_len + count as usize * id_len;
-            }
-            rows.push(Row {
-                id,
-                class,
-                offset,
-                count,
-                is_root,
-            });
+        let body = at + RECORD_HEAD_LEN;
+        let end = body + number(&bytes[at + 5..], 4) as usize;
+        if bytes[at] == 0x1c {
+            read_segment(bytes, id_len, body, end, &mut rows);
         }
         at = end;
     }
     rows
+}
+
+/// Adds the slots of an array: its elements, then its class.
+fn read_array(bytes: &[u8], id_len: usize, row: &Row, ids: &Ids, slots: &mut Slots) {
+    let start = row.offset as usize + 9 + 2 * id_len;
+    for element in bytes[start..start + row.count as usize * id_len].chunks_exact(id_len) {
+        slots.push(ids, number(element, id_len));
+    }
+    slots.push(ids, row.class);
+    slots.ends.push(slots.codes.len() as u32);
 }
 
 /// The slots of the objects. It believes that no ID has two arrays.
@@ -160,17 +183,11 @@ fn read_slots(bytes: &[u8], id_len: usize, rows: &[Row], ids: &Ids) -> Slots {
         ends,
         absent: Vec::new(),
     };
-    for row in arrays() {
-        let start = row.offset as usize + 9 + 2 * id_len;
-        for element in bytes[start..start + row.count as usize * id_len].chunks_exact(id_len) {
-            slots.push(ids, number(element, id_len));
-        }
-        slots.push(ids, row.class);
-        slots.ends.push(slots.codes.len() as u32);
-    }
+    arrays().for_each(|row| read_array(bytes, id_len, row, ids, &mut slots));
     slots
 }
 
+/// Offers what an object refers to and isn't reached yet.
 fn offer(slots: &Slots, kept: &[Held], object: u32, offers: &mut Vec<(u32, u32)>) {
     for place in slots.places(object) {
         let target = slots.codes[place as usize] as usize;
@@ -180,14 +197,18 @@ fn offer(slots: &Slots, kept: &[Held], object: u32, offers: &mut Vec<(u32, u32)>
     }
 }
 
+/// What the roots hold: it is reached, and offers what it refers to.
+fn start(objects: usize, slots: &Slots, held: &[u32]) -> (Vec<Held>, Vec<(u32, u32)>) {
+    let (mut kept, mut offers) = (vec![Held::default(); objects], Vec::new());
+    held.iter()
+        .for_each(|object| kept[*object as usize].is_reached = true);
+    held.iter()
+        .for_each(|object| offer(slots, &kept, *object, &mut offers));
+    (kept, offers)
+}
+
 fn reach(objects: usize, slots: &Slots, held: &[u32]) -> Vec<Held> {
-    let (mut kept, mut offers, mut stamp) = (vec![Held::default(); objects], Vec::new(), 0);
-    for object in held {
-        kept[*object as usize].is_reached = true;
-    }
-    for object in held {
-        offer(slots, &kept, *object, &mut offers);
-    }
+    let ((mut kept, mut offers), mut stamp) = (start(objects, slots, held), 0);
     while let Some((source, place)) = offers.pop() {
         let target = slots.codes[place as usize];
         if !kept[target as usize].is_reached {
@@ -204,24 +225,26 @@ fn reach(objects: usize, slots: &Slots, held: &[u32]) -> Vec<Held> {
     kept
 }
 
-fn main() -> io::Result<()> {
-    let words: Vec<String> = env::args().collect();
+/// What was computed: whether each object is reached, by the numbers of the IDs.
+struct Answer {
+    ids: Ids,
+    kept: Vec<Held>,
+    roots: usize,
+}
+
+fn open(path: &str) -> io::Result<Answer> {
     let began = Instant::now();
     let passed = |what: &str| eprintln!("{what} {:.3}", began.elapsed().as_secs_f64());
-    let bytes = read_file(&words[1])?;
+    let bytes = read_file(path)?;
     let id_len = number(&bytes[19..], 4) as usize;
     passed("read");
     let rows = read_rows(&bytes, id_len);
     passed("sub-records");
     let mut ids = Ids::with_room(rows.len());
-    rows.iter()
-        .filter(|row| !row.is_root)
-        .for_each(|row| ids.insert(row.id));
-    let roots: Vec<u64> = rows
-        .iter()
-        .filter(|row| row.is_root)
-        .map(|row| row.id)
-        .collect();
+    let arrays = rows.iter().filter(|row| !row.is_root);
+    arrays.for_each(|row| ids.insert(row.id));
+    let roots = rows.iter().filter(|row| row.is_root);
+    let roots: Vec<u64> = roots.map(|row| row.id).collect();
     passed("numbers");
     let slots = read_slots(&bytes, id_len, &rows, &ids);
     drop(rows);
@@ -230,20 +253,26 @@ fn main() -> io::Result<()> {
     let held: Vec<u32> = roots.iter().filter_map(|id| ids.get(*id)).collect();
     let kept = reach(ids.ids.len(), &slots, &held);
     passed("strengths");
-    let wanted = ids
-        .get(u64::from_str_radix(&words[2][2..], 16).unwrap())
-        .unwrap();
-    let strength = if kept[wanted as usize].is_reached {
+    let roots = roots.len();
+    Ok(Answer { ids, kept, roots })
+}
+
+fn main() -> io::Result<()> {
+    let words: Vec<String> = env::args().collect();
+    let Answer { ids, kept, roots } = open(&words[1])?;
+    let wanted = u64::from_str_radix(&words[2][2..], 16).unwrap();
+    let strength = if kept[ids.get(wanted).unwrap() as usize].is_reached {
         "STRONG"
     } else {
         "UNREACHABLE"
     };
-    let reached = kept.iter().filter(|held| held.is_reached).count();
-    println!(
-        "{} {strength} objects {} roots {} reached {reached}",
-        words[2],
+    let (objects, reached) = (
         kept.len(),
-        roots.len()
+        kept.iter().filter(|held| held.is_reached).count(),
+    );
+    println!(
+        "{} {strength} objects {objects} roots {roots} reached {reached}",
+        words[2]
     );
     Ok(())
 }

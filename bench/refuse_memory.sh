@@ -1,41 +1,110 @@
 #!/usr/bin/env bash
-# Runs hdesk on its stored input under smaller and smaller limits of its address space, and looks for a wrong answer:
-# each run has to answer all lines rightly, or to end with the named fault of want of memory and nothing wrong written.
+# Runs hdesk on its stored input while memory is refused to it, and looks for a wrong answer: each run has to answer all
+# lines rightly, or to end with the named fault of want of memory and nothing written.
 #
 #   bench/refuse_memory.sh PROGRAM
 #
-# Prints how many limits gave each outcome. Ends with 1 where a run did anything else. A limit under which the system
-# can't load the program at all is counted apart.
+# There are two sweeps:
+#
+# - Under smaller and smaller limits of the address space, from 4,000 KiB down in steps of one page, to the first limit
+#   under which the system's loader can't start the program.
+# - With the N-th allocation alone refused, for N = 1, 2, .. up to the first run in which nothing was left to refuse.
+#   `refuse.rs`, put before the C library, refuses it.
+#
+# Prints for each sweep how many runs had each outcome. Its status is 1 where a run did anything else, and where the
+# second sweep doesn't end or has not met both faults. Needed are bash, rustc, coreutils and the GNU C library.
 set -euo pipefail
 export LC_ALL=C
 
+readonly most_allocations=1000
+
 [[ $# -eq 1 && -x $1 ]] || { echo 'usage: bench/refuse_memory.sh PROGRAM' >&2; exit 64; }
 program=$(readlink -f "$1")
+here=$(cd -P "$(dirname "$(readlink -f "${BASH_SOURCE[0]}")")" && pwd)
 room=$(mktemp -d)
 trap 'rm -rf "$room"' EXIT
+rustc --edition 2021 -O --crate-type cdylib -C panic=abort "$here/refuse.rs" -o "$room/refuse.so"
 
+printf 'strength 0x2\nquit\n' >"$room/input"
 right=$'ok 1\nSTRONG\nok 0'
-answered=0 at_opening=0 later=0 not_loaded=0 wrong=0
 
-# From 4,000 KiB of address space down to nothing, in steps of one page.
-for ((limit = 4000; limit > 0; limit -= 4)); do
-    status=0
-    printf 'strength 0x2\nquit\n' >"$room/input"
-    (ulimit -v "$limit"; exec "$program" <"$room/input" >"$room/output" 2>"$room/faults") 2>/dev/null || status=$?
+# Sets `outcome` to the name of what the last run did, from its status and what it wrote.
+judge() {
+    local output faults
     output=$(<"$room/output") faults=$(<"$room/faults")
+    outcome=wrong
     if [[ $status -eq 0 && $output == "$right" && -z $faults ]]; then
-        answered=$((answered + 1))
-    elif [[ $status -eq 2 && -z $output && $faults == 'hdesk: OutOfMemory at 0' ]]; then
-        at_opening=$((at_opening + 1))
-    elif [[ $status -eq 1 && -z $output && $faults == 'hdesk: OutOfMemory' ]]; then
-        later=$((later + 1))
-    elif [[ $status -ge 126 && -z $output && $faults != hdesk:* ]]; then
-        not_loaded=$((not_loaded + 1))
-    else
-        wrong=$((wrong + 1))
-        printf 'at %s KiB: status %s, output %q, faults %q\n' "$limit" "$status" "$output" "$faults"
+        outcome=answered
+    elif [[ $status -eq 2 && ! -s $room/output && $faults == 'hdesk: OutOfMemory at 0' ]]; then
+        outcome=at_opening
+    elif [[ $status -eq 1 && ! -s $room/output && $faults == 'hdesk: OutOfMemory' ]]; then
+        outcome=elsewhere
+    elif [[ $status -eq 127 && ! -s $room/output && $faults != hdesk:* ]]; then
+        outcome=not_loaded
     fi
-done
-printf 'all answered %s, OutOfMemory at the opening %s, OutOfMemory after it %s, not loaded %s, anything else %s\n' \
-    "$answered" "$at_opening" "$later" "$not_loaded" "$wrong"
-[[ $wrong -eq 0 ]]
+}
+
+# Counts the outcome of the last run, and prints a wrong one: count WHICH_RUN
+count() {
+    counts[$outcome]=$((counts[$outcome] + 1))
+    if [[ $outcome == wrong ]]; then
+        printf '%s: status %s, output %q, faults %q\n' "$1" "$status" "$(<"$room/output")" "$(<"$room/faults")"
+    fi
+}
+
+run_under_limit() {
+    status=0
+    (ulimit -v "$1"; exec "$program" <"$room/input" >"$room/output" 2>"$room/faults") || status=$?
+    judge
+}
+
+run_without_allocation() {
+    status=0
+    (LD_PRELOAD=$room/refuse.so REFUSE=$1 exec "$program" <"$room/input" >"$room/output" 2>"$room/faults" \
+        3>"$room/mark") || status=$?
+    judge
+    [[ $outcome != not_loaded ]] || outcome=wrong
+}
+
+forget_counts() {
+    counts=([answered]=0 [at_opening]=0 [elsewhere]=0 [wrong]=0)
+}
+
+print_counts() {
+    printf '%s: refused at the opening %s, refused elsewhere %s, answered all %s, anything else %s; %s\n' \
+        "$1" "${counts[at_opening]}" "${counts[elsewhere]}" "${counts[answered]}" "${counts[wrong]}" "$2"
+}
+
+sweep_limits() {
+    local limit
+    forget_counts
+    for ((limit = 4000; limit > 0; limit -= 4)); do
+        run_under_limit "$limit"
+        [[ $outcome != not_loaded ]] || break
+        count "at $limit KiB"
+    done
+    print_counts 'limits of the address space' "not loaded at $limit KiB"
+    ((counts[wrong] == 0))
+}
+
+sweep_allocations() {
+    local n end=
+    forget_counts
+    for ((n = 1; n <= most_allocations; n++)); do
+        run_without_allocation "$n"
+        if [[ ! -s $room/mark ]]; then
+            end="nothing left to refuse at run $n"
+            [[ $outcome == answered ]] || outcome=wrong
+        fi
+        count "without allocation $n"
+        [[ -z $end ]] || break
+    done
+    print_counts 'one allocation refused' "${end:-no end after $most_allocations runs}"
+    [[ -n $end ]] && ((counts[wrong] == 0 && counts[at_opening] > 0 && counts[elsewhere] > 0))
+}
+
+declare -A counts
+failed=0
+sweep_limits || failed=1
+sweep_allocations || failed=1
+exit "$failed"

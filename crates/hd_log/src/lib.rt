@@ -7,7 +7,7 @@ use hd_terms::{Event, NoMemory};
 use std::alloc::Global;
 use std::marker::Model;
 
-/// The log, as one request sees it. Only the empty log can be made yet.
+/// A log of edits as it stands at one time. Only the empty log can be made yet.
 #[derive(Drop)]
 pub struct Front {
     events: Vec<Event>,

@@ -94,6 +94,6 @@ pub fn read_records(alloc: Global, bytes: &[u8]) -> Result<Records, ReadFault>
         note_segment(&mut spans, at, front)?;
         rest = front.after;
     }
-    let segments = Segments { spans };
+    let segments = Segments::from_vec(spans);
     Ok(Records { id_size, segments })
 }

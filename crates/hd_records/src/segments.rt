@@ -7,7 +7,7 @@ use std::marker::Model;
 /// Where the bodies of the segments lie in the file, in file order.
 #[derive(Debug, Drop)]
 pub struct Segments {
-    pub(crate) spans: Vec<Span>,
+    spans: Vec<Span>,
 }
 
 impl Model for Segments {
@@ -20,6 +20,20 @@ impl Model for Segments {
 }
 
 impl Segments {
+    /// The list of these places.
+    pub fn from_vec(spans: Vec<Span>) -> Segments
+        ensures { result ≡ spans.items }
+    {
+        Segments { spans }
+    }
+
+    /// The places as a plain list.
+    pub fn into_vec(self) -> Vec<Span>
+        ensures { result.items ≡ self }
+    {
+        self.spans
+    }
+
     /// How many segments there are.
     pub fn len(&self) -> usize
         ensures { result ≡ length self.now }

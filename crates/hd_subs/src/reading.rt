@@ -1,8 +1,6 @@
 //! Reading the sub-records of a segment, one after another.
 ghost use Rattle.std.specs.Prelude.{◌≡◌, ◌+◌, ◌≤◌, ◌<◌, ◌^◌, [], ◌∷◌, length, IfOk, IfErr, OnOk, OnErr, MatchOption};
-ghost use Rattle.byteorder.specs.Endian.{big_number};
 ghost use Rattle.hd_terms.specs.declared.errors.Cause.TheVariants.{ShortSub};
-ghost use Rattle.hd_terms.specs.Records.{id_len};
 ghost use Rattle.hd_terms.specs.ReadFaults.{IsStuck};
 ghost use Rattle.hd_subs.specs.Rows.{row_view, array_kind};
 ghost use Rattle.hd_subs.specs.Fronts.{BeginsWithSub};
@@ -19,17 +17,6 @@ use std::alloc::Global;
 struct Front<'a> {
     row: Row,
     after: &'a [u8],
-}
-
-/// The ID that some bytes begin with.
-fn read_id(bytes: &[u8], id_size: IdSize) -> u64
-    requires { id_len id_size ≤ length bytes.now }
-    ensures { result ≡ big_number (id_len id_size) bytes.now }
-{
-    match id_size {
-        IdSize::Four => u64::from(BigEndian::read_u32(bytes)),
-        IdSize::Eight => BigEndian::read_u64(bytes),
-    }
 }
 
 /// The kind of an array whose IDs have this size.
@@ -52,7 +39,7 @@ fn read_root(fields: &[u8], id_size: IdSize, offset: u64) -> Option<Front<'_>>
         return None;
     }
     let row = Row {
-        id: read_id(fields, id_size),
+        id: id_size.read(fields),
         class: 0,
         offset,
         count: 0,
@@ -79,8 +66,8 @@ fn read_array(fields: &[u8], id_size: IdSize, offset: u64) -> Option<Front<'_>>
         return None;
     }
     let row = Row {
-        id: read_id(fields, id_size),
-        class: read_id(&fields[id_len + 8..], id_size),
+        id: id_size.read(fields),
+        class: id_size.read(&fields[id_len + 8..]),
         offset,
         count,
         kind: kind_of_array(id_size),

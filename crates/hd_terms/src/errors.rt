@@ -51,7 +51,9 @@ pub enum Cause {
 /// A dump's fault, and its place: an offset into the file in bytes, 0 for want of memory.
 #[derive(Clone, Copy, Debug, PartialEq, Eq)]
 pub struct ReadFault {
+    /// What is wrong.
     pub cause: Cause,
+    /// Where, in bytes from the start of the file, from 0.
     pub offset: u64,
 }
 

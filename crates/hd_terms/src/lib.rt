@@ -25,11 +25,17 @@ pub use laws::{one_reading, settled_supports_give_strengths};
 /// finalizer; that it stands between `Weak` and `Phantom` is this project's choice.
 #[derive(Clone, Copy, Debug, PartialEq, Eq, PartialOrd, Ord)]
 pub enum Strength {
+    /// No root path leads to it.
     Unreachable,
+    /// A phantom reference refers to it, and nothing better leads to it.
     Phantom,
+    /// It can be reached through a `FinalReference`, and not better.
     Final,
+    /// It can be reached through a weak reference, and not better.
     Weak,
+    /// It can be reached through a soft reference, and not better.
     Soft,
+    /// It can be reached without going through any referent.
     Strong,
 }
 

@@ -325,3 +325,27 @@ module _ (dump : Dump) (input rest before after : Option (List ℕ)) (kept : Lis
             let one = ran r.seen r.written r.is_open in
             at_end (λ all. (written : List ℕ) × Appends before after'' written × IsServedUntilWrite dump all written) (r.written ++ one.0, appended one.0 one.1, one.2)
         at_result (Err faults.OutOfMemory) ran = absurd (ran r.seen r.written r.is_open).2
+
+-- all replies are a front of them
+until_write : (dump : Dump) (input written : List ℕ) → IsServed dump input written → IsServedUntilWrite dump input written
+until_write dump input written s = record {
+  seen = input;
+  rest = [];
+  front = sym (append-nil input);
+  lines = lines_of input;
+  read = inr (refl, refl);
+  turns = s.turns;
+  session = s.session;
+  more = [];
+  written_is = append-nil written ∙ s.written_is;
+}
+
+-- what was written is handed on
+pub served_kept : (dump : Dump) (input before after after' : Option (List ℕ)) → ServesAll dump input before after → Keeps after after' → ServesAll dump input before after'
+served_kept dump None before after after' s same = tt
+served_kept dump (Some bytes) before after after' s same = (s.0, appends_kept before after after' s.0 s.1 same, s.2)
+
+-- it can't be
+pub served_lost : (dump : Dump) (input before after after' : Option (List ℕ)) → ServesAll dump input before after → Keeps after after' → ServesUntilWrite dump input before after'
+served_lost dump None before after after' s same = tt
+served_lost dump (Some bytes) before after after' s same = (s.0, appends_kept before after after' s.0 s.1 same, until_write dump bytes s.0 s.2)

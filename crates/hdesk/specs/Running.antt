@@ -15,11 +15,19 @@ use Rattle.hdesk.specs.Serving.{Serves}
 abbrev pub ServesDump : (bytes : List ℕ) → (input rest before after : Option (List ℕ)) → Result (Unit {0}) ServeFault → Type 0
 ServesDump bytes input rest before after result = (dump : Dump) × IsDumpOf bytes dump × Serves dump input rest before after result
 
--- how a run ends: lines were served to their end; or the dump has this fault, or memory ran out, and nothing was
--- written; or serving ended early. A board that can't be closed isn't met
+-- how a run ends: lines were served to their end; or the dump has this fault, or memory ran out, and nothing was read
+-- or written; or serving ended early. A board that can't be closed isn't met
 abbrev pub RunsDump : (bytes : List ℕ) → (input rest before after : Option (List ℕ)) → Result (Unit {0}) RunFault → Type 0
 RunsDump bytes input rest before after (Ok done) = ServesDump bytes input rest before after (Ok done)
-RunsDump bytes input rest before after (Err (faults.Dump f)) = ((f ≡ fault OutOfMemory 0) ⊎ IsReadFault bytes f) × Keeps before after
-RunsDump bytes input rest before after (Err faults.Memory) = Keeps before after
+RunsDump bytes input rest before after (Err (faults.Dump f)) = ((f ≡ fault OutOfMemory 0) ⊎ IsReadFault bytes f) × Keeps input rest × Keeps before after
+RunsDump bytes input rest before after (Err faults.Memory) = Keeps input rest × Keeps before after
 RunsDump bytes input rest before after (Err (faults.Serve f)) = ServesDump bytes input rest before after (Err f)
 RunsDump bytes input rest before after (Err faults.Close) = ⊥
+
+-- the exit status that a run ends with
+abbrev pub status : Result (Unit {0}) RunFault → ℕ
+status (Ok done) = 0
+status (Err (faults.Dump f)) = 2
+status (Err faults.Memory) = 1
+status (Err (faults.Serve f)) = 1
+status (Err faults.Close) = 1

@@ -9,14 +9,18 @@ ghost use Rattle.hdesk.specs.Commands.{reading_seen, words_between};
 pub enum Command {
     /// The strength of the object of an ID.
     Strength(u64),
+    /// The end of the session.
     Quit,
 }
 
 /// Why a line asks for nothing.
 #[derive(Clone, Copy, Debug, PartialEq, Eq)]
 pub enum LineFault {
+    /// It has more bytes than the longest line.
     LineTooLong,
+    /// Its first word is no command, or it has no word.
     UnknownCommand,
+    /// The words after the first are not what the command takes.
     BadArgument,
 }
 

@@ -27,12 +27,23 @@ fn start(rt: &HostRuntime) -> io::Result<u8> {
     Ok(status)
 }
 
+/// The exit status of a run that couldn't start: a word isn't UTF-8, or memory ran out. The fault is told.
+fn not_started(rt: &HostRuntime, kind: io::ErrorKind) -> u8 {
+    match kind {
+        io::ErrorKind::InvalidData => {
+            let _ = rt.eprintln("usage: hdesk");
+            program::USAGE
+        }
+        _ => {
+            let _ = rt.eprintln("hdesk: OutOfMemory");
+            program::FAILED
+        }
+    }
+}
+
 fn main(rt: HostRuntime) -> ExitCode {
     match start(&rt) {
         Ok(status) => ExitCode::from(status),
-        Err(_) => {
-            let _ = rt.eprintln("hdesk: OutOfMemory");
-            ExitCode::from(program::FAILED)
-        }
+        Err(error) => ExitCode::from(not_started(&rt, error.kind())),
     }
 }

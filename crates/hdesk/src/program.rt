@@ -1,6 +1,8 @@
 //! The whole program, over given streams.
-ghost use Rattle.std.specs.Prelude.{◌≡◌, ◌≢◌, []};
-ghost use Rattle.hdesk.specs.Running.{ServesDump};
+ghost use Rattle.std.specs.Prelude.{◌≡◌, ◌≢◌, [], Result, Err};
+ghost use Rattle.std.specs.Io.KnownBytes.{Keeps};
+ghost use Rattle.hdesk.specs.declared.run.RunFault.{RunFault};
+ghost use Rattle.hdesk.specs.Running.{RunsDump, status};
 
 use crate::run::{RunFault, run_bytes};
 use crate::sample::SAMPLE;
@@ -22,7 +24,9 @@ pub const USAGE: u8 = 64;
 const WORKERS: u32 = 4;
 
 /// The exit status of a failed run.
-fn status_of(fault: &RunFault) -> u8 {
+fn status_of(fault: &RunFault) -> u8
+    ensures { result ≡ status (Err fault.now) }
+{
     match fault {
         RunFault::Dump(_) => BAD_DUMP,
         RunFault::Memory | RunFault::Serve(_) | RunFault::Close => FAILED,
@@ -39,6 +43,9 @@ pub fn program<T: AllocGlobal, R: BufRead, W: Write, E: Write>(
     faults: &mut E,
 ) -> u8
     ensures usage { words.now ≢ [] → result ≡ USAGE }
+    ensures untouched { words.now ≢ [] → Keeps (R.remaining input.old) (R.remaining input.new) × Keeps (W.contents output.old) (W.contents output.new) }
+    ensures run { words.now ≡ [] → (ended : Result (Unit {0}) RunFault) × (result ≡ status ended)
+        × RunsDump SAMPLE (R.remaining input.old) (R.remaining input.new) (W.contents output.old) (W.contents output.new) ended }
 {
     if !words.is_empty() {
         let _ = writeln!(faults, "usage: hdesk");

@@ -19,8 +19,10 @@ pub enum RunFault {
     /// Memory ran out before anything was read or written.
     #[error("OutOfMemory")]
     Memory,
+    /// Serving ended early.
     #[error(transparent)]
     Serve(ServeFault),
+    /// The log could not be closed; it isn't answered yet.
     #[error("cannot close")]
     Close,
 }

@@ -43,7 +43,9 @@ impl From<AllocError> for ServeFault {
 /// Whether lines are read on.
 #[derive(Clone, Copy, Debug, PartialEq, Eq)]
 pub enum Flow {
+    /// The next line is read.
     GoesOn,
+    /// The line was `quit`.
     Quits,
 }
 
@@ -229,11 +231,12 @@ fn run_input<R: BufRead, W: Write>(
             Flow::Quits => return Ok(()),
         }
     }
+    flush(writer)?;
     Err(ServeFault::Read)
 }
 
 /// Serves the lines of a reader to a writer, until the input ends, a line is `quit`, or a fault. All memory is taken
-/// before anything is read.
+/// before anything is read. The writer is flushed before each refill and at the end.
 pub fn serve<R: BufRead, W: Write>(
     alloc: Global,
     reader: &mut R,
@@ -250,5 +253,7 @@ pub fn serve<R: BufRead, W: Write>(
     let mut reply = Room::new(alloc)?;
     run_input(
         reader, writer, graph, strengths, &mut chunk, &mut line, &mut reply,
-    )
+    )?;
+    flush(writer)?;
+    Ok(())
 }

@@ -4,7 +4,9 @@ use crate::run::{RunFault, run_bytes};
 use crate::sample::SAMPLE;
 use crate::serve::ServeFault;
 use hd_graph::open_plain;
-use hd_terms::{Cause, EdgeKind, ReadFault, RootKind, Slot};
+use hd_log::Front;
+use hd_strength::{Strengths, from_scratch};
+use hd_terms::{Cause, EdgeKind, ReadFault, RootKind, Slot, Strength, Support};
 use std::alloc::{AllocError, Global};
 use std::io::{self, BufRead, Read, Write};
 use std::test::Fail;
@@ -260,9 +262,11 @@ fn reader_that_fails(rt: HostRuntime) {
     assert_eq!(rt; written.as_slice(), b"ok 1\nSTRONG\n".as_slice());
 }
 
-/// A reader that gives one space at a time, without end.
+/// A reader that gives one space at a time, without end, and counts them.
 #[derive(Drop)]
-struct Spaces;
+struct Spaces {
+    given: u64,
+}
 
 impl Read for Spaces {
     fn read(&mut self, _buf: &mut [u8]) -> io::Result<usize> {
@@ -272,6 +276,7 @@ impl Read for Spaces {
 
 impl BufRead for Spaces {
     fn fill_buf(&mut self) -> io::Result<&[u8]> {
+        self.given = self.given.saturating_add(1);
         Ok(b" ")
     }
 
@@ -281,8 +286,10 @@ impl BufRead for Spaces {
 #[test]
 fn reader_without_end(rt: HostRuntime) {
     let mut written = Vec::new(rt.alloc());
-    let ended = run_bytes(&rt, &SAMPLE, 1, &mut Spaces, &mut written);
+    let mut spaces = Spaces { given: 0 };
+    let ended = run_bytes(&rt, &SAMPLE, 1, &mut spaces, &mut written);
     assert_eq!(rt; ended, Err(RunFault::Serve(ServeFault::Read)));
+    assert_eq!(rt; spaces.given, 16_777_216);
     assert_eq!(rt; written.len(), 0);
 }
 
@@ -322,6 +329,48 @@ fn writer_that_fails(rt: HostRuntime) {
         let ended = run_bytes(&rt, &SAMPLE, 1, &mut input, &mut output);
         assert_eq!(rt; ended, Err(RunFault::Serve(ServeFault::Write)));
         assert_eq!(rt; output.taken.as_slice(), b"ok 1\nST".as_slice());
+    }
+}
+
+/// A writer that hands on what it has taken when it is flushed, and can be flushed so many times.
+#[derive(Drop)]
+struct HoldingWriter {
+    taken: Vec<u8>,
+    handed_on: usize,
+    flushes: u32,
+}
+
+impl Write for HoldingWriter {
+    fn write(&mut self, buf: &[u8]) -> io::Result<usize> {
+        self.taken.extend_from_slice(buf)?;
+        Ok(buf.len())
+    }
+
+    fn flush(&mut self) -> io::Result<()> {
+        if self.flushes == 0 {
+            return Err(io::Error::from(io::ErrorKind::Interrupted));
+        }
+        self.flushes -= 1;
+        self.handed_on = self.taken.len();
+        Ok(())
+    }
+}
+
+#[test]
+fn writer_that_holds(rt: HostRuntime) {
+    for (flushes, handed_on, ended) in [
+        (3, 12, Ok(())),
+        (2, 0, Err(RunFault::Serve(ServeFault::Write))),
+        (0, 0, Err(RunFault::Serve(ServeFault::Write))),
+    ] {
+        let mut output = HoldingWriter {
+            taken: Vec::new(rt.alloc()),
+            handed_on: 0,
+            flushes,
+        };
+        let mut input: &[u8] = b"strength 0x2";
+        assert_eq!(rt; run_bytes(&rt, &SAMPLE, 1, &mut input, &mut output), ended);
+        assert_eq!(rt; output.handed_on, handed_on);
     }
 }
 
@@ -385,6 +434,57 @@ fn texts_of_faults(rt: HostRuntime) -> Result<(), Fail> {
         assert_eq!(rt; fault.to_string(rt.alloc())?.as_str(), text);
     }
     assert_eq!(rt; BAD_DUMP, 2);
+    Ok(())
+}
+
+/// The strengths of all objects of a dump under the empty log.
+fn strengths_of(rt: &HostRuntime, dump: &[u8]) -> Option<Strengths> {
+    let graph = open_plain(rt.alloc(), dump).ok()?;
+    let front = Front::empty(rt.alloc()).ok()?;
+    from_scratch(rt.alloc(), &graph, &front).ok()
+}
+
+#[test]
+fn cycle_behind_one_edge(rt: HostRuntime) -> Result<(), Fail> {
+    // a root on 1, [1: 2], [2: 3], [3: 2 4], [4: 5], [5: 4]
+    let records = [
+        0x1c, 0, 0, 0, 0, 0, 0, 0, 114, 0xff, 0, 0, 0, 1, 0x22, 0, 0, 0, 1, 0, 0, 0, 0, 0, 0, 0, 1,
+        0, 0, 0, 0, 0, 0, 0, 2, 0x22, 0, 0, 0, 2, 0, 0, 0, 0, 0, 0, 0, 1, 0, 0, 0, 0, 0, 0, 0, 3,
+        0x22, 0, 0, 0, 3, 0, 0, 0, 0, 0, 0, 0, 2, 0, 0, 0, 0, 0, 0, 0, 2, 0, 0, 0, 4, 0x22, 0, 0,
+        0, 4, 0, 0, 0, 0, 0, 0, 0, 1, 0, 0, 0, 0, 0, 0, 0, 5, 0x22, 0, 0, 0, 5, 0, 0, 0, 0, 0, 0,
+        0, 1, 0, 0, 0, 0, 0, 0, 0, 4,
+    ];
+    let file = file_of(rt.alloc(), &records)?;
+    let supports = [
+        Support::Root(0),
+        Support::Edge {
+            source: 0,
+            slot: Slot::Element(0),
+        },
+        Support::Edge {
+            source: 1,
+            slot: Slot::Element(0),
+        },
+        Support::Edge {
+            source: 2,
+            slot: Slot::Element(1),
+        },
+        Support::Edge {
+            source: 3,
+            slot: Slot::Element(0),
+        },
+    ];
+    match strengths_of(&rt, file.as_slice()) {
+        Some(strengths) => {
+            assert_eq!(rt; strengths.len(), 5);
+            for o in 0..5u32 {
+                assert!(rt; strengths.strength(o) == Strength::Strong);
+                assert!(rt; strengths.support(o) == supports[o as usize]);
+                assert!(rt; o == 0 || strengths.stamp(o - 1) < strengths.stamp(o));
+            }
+        }
+        None => assert!(rt; false, "the dump opens"),
+    }
     Ok(())
 }
 

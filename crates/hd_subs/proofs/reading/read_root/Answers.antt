@@ -9,4 +9,4 @@ returns-then-fields-len c = short_root c.args.id_size c.args.fields.now (omega a
 pub returns : goal.returns
 returns c =
     rw (take_rest c.args.fields.now c.bytes-len.result, c.bytes-len.ensures)
-    (begins_root c.args.id_size c.args.offset c.args.fields.now c.read_id.result (omega arith) c.read_id.ensures)
+    (begins_root c.args.id_size c.args.offset c.args.fields.now c.read.result (omega arith) c.read.ensures)

@@ -47,5 +47,11 @@ loop-preserved g c =
     c.run_chunk.new.line
     (subst (λ f. RunsBytes c.args.graph.now c.as_slice-bytes.result.now c.loop.line c.run_chunk.new.line (g.W.Write.contents c.flush.new.writer) (g.W.Write.contents c.run_chunk.new.writer) (Ok f)) c.in-GoesOn.is c.in_ok-run_chunk.ensures)
 
+pub returns-in_err-flush-2 : goal.returns-in_err-flush-2
+returns-in_err-flush-2 g c =
+    let p = err_from_is_err_and c.from_residual-in_err-flush-2.result c.from_residual-in_err-flush-2.ensures.1 in
+    subst (Serves c.args.graph.now _ _ _ _) (sym (p.1 ∙ ap Err p.2 ∙ ap Err c.in_err-flush-2.ensures.write))
+    (flush_ends c.args.graph.now _ _ _ _ _ c.loop.invariant _ c.in_err-flush-2.ensures.bytes)
+
 pub returns : goal.returns
-returns g c = read_ends c.args.graph.now _ _ _ _ _ c.loop.invariant _ _ (Keeps-refl _) (Keeps-refl _)
+returns g c = read_ends c.args.graph.now _ _ _ _ _ c.loop.invariant _ _ c.in_ok-flush-2.ensures.bytes (Keeps-refl _)
