@@ -1,18 +1,20 @@
-//! Opens a dump and answers the strength of one object, for measuring: `hd_bench FILE ID`.
+//! Opens a dump and answers the strength of one object, for measuring: `hd_bench FILE ID`. With a third word, as in
+//! `hd_bench FILE ID edits`, it also cuts the object's first reference to an object, and takes that back.
 //!
-//! It prints the objects and roots of the dump, the strength, and the microseconds that each part took. Without words
-//! it does nothing.
+//! It prints the objects and roots of the dump, the strength, what fell and came back, and the microseconds that each
+//! part took. Without words it does nothing.
 #![tactic(auto)]
 
 use anyhow::{Context, Result, anyhow};
 use hd_graph::{Graph, open_plain};
-use hd_log::Front;
 use hd_records::check_size;
-use hd_strength::{Strengths, from_scratch};
+use hd_state::State;
+use hd_terms::{Edit, Event, Slot, What};
 use std::env;
 use std::fs::{self, File};
 use std::io::Read;
 use std::rt::{Clock, Env, Files};
+use std::sync::Arc;
 use std::time::Instant;
 
 /// The bytes of a file, read at once into exactly as much memory.
@@ -42,43 +44,88 @@ fn lap(rt: &(impl Print + Clock), name: &str, start: Instant) -> Result<Instant>
     Ok(Instant::now(rt)?)
 }
 
-fn answer(rt: &impl Print, graph: &Graph, strengths: &Strengths, id: u64) -> Result<()> {
+fn answer(rt: &impl Print, state: &State, id: u64) -> Result<()> {
+    let graph = state.graph();
     let objects = graph.objects();
     let roots = graph.roots_len();
     println!(rt; "objects {objects}")?;
     println!(rt; "roots {roots}")?;
     match graph.index_of(id) {
-        Some(o) if o < strengths.len() => {
-            let strength = strengths.strength(o);
+        Some(o) => {
+            let strength = state.strength(o);
             println!(rt; "strength {strength:?}")?;
         }
-        _ => println!(rt; "no such object")?,
+        None => println!(rt; "no such object")?,
     }
     Ok(())
 }
 
-fn measure<R: Files<File = File> + Clock + Print + AllocGlobal>(
+/// The first slot of an object that refers to an object.
+fn first_reference(graph: &Graph, id: u64) -> Option<Slot> {
+    let o = graph.index_of(id)?;
+    for place in 0..graph.slots_len(o) {
+        let read = graph.slots(o, place);
+        if read.target.is_some() {
+            return Some(read.slot);
+        }
+    }
+    None
+}
+
+/// Steps a state to one more event, and prints what it did.
+fn step(rt: &(impl Print + AllocGlobal), state: &State, what: What) -> Result<State> {
+    let event = Event { who: 0, what };
+    if let Some(fault) = state.front().next_fault(&event) {
+        return Err(anyhow!("{fault:?}"));
+    }
+    let (next, done) = state
+        .step(rt.alloc(), event)
+        .map_err(|_| anyhow!("out of memory"))?;
+    let fell = done.fell;
+    let back = done.back;
+    println!(rt; "fell {fell} back {back}")?;
+    Ok(next)
+}
+
+/// Cuts the first reference of an object, and takes that back.
+fn cut_and_undo<R: Clock + Print + AllocGlobal>(rt: &R, state: &State, id: u64) -> Result<()> {
+    let slot = first_reference(state.graph(), id).context("the object refers to none")?;
+    let start = Instant::now(rt)?;
+    let next = step(rt, state, What::Do(Edit::Cut(id, slot)))?;
+    let cut = lap(rt, "cut", start)?;
+    let _last = step(rt, &next, What::Undo(0))?;
+    let _done = lap(rt, "undo", cut)?;
+    Ok(())
+}
+
+/// Opens a dump and computes the strengths of its objects.
+fn opened<R: Files<File = File> + Clock + Print + AllocGlobal>(
     rt: &R,
     path: &str,
-    id: u64,
-) -> Result<()> {
+) -> Result<State> {
     let start = Instant::now(rt)?;
     let bytes = read_file(rt, path)?;
     let read = lap(rt, "read", start)?;
     let graph = open_plain(rt.alloc(), bytes.as_slice()).map_err(|fault| anyhow!("{fault:?}"))?;
     drop(bytes);
     let opened = lap(rt, "open", read)?;
-    let front = Front::empty(rt.alloc()).map_err(|_| anyhow!("out of memory"))?;
-    let strengths = from_scratch(rt.alloc(), &graph, &front).map_err(|_| anyhow!("out of memory"))?;
+    let graph = Arc::new(rt.alloc(), graph).map_err(|_| anyhow!("out of memory"))?;
+    let state = State::open(rt.alloc(), graph).map_err(|_| anyhow!("out of memory"))?;
     let _done = lap(rt, "strengths", opened)?;
-    answer(rt, &graph, &strengths, id)
+    Ok(state)
 }
 
 fn main(rt: HostRuntime) -> Result<()> {
     let mut words = env::args(&rt)?;
     let _program = words.next();
-    let (Some(path), Some(id)) = (words.next(), words.next()) else {
+    let (Some(path), Some(word)) = (words.next(), words.next()) else {
         return Ok(());
     };
-    measure(&rt, path.as_str(), id_of(id.as_str())?)
+    let id = id_of(word.as_str())?;
+    let state = opened(&rt, path.as_str())?;
+    answer(&rt, &state, id)?;
+    if words.next().is_some() {
+        cut_and_undo(&rt, &state, id)?;
+    }
+    Ok(())
 }

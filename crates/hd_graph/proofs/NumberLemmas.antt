@@ -1,10 +1,12 @@
 -- Numbering arrays, one sub-record after another.
 use Rattle.std.proofs.Common.{◌≡◌, ◌∙◌, ℕ, ◌+◌, ◌<◌, List, [], ◌∷◌, ◌++◌, take, drop, Option, Some, None, Bool, true, false, ◌||◌, cond, eqb, eqb-true, refl, sym, ap, All}
-use Rattle.std.specs.List.{list_any, filter_map, cons_option, find, slice_get}
+use Rattle.std.specs.List.{list_any, filter_map, cons_option, find, slice_get, IsDistinct}
+use Rattle.std.specs.Cmp.{nat_eq_equiv}
 use Rattle.std.specs.Option.{option_or}
 use Rattle.std.proofs.lemmas.List.{append-nil, map-append, take_more, take-append-drop}
 use Rattle.std.proofs.lemmas.List.Elements.{filter_map-append, All-push, All-nil}
 use Rattle.std.proofs.lemmas.List.Folds.{list_any-append, find-append}
+use Rattle.std.proofs.lemmas.Map.Keys.{IsDistinct-push}
 use Rattle.std.proofs.lemmas.Option.{get_or_from_slice_get, slice_get_within}
 use Rattle.hd_terms.specs.SubRecords.{Sub, Item, ObjArray}
 use Rattle.hd_terms.specs.SubRecords as subs
@@ -20,7 +22,8 @@ abbrev same : ℕ → ℕ
 same id = id
 
 pub begin : IsNumbered [] [] []
-begin = record { ids_are = refl; known = λ id. refl; roots_are = refl; no_null = All-nil (λ id. 0 < id); not_found = refl }
+unfolding IsDistinct
+begin = record { ids_are = refl; known = λ id. refl; roots_are = refl; no_null = All-nil (λ id. 0 < id); distinct = tt; not_found = refl }
 
 not-found-push : (front : List Sub) (s : Sub) → find is_null_object front ≡ None → is_null_object s ≡ false → find is_null_object (front ++ s ∷ []) ≡ None
 not-found-push front s none other = find-append is_null_object front (s ∷ []) ∙ ap (λ (o : Option Sub). option_or o (find is_null_object (s ∷ []))) none ∙ ap (λ (b : Bool). cond b (Some s) None) other
@@ -36,6 +39,7 @@ root-push front ids roots h at row =
       known = λ id. h.known id ∙ ap (list_any (λ k. eqb id k)) (sym arrays);
       roots_are = map-append root_of_row roots (row ∷ []) ∙ ap (λ xs. xs ++ root_of_row row ∷ []) h.roots_are ∙ sym (filter_map-append _ front (s ∷ []));
       no_null = h.no_null;
+      distinct = h.distinct;
       not_found = not-found-push front s h.not_found refl;
     }
 
@@ -61,6 +65,10 @@ module _ (ids : List ℕ) (id : ℕ) where
   case-positive true all pos = all
   case-positive false all pos = All-push (λ k. 0 < k) ids id all pos
 
+  case-distinct : (b : Bool) → list_any (λ k. eqb id k) ids ≡ b → IsDistinct eqb ids → IsDistinct eqb (cond b ids (ids ++ id ∷ []))
+  case-distinct true e d = d
+  case-distinct false e d = IsDistinct-push nat_eq_equiv ids id d e
+
 pub array-push : (front : List Sub) (ids : List ℕ) (roots : List RootRow) (h : IsNumbered front ids roots) (s : Sub) (id : ℕ) → array_id s ≡ Some id → is_null_object s ≡ false → roots_in (s ∷ []) ≡ [] → 0 < id
     → IsNumbered (front ++ s ∷ []) (with_id ids id) roots
 array-push front ids roots h s id is other no_root pos =
@@ -79,6 +87,7 @@ array-push front ids roots h s id is other no_root pos =
           ∙ ap (list_any (λ k. eqb q k)) (sym arrays);
       roots_are = h.roots_are ∙ sym (append-nil (roots_in front)) ∙ ap (λ xs. roots_in front ++ xs) (sym no_root) ∙ sym (filter_map-append _ front (s ∷ []));
       no_null = case-positive ids id b h.no_null pos;
+      distinct = case-distinct ids id b refl h.distinct;
       not_found = not-found-push front s h.not_found other;
     }
 

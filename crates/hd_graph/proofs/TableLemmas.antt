@@ -1,5 +1,9 @@
 -- Lemmas on rows of IDs: one more ID, one more row, what a row holds.
-use Rattle.std.proofs.Common.{◌≡◌, ◌∙◌, ℕ, suc, ◌+◌, ◌-◌, ◌<◌, ◌≤◌, ◌^◌, List, [], ◌∷◌, ◌++◌, length, map, take, drop, get_or, sym, ap, subst, arith, All, length-append}
+use Rattle.std.proofs.Common.{◌≡◌, ◌≢◌, ◌∙◌, ℕ, zero, suc, eqb, eq-eqb, ne_eqb, true≢false, false, Some, refl, ◌+◌, ◌-◌, ◌<◌, ◌≤◌, ◌^◌, List, [], ◌∷◌, ◌++◌, length, map, take, drop, get_or, sym, ap, subst, arith, All, length-append}
+use Rattle.std.specs.Prelude.{not}
+use Rattle.std.specs.List.{position, prefix_len, IsDistinct}
+use Rattle.std.proofs.lemmas.Bool.{lt-ltb}
+use Rattle.std.proofs.lemmas.Map.Keys.{IsDistinct-tail, apart_from_distinct}
 use Rattle.std.proofs.lemmas.List.{map-append, length-map, drop-append-le, take_all, length-take, length-drop, get_or-take, get_or-drop, get_or-map, drop_all}
 use Rattle.std.proofs.lemmas.List.Elements.{All-push, All-weaker}
 use Rattle.hd_graph.specs.Table.{Table, row_at}
@@ -8,6 +12,19 @@ use Rattle.hd_graph.specs.Cuts.{rows_from, last_from}
 use Rattle.hd_graph.specs.Parts.{table_from, AreParts}
 use Rattle.hd_graph.proofs.CutLemmas.{rows_from-append, rows_from-push, last_from-push, last_from-within, length-rows_from, row-at}
 use Rattle.hd_graph.proofs.CodeLemmas.{codes-longer, ids-longer}
+
+-- distinct IDs are found at their own places
+pub found-at-place : (ids : List ℕ) (o : ℕ) → IsDistinct eqb ids → o < length ids → position (λ x. eqb (get_or ids o 0) x) ids ≡ Some o
+found-at-place ids o d lt = rw (passed ids o d lt, lt-ltb o (length ids) lt) refl
+  where
+    passed : (xs : List ℕ) (i : ℕ) → IsDistinct eqb xs → i < length xs → prefix_len (λ x. not (eqb (get_or xs i 0) x)) xs ≡ i
+    passed [] i d lt = absurd (omega arith)
+    passed (x ∷ xs) zero d lt = rw (eq-eqb x x refl) refl
+    passed (x ∷ xs) (suc i) d lt =
+        let apart : eqb x (get_or xs i 0) ≡ false = apart_from_distinct eqb (x ∷ xs) 0 (suc i) 0 d (omega arith) (omega arith) in
+        let other : get_or xs i 0 ≢ x = λ is. true≢false (sym (eq-eqb x (get_or xs i 0) (sym is)) ∙ apart) in
+        let rest = passed xs i (IsDistinct-tail eqb x xs d) (omega arith) in
+        rw (ne_eqb (get_or xs i 0) x other) (omega (arith, rest))
 
 module _ (ids starts items absent : List ℕ) (h : AreParts ids starts items absent) where
   -- one more number, which stands for this ID
@@ -38,6 +55,7 @@ module _ (ids starts items absent : List ℕ) (h : AreParts ids starts items abs
         record {
           few = h.few;
           no_null = h.no_null;
+          distinct = h.distinct;
           codes = All-push (IsCode ids longer) items code (subst (λ (xs : List ℕ). All (IsCode ids xs) items) (sym grown.is) (codes-longer ids absent grown.more items h.codes)) is;
           within = All-weaker (λ s. s ≤ length items) (λ s. s ≤ length (items ++ code ∷ [])) (λ s le. omega arith) starts h.within;
           begins = h.begins;
@@ -61,6 +79,7 @@ module _ (ids starts items absent : List ℕ) (h : AreParts ids starts items abs
   parts-end = record {
     few = h.few;
     no_null = h.no_null;
+    distinct = h.distinct;
     codes = h.codes;
     within = All-push (λ s. s ≤ length items) starts (length items) h.within (omega arith);
     begins = omega (arith, length-append starts (length items ∷ []));

@@ -1,8 +1,9 @@
 -- An object array from its row of IDs: its elements, and then its class.
-use Rattle.std.specs.Prelude.{ℕ, ◌+◌, ◌-◌, ◌*◌, List, [], ◌∷◌, length, map, None}
+use Rattle.std.specs.Prelude.{ℕ, ◌+◌, ◌-◌, ◌*◌, nat_lt, if◌then◌else◌, List, [], ◌∷◌, length, map, Option, Some, None}
 use Rattle.std.specs.List.{zip}
 use Rattle.hd_terms.specs.declared.IdSize.{IdSize}
 use Rattle.hd_terms.specs.declared.Group.TheVariants as groups
+use Rattle.hd_terms.specs.declared.Slot.{Slot}
 use Rattle.hd_terms.specs.declared.Slot.TheVariants as slots
 use Rattle.hd_terms.specs.Records.{id_len}
 use Rattle.hd_terms.specs.Dump.{SlotEntry, Object}
@@ -14,6 +15,18 @@ abbrev pub row_slots : ℕ → List ℕ → List SlotEntry
 row_slots i [] = []
 row_slots i (id ∷ []) = strong_slot slots.OfClass id ∷ []
 row_slots i (id ∷ next ∷ rest) = strong_slot (slots.Element i) id ∷ row_slots (i + 1) (next ∷ rest)
+
+-- the place of a slot in a row of so many IDs: an element's is its number, the class stands last, and no row has another
+abbrev pub row_place : ℕ → Slot → Option ℕ
+row_place n (slots.Field i) = None
+row_place n (slots.Element i) = if nat_lt i (n - 1) then Some i else None
+row_place n (slots.Static i) = None
+row_place n (slots.Const i) = None
+row_place n slots.OfClass = if nat_lt 0 n then Some (n - 1) else None
+row_place n slots.Super = None
+row_place n slots.Loader = None
+row_place n slots.Signers = None
+row_place n slots.Domain = None
 
 -- the array of an ID and a row
 abbrev pub row_object : IdSize → ℕ → List ℕ → Object

@@ -1,6 +1,6 @@
 -- What the passes over the sub-records come to.
-use Rattle.std.specs.Prelude.{◌≡◌, ◌⊎◌, ◌<◌, ◌==◌, ◌+◌, ◌≢◌, ℕ, List, length, slice_get, [], ◌∷◌, ◌++◌, map, Some, None, All, true}
-use Rattle.std.specs.List.{find, list_any, filter_map}
+use Rattle.std.specs.Prelude.{◌≡◌, nat_eq, ◌⊎◌, ◌<◌, ◌==◌, ◌+◌, ◌≢◌, ℕ, List, length, slice_get, [], ◌∷◌, ◌++◌, map, Some, None, All, true}
+use Rattle.std.specs.List.{find, list_any, filter_map, IsDistinct}
 use Rattle.hd_terms.specs.declared.IdSize.{IdSize}
 use Rattle.hd_terms.specs.declared.Span.{Span}
 use Rattle.hd_terms.specs.declared.errors.Cause.TheVariants as causes
@@ -34,6 +34,7 @@ pub record IsNumbered (list : List Sub) (ids : List ℕ) (roots : List RootRow) 
   pub known : (id : ℕ) → list_any (λ k. id == k) ids ≡ list_any (λ k. id == k) (filter_map array_id list)
   pub roots_are : map root_of_row roots ≡ roots_in list
   pub no_null : All (λ id. 0 < id) ids
+  pub distinct : IsDistinct nat_eq ids
   pub not_found : find is_null_object list ≡ None
 
 -- one more sub-record is numbered

@@ -3,7 +3,6 @@ pub mod Codes
 pub mod Cuts
 pub mod Parts
 pub mod Inside
-pub mod Rows
 pub mod Arrays
 pub mod GraphInside
 pub mod Firsts

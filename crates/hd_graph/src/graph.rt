@@ -1,7 +1,9 @@
 //! The graph as it is read: numbers of objects, their slots, the roots.
-ghost use Rattle.std.specs.Prelude.{◌≡◌, ◌<◌, ◌^◌, length, map, slice_get, Some};
+ghost use Rattle.std.specs.Prelude.{◌≡◌, ◌<◌, ◌^◌, ℕ, length, map, position, slice_get, Some, true};
 ghost use Rattle.hd_terms.specs.Edges.{index_of};
-ghost use Rattle.hd_graph.specs.Rows.{object_at};
+ghost use Rattle.hd_terms.specs.EditedDump.{same_slot};
+ghost use Rattle.hd_terms.specs.Dump.{SlotEntry, object_at};
+ghost use Rattle.hd_graph.specs.Arrays.{row_place};
 
 use crate::references::References;
 use hd_terms::{EdgeKind, Group, IdSize, RootKind, Slot};
@@ -42,6 +44,18 @@ pub struct RootRead {
     pub id: u64,
     /// The number of that object, if the dump has it.
     pub object: Option<u32>,
+}
+
+/// The place of a slot in a row of so many IDs, if the row has it: elements first, then the class.
+fn place_in_row(len: u32, slot: Slot) -> Option<u32>
+    ensures { result ≡ row_place len slot }
+{
+    let class = len.checked_sub(1)?;
+    match slot {
+        Slot::Element(place) if place < class => Some(place),
+        Slot::OfClass => Some(class),
+        _ => None,
+    }
 }
 
 impl Model for Graph {
@@ -89,9 +103,10 @@ impl Graph {
         self.references.ids()[o as usize]
     }
 
-    /// The number of the object with an ID, if there is one.
+    /// The number of the object with an ID, if there is one. No two objects have one ID.
     pub fn index_of(&self, id: u64) -> Option<u32>
-        ensures { result ≡ index_of self.now.objects id }
+        ensures first { result ≡ index_of self.now.objects id }
+        ensures distinct { (o : ℕ) → o < length self.now.objects → (object_at self.now o).id ≡ id → result ≡ Some o }
     {
         self.references.index_of(id)
     }
@@ -140,6 +155,24 @@ impl Graph {
             id,
             target,
         }
+    }
+
+    /// The place of a slot among those of an object, if the object has it.
+    pub fn place_of(&self, o: u32, slot: Slot) -> Option<u32>
+        requires { o < length self.now.objects }
+        ensures first { result ≡ position (λ (s : SlotEntry). same_slot s.slot slot) (object_at self.now o).slots }
+        ensures only { (i : ℕ) (s : SlotEntry) → slice_get (object_at self.now o).slots i ≡ Some s → same_slot s.slot slot ≡ true → result ≡ Some i }
+    {
+        place_in_row(self.references.row_len(o), slot)
+    }
+
+    /// The slot that is a reference object's referent, if the object is one. No array is.
+    pub fn referent_of(&self, o: u32) -> Option<Slot>
+        requires { o < length self.now.objects }
+        ensures { result ≡ (object_at self.now o).referent }
+    {
+        let _arrays = &self.references;
+        None
     }
 
     /// How many roots the dump has.

@@ -1,5 +1,6 @@
 //! The references of all objects in four bytes each, row by row.
-ghost use Rattle.std.specs.Prelude.{◌≡◌, ◌+◌, ◌<◌, ◌-◌, ◌^◌, ◌==◌, [], ◌∷◌, ◌++◌, length, position, slice_index, All, IfOk, OnOk, OnErr, IsTrue, ◌↔◌, Some, slice_get};
+ghost use Rattle.std.specs.Prelude.{◌≡◌, ℕ, nat_eq, ◌+◌, ◌<◌, ◌-◌, ◌^◌, ◌==◌, [], ◌∷◌, ◌++◌, length, position, slice_index, All, IfOk, OnOk, OnErr, IsTrue, ◌↔◌, Some, slice_get};
+ghost use Rattle.std.specs.List.{IsDistinct};
 ghost use Rattle.hd_graph.specs.Cuts.{last_from};
 ghost use Rattle.hd_graph.specs.Table.{row_at};
 ghost use Rattle.hd_graph.specs.Codes.{IsCode, IsLonger, id_of_code, target_of_code};
@@ -75,6 +76,7 @@ impl References {
     pub(crate) fn new(alloc: Global, ids: IndexSet<u64>) -> Result<References, AllocError>
         requires few { length ids.keys < 2 ^ 31 }
         requires no_null { All (λ id. 0 < id) ids.keys }
+        requires distinct { IsDistinct nat_eq ids.keys }
         ensures { IfOk result (λ t. t ≡ record { ids = ids.keys; rows = []; filling = []; count = 0 }) }
     {
         let mut starts = Vec::new(alloc);
@@ -114,9 +116,10 @@ impl References {
         self.ids.as_slice()
     }
 
-    /// The number of the object with an ID.
+    /// The number of the object with an ID. No two objects have one ID.
     pub(crate) fn index_of(&self, id: u64) -> Option<u32>
-        ensures { result ≡ position (λ x. id == x) self.now.ids }
+        ensures first { result ≡ position (λ x. id == x) self.now.ids }
+        ensures distinct { (o : ℕ) → o < length self.now.ids → slice_index self.now.ids o ≡ id → result ≡ Some o }
     {
         match self.ids.get_index_of(&id) {
             Some(object) => Some(object as u32),

@@ -1,0 +1,2 @@
+pub mod FlagLemmas
+pub mod LastLemmas

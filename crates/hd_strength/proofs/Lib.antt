@@ -1,4 +1,5 @@
 pub mod Lists
+pub mod TakenLemmas
 pub mod RowLemmas
 pub mod Grow
 pub mod Offering

@@ -4,6 +4,7 @@ use Rattle.std.proofs.lemmas.Bool.{cases_eq}
 use Rattle.std.proofs.lemmas.Bool.Decides.{nat_tests}
 use Rattle.std.proofs.lemmas.List.{get_or-set_same, get_or-set_other, length-set}
 use Rattle.std.proofs.lemmas.List.Sums.{sum_by-set, sum_by-le}
+use Rattle.hd_terms.specs.declared.Event.{Event}
 use Rattle.hd_terms.specs.declared.Strength.{Strength}
 use Rattle.hd_terms.specs.declared.Strength.TheVariants as strengths
 use Rattle.hd_terms.specs.declared.Support.TheVariants as supports
@@ -17,7 +18,7 @@ use Rattle.hd_strength.specs.declared.buckets.Offer.{Offer}
 use Rattle.hd_strength.specs.declared.buckets.Buckets.{Buckets}
 use Rattle.hd_strength.specs.Held.{rooted}
 use Rattle.hd_strength.specs.Buckets.{bucket, pending, AddsTo}
-use Rattle.hd_strength.specs.Rows.{edge_at, root_at}
+use Rattle.hd_strength.specs.Rows.{edge_at, root_at, root_count}
 use Rattle.hd_strength.specs.Growing.{rank_at, gift, offer_at, AreHeld, IsHeldOrNot, IsGrowing, AddsOffers, IsTaken, unreached_count}
 use Rattle.hd_strength.proofs.Lists.{Contains-nil}
 use Rattle.hd_strength.proofs.RowLemmas.{root_stands_at, root_has_number}
@@ -113,7 +114,7 @@ module _ (at : ℕ → ℕ → Option Edge) (width : ℕ → ℕ) (ks ks' : List
   }
 
 -- one more root holds its object
-module _ (dump : Dump) (ks : List Kept) (n t : ℕ) (h : AreHeld dump ks n) (lt : t < length ks) (is : root_at dump n ≡ Some (record { number = n; target = t })) where
+module _ (dump : Dump) (log : List Event) (ks : List Kept) (n t : ℕ) (h : AreHeld dump log ks n) (lt : t < length ks) (is : root_at dump log n ≡ Some (record { number = n; target = t })) where
   abbrev after : List Kept
   after = set ks t (rooted n)
 
@@ -123,7 +124,7 @@ module _ (dump : Dump) (ks : List Kept) (n t : ℕ) (h : AreHeld dump ks n) (lt 
   other : (o : ℕ) → o ≢ t → kept_at after o ≡ kept_at ks o
   other o ne = get_or-set_other ks t o (rooted n) unreached ne
 
-  still : (o : ℕ) → o ≢ t → IsHeldOrNot dump ks o → IsHeldOrNot dump after o
+  still : (o : ℕ) → o ≢ t → IsHeldOrNot dump log ks o → IsHeldOrNot dump log after o
   still o ne (inl none) = inl (other o ne ∙ none)
   still o ne (inr (r, at, held)) = inr (r, at, other o ne ∙ held)
 
@@ -136,15 +137,15 @@ module _ (dump : Dump) (ks : List Kept) (n t : ℕ) (h : AreHeld dump ks n) (lt 
     | inr ne ↦ ap (λ (k : Kept). k.strength) (other o ne) ∙ strong
   ]
 
-  pub one_held : AreHeld dump after (n + 1)
+  pub one_held : AreHeld dump log after (n + 1)
   one_held = record {
     each = λ o. elim (cases_eq o t) [
-      | inl same ↦ subst (IsHeldOrNot dump after) (sym same) (inr (n, is, here))
+      | inl same ↦ subst (IsHeldOrNot dump log after) (sym same) (inr (n, is, here))
       | inr ne ↦ still o ne (h.each o)
     ];
     by_roots = λ r r_lt x at. elim (cases_eq r n) [
       | inl same ↦
-          let both : Some x ≡ Some (record { number = n; target = t }) = sym (subst (λ (r : ℕ). root_at dump r ≡ Some x) same at) ∙ is in
+          let both : Some x ≡ Some (record { number = n; target = t }) = sym (subst (λ (r : ℕ). root_at dump log r ≡ Some x) same at) ∙ is in
           let entry : x ≡ record { number = n; target = t } = cc in
           ap (λ (y : RootEntry). (kept_at after y.target).strength) entry ∙ strong_here
       | inr before ↦ strong_still x.target (h.by_roots r (omega arith) x at)
@@ -152,42 +153,42 @@ module _ (dump : Dump) (ks : List Kept) (n t : ℕ) (h : AreHeld dump ks n) (lt 
   }
 
 -- a root on no object holds none
-pub no_root : (dump : Dump) (ks : List Kept) (n : ℕ) → AreHeld dump ks n → ((x : RootEntry) → root_at dump n ≡ Some x → ⊥) → AreHeld dump ks (n + 1)
-no_root dump ks n h none = record {
+pub no_root : (dump : Dump) (log : List Event) (ks : List Kept) (n : ℕ) → AreHeld dump log ks n → ((x : RootEntry) → root_at dump log n ≡ Some x → ⊥) → AreHeld dump log ks (n + 1)
+no_root dump log ks n h none = record {
   each = h.each;
   by_roots = λ r r_lt x at. elim (cases_eq r n) [
-    | inl same ↦ absurd (none x (subst (λ (r : ℕ). root_at dump r ≡ Some x) same at))
+    | inl same ↦ absurd (none x (subst (λ (r : ℕ). root_at dump log r ≡ Some x) same at))
     | inr before ↦ h.by_roots r (omega arith) x at
   ];
 }
 
 -- no root is looked at yet
-pub none_held : (dump : Dump) (ks : List Kept) → ((o : ℕ) → kept_at ks o ≡ unreached) → AreHeld dump ks 0
-none_held dump ks none = record { each = λ o. inl (none o); by_roots = λ r lt x at. absurd (omega arith) }
+pub none_held : (dump : Dump) (log : List Event) (ks : List Kept) → ((o : ℕ) → kept_at ks o ≡ unreached) → AreHeld dump log ks 0
+none_held dump log ks none = record { each = λ o. inl (none o); by_roots = λ r lt x at. absurd (omega arith) }
 
 -- what is held by a root is supported by it
-held_support : (dump : Dump) (ks : List Kept) (o : ℕ) → IsHeldOrNot dump ks o → IsSupported (standing dump []) ks o (kept_at ks o).support
-held_support dump ks o (inl none) = let s : (kept_at ks o).support ≡ supports.Nothing = ap (λ (k : Kept). k.support) none in rw s (ap (λ (k : Kept). k.strength) none)
-held_support dump ks o (inr (r, at, held)) = let s : (kept_at ks o).support ≡ supports.Root r = ap (λ (k : Kept). k.support) held in rw s (root_stands_at dump r (record { number = r; target = o }) at, ap (λ (k : Kept). k.strength) held)
+held_support : (dump : Dump) (log : List Event) (ks : List Kept) (o : ℕ) → IsHeldOrNot dump log ks o → IsSupported (standing dump log) ks o (kept_at ks o).support
+held_support dump log ks o (inl none) = let s : (kept_at ks o).support ≡ supports.Nothing = ap (λ (k : Kept). k.support) none in rw s (ap (λ (k : Kept). k.strength) none)
+held_support dump log ks o (inr (r, at, held)) = let s : (kept_at ks o).support ≡ supports.Root r = ap (λ (k : Kept). k.support) held in rw s (root_stands_at dump log r (record { number = r; target = o }) at, ap (λ (k : Kept). k.strength) held)
 
 -- no object has a stamp yet
-held_stamp : (dump : Dump) (ks : List Kept) (o : ℕ) → IsHeldOrNot dump ks o → (kept_at ks o).stamp ≤ 0
-held_stamp dump ks o (inl none) = rw none (omega arith)
-held_stamp dump ks o (inr (r, at, held)) = rw held (omega arith)
+held_stamp : (dump : Dump) (log : List Event) (ks : List Kept) (o : ℕ) → IsHeldOrNot dump log ks o → (kept_at ks o).stamp ≤ 0
+held_stamp dump log ks o (inl none) = rw none (omega arith)
+held_stamp dump log ks o (inr (r, at, held)) = rw held (omega arith)
 
 -- what is reached is strong
-pub held_rank : (dump : Dump) (ks : List Kept) (o : ℕ) → IsHeldOrNot dump ks o → 1 ≤ rank_at ks o → rank_at ks o ≡ 5
-held_rank dump ks o (inl none) reached = let z : rank_at ks o ≡ 0 = ap (λ (k : Kept). rank k.strength) none in absurd (omega arith)
-held_rank dump ks o (inr (r, at, held)) reached = ap (λ (k : Kept). rank k.strength) held
+pub held_rank : (dump : Dump) (log : List Event) (ks : List Kept) (o : ℕ) → IsHeldOrNot dump log ks o → 1 ≤ rank_at ks o → rank_at ks o ≡ 5
+held_rank dump log ks o (inl none) reached = let z : rank_at ks o ≡ 0 = ap (λ (k : Kept). rank k.strength) none in absurd (omega arith)
+held_rank dump log ks o (inr (r, at, held)) reached = ap (λ (k : Kept). rank k.strength) held
 
 -- no object has offered yet what it gives
-pub begins : (dump : Dump) (ks : List Kept) (offers : Strength → List Offer) → AreHeld dump ks (length dump.roots) → ((s : Strength) → offers s ≡ []) → IsGrowing (standing dump []) (edge_at dump) ks offers 0 (λ o. o < 0)
-begins dump ks offers h empty =
+pub begins : (dump : Dump) (log : List Event) (ks : List Kept) (offers : Strength → List Offer) → AreHeld dump log ks (root_count dump log) → ((s : Strength) → offers s ≡ []) → IsGrowing (standing dump log) (edge_at dump log) ks offers 0 (λ o. o < 0)
+begins dump log ks offers h empty =
     let none : (s : Strength) (x : Offer) → Contains (offers s) x → ⊥ = λ s x c. Contains-nil x (subst (λ (xs : List Offer). Contains xs x) (empty s) c) in
     record {
-      supported = λ o. held_support dump ks o (h.each o);
-      by_roots = λ x c. let place : (r : ℕ) × (r < length dump.roots) × (root_at dump r ≡ Some x) = root_has_number dump x c in h.by_roots place.0 place.1 x place.2;
-      stamps = λ o. held_stamp dump ks o (h.each o);
+      supported = λ o. held_support dump log ks o (h.each o);
+      by_roots = λ x c. let place : (r : ℕ) × (r < root_count dump log) × (root_at dump log r ≡ Some x) = root_has_number dump log x c in h.by_roots place.0 place.1 x place.2;
+      stamps = λ o. held_stamp dump log ks o (h.each o);
       by_edges = λ o i e lt is p. absurd (omega arith);
       backed = λ s x c. absurd (none s x c);
       least = λ s x c o reached. absurd (none s x c);

@@ -1,18 +1,24 @@
-use Rattle.std.proofs.Common.{◌≡◌, ◌≢◌, ◌∙◌, ℕ, ◌<◌, inl, inr, List, [], Contains, length, get_or, Option, None, Some, slice_get, true, refl, sym, ap, subst, arith, append-nil}
+use Rattle.std.proofs.Common.{◌≡◌, ◌∙◌, ℕ, suc, nat_lt, ◌<◌, inl, inr, List, [], ◌∷◌, Contains, length, cond, not, Bool, false, ◌+◌, ◌-◌, ◌≤◌, get_or, Option, None, Some, slice_get, true, refl, sym, ap, subst, arith}
 use Rattle.std.specs.Prelude.{◌==◌}
 use Rattle.std.specs.Option.{option_map}
-use Rattle.std.specs.List.{filter_map, enumerate_from}
-use Rattle.std.proofs.lemmas.Bool.{cases_lt}
+use Rattle.std.specs.List.{filter, filter_map, enumerate_from}
+use Rattle.std.proofs.lemmas.Bool.{cases_lt, lt-ltb, lt-leb}
+use Rattle.std.proofs.lemmas.List.Elements.{Contains-append_left, Contains-append_right, Contains-append_cases}
 use Rattle.std.proofs.lemmas.Option.{slice_get_past, slice_get_within, get_or_from_slice_get, slice_get-get_or}
 use Rattle.std.proofs.lemmas.List.{get_or_past}
 use Rattle.std.proofs.lemmas.List.Quantifiers.{position-Some}
+use Rattle.hd_terms.specs.declared.Edit.{Edit}
+use Rattle.hd_terms.specs.declared.Edit.TheVariants as edits
+use Rattle.hd_terms.specs.declared.RootKind.TheVariants as kinds
+use Rattle.hd_terms.specs.declared.Event.{Event}
+use Rattle.hd_log.proofs.LastLemmas.{by_event}
 use Rattle.hd_terms.specs.Paths.{Edge, RootEntry}
-use Rattle.hd_terms.specs.Dump.{SlotEntry, Object, Root, Dump}
+use Rattle.hd_terms.specs.Dump.{SlotEntry, Object, Root, Dump, no_object, object_at}
 use Rattle.hd_terms.specs.Edges.{index_of, edge_of, edges_from, edges}
-use Rattle.hd_terms.specs.EditedDump.{standing, edge_stands, source_stands, dump_root}
-use Rattle.hd_graph.specs.Rows.{no_object, object_at}
-use Rattle.hd_strength.specs.Rows.{width, edge_by, edge_at, entry_by, root_at}
-use Rattle.hd_strength.proofs.Lists.{Contains-slice_get, flat_map_contains, flat_map_only, filter_map_contains, filter_map_only, filter_contains, filter_only, enumerate_contains, enumerate_only}
+use Rattle.hd_terms.specs.EditedDump.{standing, slot_stands, edge_stands, source_stands, is_dropped, standing_root, dump_root, added_by, added_root}
+use Rattle.hd_terms.specs.Log.{live_edit}
+use Rattle.hd_strength.specs.Rows.{width, edge_by, edge_at, added_id, root_by, root_by_event, root_count, root_at}
+use Rattle.hd_strength.proofs.Lists.{Contains-nil, Contains-cons_cases, Contains-slice_get, flat_map_contains, flat_map_only, filter_map_contains, filter_map_only, filter_contains, filter_only, enumerate_contains, enumerate_only}
 
 -- the edge of a slot to the object of a number
 abbrev pub edge_to : ℕ → SlotEntry → ℕ → Edge
@@ -31,25 +37,58 @@ by_target : (o : ℕ) (s : SlotEntry) (t : Option ℕ) (e : Edge) → option_map
 by_target o s None e h = absurd (cc)
 by_target o s (Some t) e h = let same : edge_to o s t ≡ e = cc in (ap (λ (x : Edge). Some x.target) same, sym same ∙ ap (λ (x : Edge). edge_to o s x.target) same)
 
--- a place of an object's slots, with what stands there
-module _ (dump : Dump) (o i : ℕ) (s : SlotEntry) (entry : slice_get (object_at dump o).slots i ≡ Some s) where
-  at_place : edge_at dump o i ≡ edge_of dump.objects o s
-  unfolding edge_at
-  at_place = ap (edge_by dump o) entry
+-- tests
+pub not-true : (b : Bool) → not b ≡ true → b ≡ false
+not-true true h = absurd cc
+not-true false h = refl
 
-  pub at_none : index_of dump.objects s.id ≡ None → (e : Edge) → edge_at dump o i ≡ Some e → ⊥
+pub not-false : (b : Bool) → not b ≡ false → b ≡ true
+not-false true h = refl
+not-false false h = absurd cc
+
+-- an edge of a slot that stands
+edge-by : (stands : Bool) (edge : Option Edge) (e : Edge) → cond stands edge None ≡ Some e → (stands ≡ true) × (edge ≡ Some e)
+edge-by true edge e h = (refl, h)
+edge-by false edge e h = absurd cc
+
+-- a place of an object's slots, with what stands there
+module _ (dump : Dump) (log : List Event) (o i : ℕ) (s : SlotEntry) (entry : slice_get (object_at dump o).slots i ≡ Some s) where
+  at_place : edge_at dump log o i ≡ cond (slot_stands log (object_at dump o) s.slot) (edge_of dump.objects o s) None
+  unfolding edge_at
+  at_place = ap (edge_by dump log o) entry
+
+  at_parts : (e : Edge) → edge_at dump log o i ≡ Some e → (slot_stands log (object_at dump o) s.slot ≡ true) × (edge_of dump.objects o s ≡ Some e)
+  at_parts e is = edge-by (slot_stands log (object_at dump o) s.slot) (edge_of dump.objects o s) e (sym at_place ∙ is)
+
+  pub at_none : index_of dump.objects s.id ≡ None → (e : Edge) → edge_at dump log o i ≡ Some e → ⊥
   at_none none e is =
       let other : edge_of dump.objects o s ≡ None = ap (option_map (λ (target : ℕ). edge_to o s target)) none in
-      let same : None ≡ Some e = sym other ∙ sym at_place ∙ is in absurd (cc)
+      let same : None ≡ Some e = sym other ∙ (at_parts e is).1 in absurd (cc)
 
-  pub at_some : (t : ℕ) → index_of dump.objects s.id ≡ Some t → edge_at dump o i ≡ Some (edge_to o s t)
-  at_some t some = at_place ∙ ap (option_map (λ (target : ℕ). edge_to o s target)) some
+  pub at_cut : slot_stands log (object_at dump o) s.slot ≡ false → (e : Edge) → edge_at dump log o i ≡ Some e → ⊥
+  at_cut cut e is = let same : false ≡ true = sym cut ∙ (at_parts e is).0 in absurd (cc)
 
-  at_edge : (e : Edge) → edge_at dump o i ≡ Some e → (index_of dump.objects s.id ≡ Some e.target) × (e ≡ edge_to o s e.target)
-  at_edge e is = by_target o s (index_of dump.objects s.id) e (sym at_place ∙ is)
+  pub at_some : (t : ℕ) → index_of dump.objects s.id ≡ Some t → slot_stands log (object_at dump o) s.slot ≡ true → edge_at dump log o i ≡ Some (edge_to o s t)
+  at_some t some stands =
+      at_place ∙ ap (λ (b : Bool). cond b (edge_of dump.objects o s) None) stands ∙ ap (option_map (λ (target : ℕ). edge_to o s target)) some
+
+  -- an edge at a place is that of its slot
+  pub at_edge : (e : Edge) → edge_at dump log o i ≡ Some e → (index_of dump.objects s.id ≡ Some e.target) × (e ≡ edge_to o s e.target)
+  at_edge e is = by_target o s (index_of dump.objects s.id) e (at_parts e is).1
+
+  -- an edge at a place leads to the object of its slot's ID
+  pub at_target : (t : ℕ) (e : Edge) → index_of dump.objects s.id ≡ Some t → edge_at dump log o i ≡ Some e → edge_to o s t ≡ e
+  at_target t e some is =
+      let found = at_edge e is in
+      let same : Some t ≡ Some e.target = sym some ∙ found.0 in
+      let target : t ≡ e.target = cc in
+      ap (edge_to o s) target ∙ sym found.1
+
+  pub at_stands : (e : Edge) → edge_at dump log o i ≡ Some e → slot_stands log (object_at dump o) s.slot ≡ true
+  at_stands e is = (at_parts e is).0
 
 -- what is known of an edge at a place
-pub record IsAt (dump : Dump) (o i : ℕ) (e : Edge) : Type 0 where
+pub record IsAt (dump : Dump) (log : List Event) (o i : ℕ) (e : Edge) : Type 0 where
   pub object : o < length dump.objects
   pub place : i < width dump o
   pub target : e.target < length dump.objects
@@ -57,18 +96,19 @@ pub record IsAt (dump : Dump) (o i : ℕ) (e : Edge) : Type 0 where
   pub there : slice_get (object_at dump o).slots i ≡ Some entry
   pub is : e ≡ edge_to o entry e.target
   pub index : index_of dump.objects entry.id ≡ Some e.target
+  pub stands : slot_stands log (object_at dump o) entry.slot ≡ true
 
 -- where there is no slot there is no edge
-none_past : (dump : Dump) (o i : ℕ) (e : Edge) → edge_at dump o i ≡ Some e → slice_get (object_at dump o).slots i ≡ None → ⊥
+none_past : (dump : Dump) (log : List Event) (o i : ℕ) (e : Edge) → edge_at dump log o i ≡ Some e → slice_get (object_at dump o).slots i ≡ None → ⊥
 unfolding edge_at
-none_past dump o i e is none = let same : None ≡ Some e = sym (ap (edge_by dump o) none) ∙ is in absurd (cc)
+none_past dump log o i e is none = let same : None ≡ Some e = sym (ap (edge_by dump log o) none) ∙ is in absurd (cc)
 
 -- an edge at a place is one of the dump's
-pub is_at : (dump : Dump) (o i : ℕ) (e : Edge) → edge_at dump o i ≡ Some e → IsAt dump o i e
-is_at dump o i e is =
+pub is_at : (dump : Dump) (log : List Event) (o i : ℕ) (e : Edge) → edge_at dump log o i ≡ Some e → IsAt dump log o i e
+is_at dump log o i e is =
     let place : i < width dump o = elim (cases_lt i (width dump o)) [
       | inl lt ↦ lt
-      | inr le ↦ absurd (none_past dump o i e is (slice_get_past (object_at dump o).slots i le))
+      | inr le ↦ absurd (none_past dump log o i e is (slice_get_past (object_at dump o).slots i le))
     ] in
     let object : o < length dump.objects = elim (cases_lt o (length dump.objects)) [
       | inl lt ↦ lt
@@ -76,85 +116,245 @@ is_at dump o i e is =
     ] in
     let s : SlotEntry = get_or (object_at dump o).slots i (record { slot = e.slot; kind = e.kind; id = 0 }) in
     let there : slice_get (object_at dump o).slots i ≡ Some s = slice_get-get_or (object_at dump o).slots i (record { slot = e.slot; kind = e.kind; id = 0 }) place in
-    let found : (index_of dump.objects s.id ≡ Some e.target) × (e ≡ edge_to o s e.target) = at_edge dump o i s there e is in
-    record { object = object; place = place; target = index_of_within dump.objects s.id e.target found.0; entry = s; there = there; is = found.1; index = found.0 }
+    let found : (index_of dump.objects s.id ≡ Some e.target) × (e ≡ edge_to o s e.target) = at_edge dump log o i s there e is in
+    record {
+      object = object;
+      place = place;
+      target = index_of_within dump.objects s.id e.target found.0;
+      entry = s;
+      there = there;
+      is = found.1;
+      index = found.0;
+      stands = at_stands dump log o i s there e is;
+    }
 
 -- an edge at a place of an object starts there
-pub at_source : (dump : Dump) (o i : ℕ) (e : Edge) → edge_at dump o i ≡ Some e → e.source ≡ o
-at_source dump o i e is = ap (λ (x : Edge). x.source) (is_at dump o i e is).is
-
--- with no event each edge of the dump stands
-stands_by : (x : Option Object) (e : Edge) → x ≢ None → source_stands [] e.slot x ≡ true
-stands_by None e h = absurd (h refl)
-stands_by (Some x) e h = refl
+pub at_source : (dump : Dump) (log : List Event) (o i : ℕ) (e : Edge) → edge_at dump log o i ≡ Some e → e.source ≡ o
+at_source dump log o i e is = ap (λ (x : Edge). x.source) (is_at dump log o i e is).is
 
 -- an edge at a place is an edge of the dump
-edge_of_dump : (dump : Dump) (o i : ℕ) (e : Edge) → edge_at dump o i ≡ Some e → Contains (edges dump) e
-edge_of_dump dump o i e is =
-    let at : IsAt dump o i e = is_at dump o i e is in
+edge_of_dump : (dump : Dump) (log : List Event) (o i : ℕ) (e : Edge) → edge_at dump log o i ≡ Some e → Contains (edges dump) e
+edge_of_dump dump log o i e is =
+    let at : IsAt dump log o i e = is_at dump log o i e is in
     let x : Object = object_at dump o in
     flat_map_contains (edges_from dump.objects) (enumerate_from 0 dump.objects) (o, x) e
     (enumerate_contains dump.objects o x (slice_get-get_or dump.objects o no_object at.object))
-    (filter_map_contains (edge_of dump.objects o) x.slots at.entry e (Contains-slice_get x.slots i at.entry at.place at.there) (sym (at_place dump o i at.entry at.there) ∙ is))
+    (filter_map_contains (edge_of dump.objects o) x.slots at.entry e (Contains-slice_get x.slots i at.entry at.place at.there)
+    (ap (option_map (λ (target : ℕ). edge_to o at.entry target)) at.index ∙ ap (λ (y : Edge). Some y) (sym at.is)))
 
 -- an edge at a place stands
-pub edge_stands_at : (dump : Dump) (o i : ℕ) (e : Edge) → edge_at dump o i ≡ Some e → Contains (standing dump []).edges e
-edge_stands_at dump o i e is =
-    let at : IsAt dump o i e = is_at dump o i e is in
-    let source : e.source ≡ o = at_source dump o i e is in
-    let lt : e.source < length dump.objects = rw source at.object in
-    filter_contains (edge_stands dump []) (edges dump) e (edge_of_dump dump o i e is)
-    (stands_by (slice_get dump.objects e.source) e (λ none. let same : Some (get_or dump.objects e.source no_object) ≡ None = sym (slice_get-get_or dump.objects e.source no_object lt) ∙ none in absurd (cc)))
+pub edge_stands_at : (dump : Dump) (log : List Event) (o i : ℕ) (e : Edge) → edge_at dump log o i ≡ Some e → Contains (standing dump log).edges e
+edge_stands_at dump log o i e is =
+    let at : IsAt dump log o i e = is_at dump log o i e is in
+    let source : e.source ≡ o = at_source dump log o i e is in
+    let slot : e.slot ≡ at.entry.slot = ap (λ (x : Edge). x.slot) at.is in
+    filter_contains (edge_stands dump log) (edges dump) e (edge_of_dump dump log o i e is)
+    (ap (λ (n : ℕ). source_stands log e.slot (slice_get dump.objects n)) source
+    ∙ ap (source_stands log e.slot) (slice_get-get_or dump.objects o no_object at.object)
+    ∙ ap (slot_stands log (object_at dump o)) slot
+    ∙ at.stands)
+
+-- what is in the filtered list passes
+passes-cases : {X : Type 0} (p : X → Bool) (b : Bool) (z : X) (zs : List X) (x : X) → p z ≡ b → ((Contains (filter p zs) x) → p x ≡ true) → Contains (cond b (z ∷ filter p zs) (filter p zs)) x → p x ≡ true
+passes-cases p true z zs x is later c = elim (Contains-cons_cases z (filter p zs) x c) [ inl same ↦ ap p (sym same) ∙ is | inr rest ↦ later rest ]
+passes-cases p false z zs x is later c = later c
+
+filter_passes : {X : Type 0} (p : X → Bool) (xs : List X) (x : X) → Contains (filter p xs) x → p x ≡ true
+filter_passes p [] x c = absurd (Contains-nil x c)
+filter_passes p (z ∷ zs) x c = passes-cases p (p z) z zs x refl (filter_passes p zs x) c
 
 -- each edge that stands is at a place
-pub edge_has_place : (dump : Dump) (e : Edge) → Contains (standing dump []).edges e → (i : ℕ) × (edge_at dump e.source i ≡ Some e)
+pub edge_has_place : (dump : Dump) (log : List Event) (e : Edge) → Contains (standing dump log).edges e → (i : ℕ) × (edge_at dump log e.source i ≡ Some e)
 unfolding edge_at
-edge_has_place dump e c =
-    let (n, numbered, from) = flat_map_only (edges_from dump.objects) (enumerate_from 0 dump.objects) e (filter_only (edge_stands dump []) (edges dump) e c) in
+edge_has_place dump log e c =
+    let (n, numbered, from) = flat_map_only (edges_from dump.objects) (enumerate_from 0 dump.objects) e (filter_only (edge_stands dump log) (edges dump) e c) in
     let (s, (i, lt, is), gives) = filter_map_only (edge_of dump.objects n.0) n.1.slots e from in
-    let source : e.source ≡ n.0 = ap (λ (x : Edge). x.source) (by_target n.0 s (index_of dump.objects s.id) e gives).1 in
-    let object : object_at dump n.0 ≡ n.1 = get_or_from_slice_get dump.objects n.0 n.1 no_object (enumerate_only dump.objects n numbered) in
+    let edge : e ≡ edge_to n.0 s e.target = (by_target n.0 s (index_of dump.objects s.id) e gives).1 in
+    let source : e.source ≡ n.0 = ap (λ (x : Edge). x.source) edge in
+    let there : slice_get dump.objects n.0 ≡ Some n.1 = enumerate_only dump.objects n numbered in
+    let object : object_at dump n.0 ≡ n.1 = get_or_from_slice_get dump.objects n.0 n.1 no_object there in
     let slot : slice_get (object_at dump n.0).slots i ≡ Some s = ap (λ (x : Object). slice_get x.slots i) object ∙ slice_get-get_or n.1.slots i s lt ∙ ap (λ (y : SlotEntry). Some y) is in
-    (i, subst (λ (m : ℕ). edge_at dump m i ≡ Some e) (sym source) (ap (edge_by dump n.0) slot ∙ gives))
+    let stands : slot_stands log (object_at dump n.0) s.slot ≡ true =
+    ap (λ (x : Object). slot_stands log x s.slot) object
+    ∙ ap (slot_stands log n.1) (sym (ap (λ (x : Edge). x.slot) edge))
+    ∙ ap (source_stands log e.slot) (sym there)
+    ∙ ap (λ (m : ℕ). source_stands log e.slot (slice_get dump.objects m)) (sym source)
+    ∙ filter_passes (edge_stands dump log) (edges dump) e c in
+    (i, subst (λ (m : ℕ). edge_at dump log m i ≡ Some e) (sym source) (ap (edge_by dump log n.0) slot ∙ ap (λ (b : Bool). cond b (edge_of dump.objects n.0 s) None) stands ∙ gives))
 
--- the entry of a root, by the number that its ID has
-by_object : (r : ℕ) (t : Option ℕ) (x : RootEntry) → option_map (λ (target : ℕ). entry_to r target) t ≡ Some x → (t ≡ Some x.target) × (x.number ≡ r)
-by_object r None x h = absurd (cc)
-by_object r (Some t) x h = let same : entry_to r t ≡ x = cc in (ap (λ (y : RootEntry). Some y.target) same, sym (ap (λ (y : RootEntry). y.number) same))
+not-below : (a b : ℕ) → b ≤ a → nat_lt a b ≡ false
+not-below a b le = lt-leb (suc a) b (omega arith)
 
-module _ (dump : Dump) (r : ℕ) (root : Root) (entry : slice_get dump.roots r ≡ Some root) where
-  at_root : root_at dump r ≡ option_map (λ (target : ℕ). entry_to r target) (index_of dump.objects root.id)
-  unfolding root_at
-  at_root = ap (entry_by dump r) entry
-
-  pub root_none : index_of dump.objects root.id ≡ None → (x : RootEntry) → root_at dump r ≡ Some x → ⊥
-  root_none none x is =
-      let same : None ≡ Some x = sym (ap (option_map (λ (target : ℕ). entry_to r target)) none) ∙ sym at_root ∙ is in absurd (cc)
-
-  pub root_some : (t : ℕ) → index_of dump.objects root.id ≡ Some t → root_at dump r ≡ Some (entry_to r t)
-  root_some t some = at_root ∙ ap (option_map (λ (target : ℕ). entry_to r target)) some
-
-  root_stands_here : (x : RootEntry) → root_at dump r ≡ Some x → Contains (filter_map (dump_root dump []) (enumerate_from 0 dump.roots)) x
-  root_stands_here x is = filter_map_contains (dump_root dump []) (enumerate_from 0 dump.roots) (r, root) x (enumerate_contains dump.roots r root entry) (sym at_root ∙ is)
-
--- where there is no root there is no entry
-no_root_past : (dump : Dump) (r : ℕ) (x : RootEntry) → root_at dump r ≡ Some x → slice_get dump.roots r ≡ None → ⊥
+-- the root of a number, by where it comes from
+pub root_of_dump : (dump : Dump) (log : List Event) (r : ℕ) (root : Root) → slice_get dump.roots r ≡ Some root → root_at dump log r ≡ dump_root dump log (r, root)
 unfolding root_at
-no_root_past dump r x is none = let same : None ≡ Some x = sym (ap (entry_by dump r) none) ∙ is in absurd (cc)
+root_of_dump dump log r root at =
+    let lt : r < length dump.roots = slice_get_within dump.roots r root at in
+    rw (lt-ltb r (length dump.roots) lt) (ap (root_by dump log r) at)
 
--- the entry of a root is among those of the roots that stand
-stands_by_entry : (dump : Dump) (r : ℕ) (x : RootEntry) (entry : Option Root) → slice_get dump.roots r ≡ entry → root_at dump r ≡ Some x → Contains (filter_map (dump_root dump []) (enumerate_from 0 dump.roots)) x
-stands_by_entry dump r x None e is = absurd (no_root_past dump r x is e)
-stands_by_entry dump r x (Some root) e is = root_stands_here dump r root e x is
+pub root_of_event : (dump : Dump) (log : List Event) (k : ℕ) (event : Event) → slice_get log k ≡ Some event → root_at dump log (length dump.roots + k) ≡ added_root dump log (k, event)
+unfolding root_at
+root_of_event dump log k event at =
+    let number : (length dump.roots + k) - length dump.roots ≡ k = omega arith in
+    rw (not-below (length dump.roots + k) (length dump.roots) (omega arith), number) (ap (root_by_event dump log k) at)
+
+-- the entry of a root has its number, and its object is one of the dump's
+record IsEntry (dump : Dump) (r : ℕ) (x : RootEntry) : Type 0 where
+  pub number : x.number ≡ r
+  pub object : x.target < length dump.objects
+
+standing-entry : (dump : Dump) (r id : ℕ) (x : RootEntry) (dropped : Bool) (t : Option ℕ) → index_of dump.objects id ≡ t → cond dropped None (option_map (λ (target : ℕ). entry_to r target) t) ≡ Some x → IsEntry dump r x
+standing-entry dump r id x true t found is = absurd cc
+standing-entry dump r id x false None found is = absurd cc
+standing-entry dump r id x false (Some t) found is =
+    let same : entry_to r t ≡ x = cc in
+    let target : t ≡ x.target = ap (λ (y : RootEntry). y.target) same in
+    record { number = sym (ap (λ (y : RootEntry). y.number) same); object = omega (arith, index_of_within dump.objects id t found, target) }
+
+dump-entry : (dump : Dump) (log : List Event) (r : ℕ) (x : RootEntry) (at : Option Root) → root_by dump log r at ≡ Some x → IsEntry dump r x
+dump-entry dump log r x None is = absurd cc
+dump-entry dump log r x (Some root) is = standing-entry dump r root.id x (is_dropped log r) (index_of dump.objects root.id) refl is
+
+edit-entry : (dump : Dump) (log : List Event) (k : ℕ) (x : RootEntry) (edit : Option Edit) → added_by dump log k edit ≡ Some x → IsEntry dump (length dump.roots + k) x
+edit-entry dump log k x None is = absurd cc
+edit-entry dump log k x (Some (edits.Cut id slot)) is = absurd cc
+edit-entry dump log k x (Some (edits.Clear id)) is = absurd cc
+edit-entry dump log k x (Some (edits.Drop r)) is = absurd cc
+edit-entry dump log k x (Some (edits.Add id)) is = standing-entry dump (length dump.roots + k) id x (is_dropped log (length dump.roots + k)) (index_of dump.objects id) refl is
+
+event-entry : (dump : Dump) (log : List Event) (k : ℕ) (x : RootEntry) (at : Option Event) → root_by_event dump log k at ≡ Some x → IsEntry dump (length dump.roots + k) x
+event-entry dump log k x None is = absurd cc
+event-entry dump log k x (Some event) is = edit-entry dump log k x (live_edit log (k, event)) is
+
+is_entry : (dump : Dump) (log : List Event) (r : ℕ) (x : RootEntry) → root_at dump log r ≡ Some x → IsEntry dump r x
+unfolding root_at
+is_entry dump log r x is = elim (cases_lt r (length dump.roots)) [
+  | inl lt ↦ dump-entry dump log r x (slice_get dump.roots r) (rw (lt-ltb r (length dump.roots) lt) at is)
+  | inr le ↦
+      let number : length dump.roots + (r - length dump.roots) ≡ r = omega arith in
+      subst (λ (n : ℕ). IsEntry dump n x) number (event-entry dump log (r - length dump.roots) x (slice_get log (r - length dump.roots)) (rw (not-below r (length dump.roots) le) at is))
+]
+
+-- the object that the root of a number holds, if it holds one
+abbrev pub held_at : Dump → List Event → ℕ → Option ℕ
+held_at dump log r = option_map (λ (x : RootEntry). x.target) (root_at dump log r)
+
+held-some : (entry : Option RootEntry) (t : ℕ) → option_map (λ (x : RootEntry). x.target) entry ≡ Some t → (x : RootEntry) × (entry ≡ Some x) × (x.target ≡ t)
+held-some None t is = absurd cc
+held-some (Some x) t is = let same : x.target ≡ t = cc in (x, refl, same)
+
+pub root_none : (dump : Dump) (log : List Event) (r : ℕ) → None ≡ held_at dump log r → (x : RootEntry) → root_at dump log r ≡ Some x → ⊥
+root_none dump log r none x is = let same : None ≡ Some x.target = none ∙ ap (option_map (λ (x : RootEntry). x.target)) is in absurd (cc)
+
+pub root_some : (dump : Dump) (log : List Event) (r t : ℕ) → Some t ≡ held_at dump log r → root_at dump log r ≡ Some (entry_to r t)
+root_some dump log r t some =
+    let found : (x : RootEntry) × (root_at dump log r ≡ Some x) × (x.target ≡ t) = held-some (root_at dump log r) t (sym some) in
+    let number : found.0.number ≡ r = (is_entry dump log r found.0 found.1).number in
+    found.1 ∙ ap (λ (n : ℕ). Some (entry_to n found.0.target)) number ∙ ap (λ (n : ℕ). Some (entry_to r n)) found.2
+
+-- the number of the object that a root holds is below their count
+pub held_within : (dump : Dump) (log : List Event) (r t : ℕ) → Some t ≡ held_at dump log r → t < length dump.objects
+held_within dump log r t some =
+    let found : (x : RootEntry) × (root_at dump log r ≡ Some x) × (x.target ≡ t) = held-some (root_at dump log r) t (sym some) in
+    omega (arith, (is_entry dump log r found.0 found.1).object, found.2)
+
+target-of-entry : (r : ℕ) (t : Option ℕ) → option_map (λ (x : RootEntry). x.target) (option_map (λ (target : ℕ). entry_to r target) t) ≡ t
+target-of-entry r None = refl
+target-of-entry r (Some t) = refl
+
+standing-held : (dump : Dump) (log : List Event) (r id : ℕ) → is_dropped log r ≡ false → option_map (λ (x : RootEntry). x.target) (standing_root dump log r id) ≡ index_of dump.objects id
+standing-held dump log r id stays =
+    ap (λ (b : Bool). option_map (λ (x : RootEntry). x.target) (cond b None (option_map (λ (target : ℕ). entry_to r target) (index_of dump.objects id)))) stays ∙ target-of-entry r (index_of dump.objects id)
+
+standing-dropped : (dump : Dump) (log : List Event) (r id : ℕ) → is_dropped log r ≡ true → option_map (λ (x : RootEntry). x.target) (standing_root dump log r id) ≡ None
+standing-dropped dump log r id dropped =
+    ap (λ (b : Bool). option_map (λ (x : RootEntry). x.target) (cond b None (option_map (λ (target : ℕ). entry_to r target) (index_of dump.objects id)))) dropped
+
+-- what a root of the dump holds, by whether it is dropped
+module _ (dump : Dump) (log : List Event) (r : ℕ) (root : Root) (at : slice_get dump.roots r ≡ Some root) where
+  dump-held : option_map (λ (x : RootEntry). x.target) (standing_root dump log r root.id) ≡ held_at dump log r
+  dump-held = ap (option_map (λ (x : RootEntry). x.target)) (sym (root_of_dump dump log r root at))
+
+  pub dump_held : is_dropped log r ≡ false → index_of dump.objects root.id ≡ held_at dump log r
+  dump_held stays = sym (standing-held dump log r root.id stays) ∙ dump-held
+
+  pub dump_dropped : is_dropped log r ≡ true → None ≡ held_at dump log r
+  dump_dropped dropped = sym (standing-dropped dump log r root.id dropped) ∙ dump-held
+
+root-by : (dump : Dump) (log : List Event) (r : ℕ) (at : Option Root) → slice_get dump.roots r ≡ at → is_dropped log r ≡ true → r < length dump.roots → None ≡ held_at dump log r
+root-by dump log r None at dropped lt = let some : slice_get dump.roots r ≡ Some (get_or dump.roots r (record { kind = kinds.Unknown; id = 0 })) = slice_get-get_or dump.roots r (record { kind = kinds.Unknown; id = 0 }) lt in let same : None ≡ Some (get_or dump.roots r (record { kind = kinds.Unknown; id = 0 })) = sym at ∙ some in absurd (cc)
+root-by dump log r (Some root) at dropped lt = dump_dropped dump log r root at dropped
+
+-- a root of the dump that is dropped holds nothing
+pub dump_dropped_at : (dump : Dump) (log : List Event) (r : ℕ) → r < length dump.roots → is_dropped log r ≡ true → None ≡ held_at dump log r
+dump_dropped_at dump log r lt dropped = root-by dump log r (slice_get dump.roots r) refl dropped lt
+
+-- what an edit adds
+addition : (dump : Dump) (log : List Event) (k : ℕ) (edit : Edit) (id : ℕ) → added_id edit ≡ Some id → option_map (λ (x : RootEntry). x.target) (added_by dump log k (Some edit)) ≡ option_map (λ (x : RootEntry). x.target) (standing_root dump log (length dump.roots + k) id)
+addition dump log k (edits.Cut i slot) id is = absurd cc
+addition dump log k (edits.Clear i) id is = absurd cc
+addition dump log k (edits.Drop n) id is = absurd cc
+addition dump log k (edits.Add i) id is = let same : i ≡ id = cc in ap (λ (j : ℕ). option_map (λ (x : RootEntry). x.target) (standing_root dump log (length dump.roots + k) j)) same
+
+no-addition : (dump : Dump) (log : List Event) (k : ℕ) (edit : Edit) → added_id edit ≡ None → option_map (λ (x : RootEntry). x.target) (added_by dump log k (Some edit)) ≡ None
+no-addition dump log k (edits.Cut i slot) is = refl
+no-addition dump log k (edits.Clear i) is = refl
+no-addition dump log k (edits.Drop n) is = refl
+no-addition dump log k (edits.Add i) is = absurd cc
+
+-- what the root holds that an event adds, by its live edit
+module _ (dump : Dump) (log : List Event) (k : ℕ) (r : Option Edit) (lt : k < length log) (is : (e : Event) → slice_get log k ≡ Some e → r ≡ live_edit log (k, e)) where
+  event-held : option_map (λ (x : RootEntry). x.target) (added_by dump log k r) ≡ held_at dump log (length dump.roots + k)
+  event-held = by_event log k lt (λ e at. ap (λ (o : Option Edit). option_map (λ (x : RootEntry). x.target) (added_by dump log k o)) (is e at) ∙ ap (option_map (λ (x : RootEntry). x.target)) (sym (root_of_event dump log k e at)))
+
+  pub no_live_edit : r ≡ None → None ≡ held_at dump log (length dump.roots + k)
+  no_live_edit none = sym (ap (λ (o : Option Edit). option_map (λ (x : RootEntry). x.target) (added_by dump log k o)) none) ∙ event-held
+
+  added-held : (edit : Edit) → r ≡ Some edit → option_map (λ (x : RootEntry). x.target) (added_by dump log k (Some edit)) ≡ held_at dump log (length dump.roots + k)
+  added-held edit some = sym (ap (λ (o : Option Edit). option_map (λ (x : RootEntry). x.target) (added_by dump log k o)) some) ∙ event-held
+
+  pub adds_none : (edit : Edit) → r ≡ Some edit → added_id edit ≡ None → None ≡ held_at dump log (length dump.roots + k)
+  adds_none edit some none = sym (no-addition dump log k edit none) ∙ added-held edit some
+
+  pub added_dropped : (edit : Edit) (id : ℕ) → r ≡ Some edit → added_id edit ≡ Some id → is_dropped log (length dump.roots + k) ≡ true → None ≡ held_at dump log (length dump.roots + k)
+  added_dropped edit id some adds dropped = sym (standing-dropped dump log (length dump.roots + k) id dropped) ∙ sym (addition dump log k edit id adds) ∙ added-held edit some
+
+  pub added_held : (edit : Edit) (id : ℕ) → r ≡ Some edit → added_id edit ≡ Some id → is_dropped log (length dump.roots + k) ≡ false → index_of dump.objects id ≡ held_at dump log (length dump.roots + k)
+  added_held edit id some adds stays = sym (standing-held dump log (length dump.roots + k) id stays) ∙ sym (addition dump log k edit id adds) ∙ added-held edit some
 
 -- the entry of a root stands
-pub root_stands_at : (dump : Dump) (r : ℕ) (x : RootEntry) → root_at dump r ≡ Some x → Contains (standing dump []).roots x
-root_stands_at dump r x is = rw append-nil (stands_by_entry dump r x (slice_get dump.roots r) refl is)
+stands-in_dump : (dump : Dump) (log : List Event) (r : ℕ) (x : RootEntry) (at : Option Root) → slice_get dump.roots r ≡ at → root_by dump log r at ≡ Some x → Contains (standing dump log).roots x
+stands-in_dump dump log r x None at is = absurd cc
+stands-in_dump dump log r x (Some root) at is =
+    Contains-append_left (filter_map (dump_root dump log) (enumerate_from 0 dump.roots)) (filter_map (added_root dump log) (enumerate_from 0 log)) x
+    (filter_map_contains (dump_root dump log) (enumerate_from 0 dump.roots) (r, root) x (enumerate_contains dump.roots r root at) is)
+
+stands-added : (dump : Dump) (log : List Event) (k : ℕ) (x : RootEntry) (at : Option Event) → slice_get log k ≡ at → root_by_event dump log k at ≡ Some x → Contains (standing dump log).roots x
+stands-added dump log k x None at is = absurd cc
+stands-added dump log k x (Some event) at is =
+    Contains-append_right (filter_map (dump_root dump log) (enumerate_from 0 dump.roots)) (filter_map (added_root dump log) (enumerate_from 0 log)) x
+    (filter_map_contains (added_root dump log) (enumerate_from 0 log) (k, event) x (enumerate_contains log k event at) is)
+
+pub root_stands_at : (dump : Dump) (log : List Event) (r : ℕ) (x : RootEntry) → root_at dump log r ≡ Some x → Contains (standing dump log).roots x
+unfolding root_at
+root_stands_at dump log r x is = elim (cases_lt r (length dump.roots)) [
+  | inl lt ↦ stands-in_dump dump log r x (slice_get dump.roots r) refl (rw (lt-ltb r (length dump.roots) lt) at is)
+  | inr le ↦ stands-added dump log (r - length dump.roots) x (slice_get log (r - length dump.roots)) refl (rw (not-below r (length dump.roots) le) at is)
+]
 
 -- each entry that stands is that of a root
-pub root_has_number : (dump : Dump) (x : RootEntry) → Contains (standing dump []).roots x → (r : ℕ) × (r < length dump.roots) × (root_at dump r ≡ Some x)
-unfolding root_at
-root_has_number dump x c =
-    let (n, numbered, gives) = filter_map_only (dump_root dump []) (enumerate_from 0 dump.roots) x (rw append-nil at c) in
-    let entry : slice_get dump.roots n.0 ≡ Some n.1 = enumerate_only dump.roots n numbered in
-    (n.0, slice_get_within dump.roots n.0 n.1 entry, ap (entry_by dump n.0) entry ∙ gives)
+pub root_has_number : (dump : Dump) (log : List Event) (x : RootEntry) → Contains (standing dump log).roots x → (r : ℕ) × (r < root_count dump log) × (root_at dump log r ≡ Some x)
+root_has_number dump log x c = elim (Contains-append_cases (filter_map (dump_root dump log) (enumerate_from 0 dump.roots)) (filter_map (added_root dump log) (enumerate_from 0 log)) x c) [
+  | inl first ↦
+      let found : (n : ℕ × Root) × Contains (enumerate_from 0 dump.roots) n × (dump_root dump log n ≡ Some x) = filter_map_only (dump_root dump log) (enumerate_from 0 dump.roots) x first in
+      let n = found.0 in
+      let entry : slice_get dump.roots n.0 ≡ Some n.1 = enumerate_only dump.roots n found.1 in
+      let lt : n.0 < length dump.roots = slice_get_within dump.roots n.0 n.1 entry in
+      (n.0, omega arith, root_of_dump dump log n.0 n.1 entry ∙ found.2)
+  | inr later ↦
+      let found : (n : ℕ × Event) × Contains (enumerate_from 0 log) n × (added_root dump log n ≡ Some x) = filter_map_only (added_root dump log) (enumerate_from 0 log) x later in
+      let n = found.0 in
+      let entry : slice_get log n.0 ≡ Some n.1 = enumerate_only log n found.1 in
+      let lt : n.0 < length log = slice_get_within log n.0 n.1 entry in
+      (length dump.roots + n.0, omega arith, root_of_event dump log n.0 n.1 entry ∙ found.2)
+]

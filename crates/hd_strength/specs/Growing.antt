@@ -1,6 +1,7 @@
 -- What is reached so far, and what is offered.
 -- Source: this project.
 use Rattle.std.specs.Prelude.{◌≡◌, ◌≢◌, ℕ, ◌+◌, ◌^◌, ◌≤◌, ◌<◌, ◌⊎◌, List, length, Contains, sum_by, nat_eq, if◌then◌else◌, Option, Some}
+use Rattle.hd_terms.specs.declared.Event.{Event}
 use Rattle.hd_terms.specs.declared.Strength.{Strength}
 use Rattle.hd_terms.specs.declared.Strength.TheVariants as strengths
 use Rattle.hd_terms.specs.declared.Support.TheVariants as supports
@@ -27,13 +28,13 @@ abbrev pub offer_at : ℕ → ℕ → Offer
 offer_at o i = record { source = o; place = i }
 
 -- an object is held by a root, or nothing is known to reach it
-abbrev pub IsHeldOrNot : Dump → List Kept → ℕ → Type 0
-IsHeldOrNot dump ks o = (kept_at ks o ≡ unreached) ⊎ ((r : ℕ) × (root_at dump r ≡ Some (record { number = r; target = o })) × (kept_at ks o ≡ rooted r))
+abbrev pub IsHeldOrNot : Dump → List Event → List Kept → ℕ → Type 0
+IsHeldOrNot dump log ks o = (kept_at ks o ≡ unreached) ⊎ ((r : ℕ) × (root_at dump log r ≡ Some (record { number = r; target = o })) × (kept_at ks o ≡ rooted r))
 
 -- objects that one of the first n roots holds are held, and nothing else is reached
-pub record AreHeld (dump : Dump) (ks : List Kept) (n : ℕ) : Type 0 where
-  pub each : (o : ℕ) → IsHeldOrNot dump ks o
-  pub by_roots : (r : ℕ) → r < n → (x : RootEntry) → root_at dump r ≡ Some x → (kept_at ks x.target).strength ≡ strengths.Strong
+pub record AreHeld (dump : Dump) (log : List Event) (ks : List Kept) (n : ℕ) : Type 0 where
+  pub each : (o : ℕ) → IsHeldOrNot dump log ks o
+  pub by_roots : (r : ℕ) → r < n → (x : RootEntry) → root_at dump log r ≡ Some x → (kept_at ks x.target).strength ≡ strengths.Strong
 
 -- an edge from an object that passes its strength on gives this strength
 pub record IsBacked (at : ℕ → ℕ → Option Edge) (ks : List Kept) (s : Strength) (x : Offer) : Type 0 where

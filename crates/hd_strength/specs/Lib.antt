@@ -1,4 +1,5 @@
 pub mod Held
 pub mod Buckets
+pub mod Taken
 pub mod Rows
 pub mod Growing

@@ -1,30 +1,50 @@
--- Rows of a dump: what each place of an object's slots, and each root, is a reference to.
+-- Rows of a dump under a log: what each place of an object's slots, and each root, is a standing reference to.
 -- Source: this project.
-use Rattle.std.specs.Prelude.{ℕ, length, Option, Some, None, slice_get}
-use Rattle.std.specs.Option.{option_map}
+use Rattle.std.specs.Prelude.{ℕ, ◌+◌, ◌-◌, nat_lt, if◌then◌else◌, List, length, Option, Some, None, slice_get}
+use Rattle.hd_terms.specs.declared.Edit.{Edit}
+use Rattle.hd_terms.specs.declared.Edit.TheVariants as edits
+use Rattle.hd_terms.specs.declared.Event.{Event}
 use Rattle.hd_terms.specs.Paths.{Edge, RootEntry}
-use Rattle.hd_terms.specs.Dump.{SlotEntry, Root, Dump}
-use Rattle.hd_terms.specs.Edges.{index_of, edge_of}
-use Rattle.hd_graph.specs.Rows.{object_at}
+use Rattle.hd_terms.specs.Dump.{SlotEntry, Root, Dump, object_at}
+use Rattle.hd_terms.specs.Edges.{edge_of}
+use Rattle.hd_terms.specs.EditedDump.{slot_stands, dump_root, added_root}
 
 -- how many slots an object has
 abbrev pub width : Dump → ℕ → ℕ
 width dump o = length (object_at dump o).slots
 
--- the edge of a slot, where there is a slot
-abbrev pub edge_by : Dump → ℕ → Option SlotEntry → Option Edge
-edge_by dump o None = None
-edge_by dump o (Some s) = edge_of dump.objects o s
+-- the edge of a slot, where there is a slot and it stands
+abbrev pub edge_by : Dump → List Event → ℕ → Option SlotEntry → Option Edge
+edge_by dump log o None = None
+edge_by dump log o (Some s) = if slot_stands log (object_at dump o) s.slot then edge_of dump.objects o s else None
 
--- the edge at a place of an object's slots
-unfoldable pub edge_at : Dump → ℕ → ℕ → Option Edge
-edge_at dump o i = edge_by dump o (slice_get (object_at dump o).slots i)
+-- the standing edge at a place of an object's slots
+unfoldable pub edge_at : Dump → List Event → ℕ → ℕ → Option Edge
+edge_at dump log o i = edge_by dump log o (slice_get (object_at dump o).slots i)
 
--- the entry of a root, where there is a root
-abbrev pub entry_by : Dump → ℕ → Option Root → Option RootEntry
-entry_by dump r None = None
-entry_by dump r (Some root) = option_map (λ (target : ℕ). record { number = r; target = target }) (index_of dump.objects root.id)
+-- the entry of a root of the dump, where there is a root and it stands
+abbrev pub root_by : Dump → List Event → ℕ → Option Root → Option RootEntry
+root_by dump log r None = None
+root_by dump log r (Some root) = dump_root dump log (r, root)
 
--- the entry of the root of a number
-unfoldable pub root_at : Dump → ℕ → Option RootEntry
-root_at dump r = entry_by dump r (slice_get dump.roots r)
+-- the entry of the root that an event adds, where there is an event and the root stands
+abbrev pub root_by_event : Dump → List Event → ℕ → Option Event → Option RootEntry
+root_by_event dump log k None = None
+root_by_event dump log k (Some event) = added_root dump log (k, event)
+
+-- the ID of the object to which an edit adds a root
+abbrev pub added_id : Edit → Option ℕ
+added_id (edits.Cut id slot) = None
+added_id (edits.Clear id) = None
+added_id (edits.Drop r) = None
+added_id (edits.Add id) = Some id
+
+-- how many roots there can be: those of the dump, and one for each event
+abbrev pub root_count : Dump → List Event → ℕ
+root_count dump log = length dump.roots + length log
+
+-- the entry of the root of a number: the dump's come first, then those of events
+unfoldable pub root_at : Dump → List Event → ℕ → Option RootEntry
+root_at dump log r =
+    if nat_lt r (length dump.roots) then root_by dump log r (slice_get dump.roots r)
+    else root_by_event dump log (r - length dump.roots) (slice_get log (r - length dump.roots))

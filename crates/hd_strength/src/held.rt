@@ -62,12 +62,12 @@ impl Held {
     }
 
     /// An object that a root holds.
-    pub fn by_root(root: u32) -> Held
+    pub fn by_root(root: u64) -> Held
         ensures { result ≡ rooted root }
     {
         Held {
             stamp: 0,
-            number: u64::from(root),
+            number: root,
             source: 0,
             how: How::Root,
             strength: Strength::Strong,

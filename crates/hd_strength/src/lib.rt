@@ -7,11 +7,13 @@ ghost use Rattle.hd_terms.specs.Settled.{kept_at};
 mod buckets;
 mod held;
 mod scratch;
+mod taken;
 
 use hd_terms::{Strength, Support};
 use held::Held;
 pub use scratch::from_scratch;
 use std::marker::Model;
+pub use taken::Taken;
 
 /// What is kept of each object: its strength, what it owes it to, and its stamp.
 #[derive(Drop)]

@@ -1,20 +1,32 @@
 //! Strengths from scratch: offers are taken by falling rank.
-ghost use Rattle.std.specs.Prelude.{◌≡◌, ℕ, ◌+◌, ◌^◌, ◌<◌, ◌≤◌, ◌⊎◌, [], Some, length, IfNone, IfOk, IfSome, OnOk};
+ghost use Rattle.std.specs.Prelude.{◌≡◌, ℕ, ◌+◌, ◌^◌, ◌<◌, ◌≤◌, ◌⊎◌, Some, length, IfNone, IfOk, IfSome, OnOk};
 ghost use Rattle.hd_terms.specs.Ranks.{rank};
-ghost use Rattle.hd_terms.specs.Paths.{Edge};
+ghost use Rattle.std.specs.Option.{option_map};
+ghost use Rattle.hd_terms.specs.Log.{live_flags};
+ghost use Rattle.hd_terms.specs.Paths.{Edge, RootEntry};
 ghost use Rattle.hd_terms.specs.EditedDump.{standing};
 ghost use Rattle.hd_terms.specs.Settled.{Settled, kept_at, unreached};
 ghost use Rattle.hd_strength.specs.Buckets.{bucket, pending};
-ghost use Rattle.hd_strength.specs.Rows.{width, edge_at};
+ghost use Rattle.hd_strength.specs.Rows.{width, added_id, edge_at, root_at, root_count};
 ghost use Rattle.hd_strength.specs.Growing.{rank_at, gift, AreHeld, IsBacked, IsGrowing, Every, AddsOffers, IsDeclined, IsTaken};
+ghost use Rattle.hd_strength.specs.Taken.{IsTakenBy};
 
 use crate::Strengths;
 use crate::buckets::{Best, Buckets, Offer};
 use crate::held::Held;
+use crate::taken::{Taken, live_edit};
 use hd_graph::Graph;
 use hd_log::Front;
-use hd_terms::{NoMemory, Strength};
+use hd_terms::{Edit, NoMemory, Strength};
 use std::alloc::Global;
+
+/// A graph, a log, and what the log's live edits take away from the graph.
+#[derive(Clone, Copy)]
+struct Edited<'a> {
+    graph: &'a Graph,
+    front: &'a Front,
+    taken: &'a Taken,
+}
 
 /// What is kept where nothing reaches an object.
 fn none_reached(alloc: Global, objects: u32) -> Result<Vec<Held>, NoMemory>
@@ -28,48 +40,118 @@ fn none_reached(alloc: Global, objects: u32) -> Result<Vec<Held>, NoMemory>
     Ok(kept)
 }
 
-/// What is kept where only the roots hold their objects.
-fn rooted(alloc: Global, graph: &Graph) -> Result<Vec<Held>, NoMemory>
-    ensures few { length graph.now.objects < 2 ^ 32 }
-    ensures count { IfOk result (λ v. length v.items ≡ length graph.now.objects) }
-    ensures held { IfOk result (λ v. AreHeld graph.now v.items (length graph.now.roots)) }
+/// The object that a root of the dump holds, where the root stands.
+fn root_object(edited: Edited<'_>, r: u32) -> Option<u32>
+    requires taken { IsTakenBy edited.graph.now edited.front.now edited.taken.now }
+    requires root { r < length edited.graph.now.roots }
+    ensures { result ≡ option_map (λ (x : RootEntry). x.target) (root_at edited.entry.graph.now edited.entry.front.now r) }
 {
-    let mut kept = none_reached(alloc, graph.objects())?;
-    for r in 0..graph.roots_len() {
-        if let Some(o) = graph.roots(r).object {
-            kept[o as usize] = Held::by_root(r);
+    if edited.taken.root(u64::from(r)) {
+        return None;
+    }
+    edited.graph.roots(r).object
+}
+
+/// The ID of the object to which an edit adds a root.
+fn added_id(edit: Edit) -> Option<u64>
+    ensures { result ≡ added_id edit }
+{
+    match edit {
+        Edit::Add(id) => Some(id),
+        Edit::Cut(_, _) | Edit::Clear(_) | Edit::Drop(_) => None,
+    }
+}
+
+/// The object that the root holds which event k adds, where the event is live and the root stands.
+fn added_object(edited: Edited<'_>, live: &[bool], k: u32) -> Option<u32>
+    requires taken { IsTakenBy edited.graph.now edited.front.now edited.taken.now }
+    requires event { k < length edited.front.now }
+    requires flags { live.now ≡ live_flags edited.front.now }
+    ensures { result ≡ option_map (λ (x : RootEntry). x.target) (root_at edited.entry.graph.now edited.entry.front.now (length edited.entry.graph.now.roots + k)) }
+{
+    let edit = live_edit(edited.front, live, k)?;
+    let id = added_id(edit)?;
+    if edited
+        .taken
+        .root(u64::from(edited.graph.roots_len()) + u64::from(k))
+    {
+        return None;
+    }
+    edited.graph.index_of(id)
+}
+
+/// What is kept where only the roots of the dump hold their objects, so far as they stand.
+fn held_by_dump(alloc: Global, edited: Edited<'_>) -> Result<Vec<Held>, NoMemory>
+    requires taken { IsTakenBy edited.graph.now edited.front.now edited.taken.now }
+    ensures few { length edited.entry.graph.now.objects < 2 ^ 32 }
+    ensures count { IfOk result (λ v. length v.items ≡ length edited.entry.graph.now.objects) }
+    ensures held { IfOk result (λ v. AreHeld edited.entry.graph.now edited.entry.front.now v.items (length edited.entry.graph.now.roots)) }
+{
+    let mut kept = none_reached(alloc, edited.graph.objects())?;
+    for r in 0..edited.graph.roots_len() {
+        if let Some(o) = root_object(edited, r) {
+            kept[o as usize] = Held::by_root(u64::from(r));
+        }
+    }
+    Ok(kept)
+}
+
+/// What is kept where only the roots hold their objects: those of the dump and those that were added, so far as they
+/// stand. An added root has the number of the event after those of the dump's roots.
+fn rooted(alloc: Global, edited: Edited<'_>) -> Result<Vec<Held>, NoMemory>
+    requires taken { IsTakenBy edited.graph.now edited.front.now edited.taken.now }
+    ensures few { length edited.entry.graph.now.objects < 2 ^ 32 }
+    ensures count { IfOk result (λ v. length v.items ≡ length edited.entry.graph.now.objects) }
+    ensures held { IfOk result (λ v. AreHeld edited.entry.graph.now edited.entry.front.now v.items (root_count edited.entry.graph.now edited.entry.front.now)) }
+{
+    let mut kept = held_by_dump(alloc, edited)?;
+    let live = edited.front.live(alloc)?;
+    for k in 0..edited.front.len() {
+        if let Some(o) = added_object(edited, &live, k) {
+            let root = u64::from(edited.graph.roots_len()) + u64::from(k);
+            kept[o as usize] = Held::by_root(root);
         }
     }
     Ok(kept)
 }
 
 /// What the reference at a place of an object's slots gives its target, if nothing reaches that yet.
-fn gift_at(graph: &Graph, kept: &[Held], o: u32, place: u32) -> Option<Strength>
-    requires object { o < length graph.now.objects }
-    requires place { place < width graph.now o }
-    requires count { length kept.now ≡ length graph.now.objects }
-    ensures none { IfNone result ((e : Edge) → edge_at graph.now o place ≡ Some e → 1 ≤ rank_at kept.now e.target) }
-    ensures some { IfSome result (λ s. (e : Edge) × (edge_at graph.now o place ≡ Some e) × (s ≡ gift kept.now e)) }
+fn gift_at(edited: Edited<'_>, kept: &[Held], o: u32, place: u32) -> Option<Strength>
+    requires taken { IsTakenBy edited.graph.now edited.front.now edited.taken.now }
+    requires object { o < length edited.graph.now.objects }
+    requires place { place < width edited.graph.now o }
+    requires count { length kept.now ≡ length edited.graph.now.objects }
+    ensures none { IfNone result ((e : Edge) → edge_at edited.entry.graph.now edited.entry.front.now o place ≡ Some e → 1 ≤ rank_at kept.now e.target) }
+    ensures some { IfSome result (λ s. (e : Edge) × (edge_at edited.entry.graph.now edited.entry.front.now o place ≡ Some e) × (s ≡ gift kept.now e)) }
     ensures source { IfSome result (λ s. 1 ≤ rank_at kept.now o → 1 ≤ rank s) }
 {
-    let read = graph.slots(o, place);
+    let read = edited.graph.slots(o, place);
     let target = read.target?;
     if kept[target as usize].strength().rank() > 0 {
+        return None;
+    }
+    if edited.taken.slot(o, place) {
         return None;
     }
     Some(kept[o as usize].strength().weaker(read.kind.strength()))
 }
 
 /// Offers what the references of an object give that is reached.
-fn offer_out(graph: &Graph, kept: &[Held], o: u32, buckets: &mut Buckets) -> Result<(), NoMemory>
-    requires object { o < length graph.now.objects }
-    requires count { length kept.now ≡ length graph.now.objects }
+fn offer_out(
+    edited: Edited<'_>,
+    kept: &[Held],
+    o: u32,
+    buckets: &mut Buckets,
+) -> Result<(), NoMemory>
+    requires taken { IsTakenBy edited.graph.now edited.front.now edited.taken.now }
+    requires object { o < length edited.graph.now.objects }
+    requires count { length kept.now ≡ length edited.graph.now.objects }
     requires reached { 1 ≤ rank_at kept.now o }
-    ensures adds { OnOk result (AddsOffers (edge_at graph.now) kept.now o (width graph.now o) (bucket buckets.old) (bucket buckets.new)) }
+    ensures adds { OnOk result (AddsOffers (edge_at edited.entry.graph.now edited.entry.front.now) kept.now o (width edited.entry.graph.now o) (bucket buckets.old) (bucket buckets.new)) }
     ensures few { OnOk result (pending buckets.new < pending buckets.old + 2 ^ 32) }
 {
-    for place in 0..graph.slots_len(o) {
-        if let Some(strength) = gift_at(graph, kept, o, place) {
+    for place in 0..edited.graph.slots_len(o) {
+        if let Some(strength) = gift_at(edited, kept, o, place) {
             buckets.push(strength, Offer { source: o, place })?;
         }
     }
@@ -77,15 +159,16 @@ fn offer_out(graph: &Graph, kept: &[Held], o: u32, buckets: &mut Buckets) -> Res
 }
 
 /// What the objects offer that roots hold.
-fn offer_held(alloc: Global, graph: &Graph, kept: &[Held]) -> Result<Buckets, NoMemory>
-    requires count { length kept.now ≡ length graph.now.objects }
-    requires held { AreHeld graph.now kept.now (length graph.now.roots) }
-    ensures { IfOk result (λ b. IsGrowing (standing graph.now []) (edge_at graph.now) kept.now (bucket b) 0 Every) }
+fn offer_held(alloc: Global, edited: Edited<'_>, kept: &[Held]) -> Result<Buckets, NoMemory>
+    requires taken { IsTakenBy edited.graph.now edited.front.now edited.taken.now }
+    requires count { length kept.now ≡ length edited.graph.now.objects }
+    requires held { AreHeld edited.graph.now edited.front.now kept.now (root_count edited.graph.now edited.front.now) }
+    ensures { IfOk result (λ b. IsGrowing (standing edited.entry.graph.now edited.entry.front.now) (edge_at edited.entry.graph.now edited.entry.front.now) kept.now (bucket b) 0 Every) }
 {
     let mut buckets = Buckets::new(alloc);
-    for o in 0..graph.objects() {
+    for o in 0..edited.graph.objects() {
         if kept[o as usize].strength().rank() > 0 {
-            offer_out(graph, kept, o, &mut buckets)?;
+            offer_out(edited, kept, o, &mut buckets)?;
         }
     }
     Ok(buckets)
@@ -93,22 +176,23 @@ fn offer_held(alloc: Global, graph: &Graph, kept: &[Held]) -> Result<Buckets, No
 
 /// Takes an offer, if nothing reaches its target yet. Answers how many objects have a stamp then.
 fn accept(
-    graph: &Graph,
+    edited: Edited<'_>,
     kept: &mut Vec<Held>,
     buckets: &mut Buckets,
     best: Best,
     count: u64,
 ) -> Result<u64, NoMemory>
-    requires object { best.offer.source < length graph.now.objects }
-    requires place { best.offer.place < width graph.now best.offer.source }
-    requires count { length kept.old.items ≡ length graph.now.objects }
-    requires backed { IsBacked (edge_at graph.now) kept.old.items best.strength best.offer }
+    requires taken { IsTakenBy edited.graph.now edited.front.now edited.taken.now }
+    requires object { best.offer.source < length edited.graph.now.objects }
+    requires place { best.offer.place < width edited.graph.now best.offer.source }
+    requires count { length kept.old.items ≡ length edited.graph.now.objects }
+    requires backed { IsBacked (edge_at edited.graph.now edited.front.now) kept.old.items best.strength best.offer }
     requires room { count < 2 ^ 32 }
-    ensures { IfOk result (λ n. (e : Edge) → edge_at graph.now best.offer.source best.offer.place ≡ Some e →
+    ensures { IfOk result (λ n. (e : Edge) → edge_at edited.entry.graph.now edited.entry.front.now best.offer.source best.offer.place ≡ Some e →
         (IsDeclined kept.old.items kept.new.items buckets.old buckets.new e count n
-        ⊎ IsTaken (edge_at graph.now) (width graph.now) kept.old.items kept.new.items buckets.old buckets.new best.strength e count n)) }
+        ⊎ IsTaken (edge_at edited.entry.graph.now edited.entry.front.now) (width edited.entry.graph.now) kept.old.items kept.new.items buckets.old buckets.new best.strength e count n)) }
 {
-    let read = graph.slots(best.offer.source, best.offer.place);
+    let read = edited.graph.slots(best.offer.source, best.offer.place);
     let Some(target) = read.target else {
         return Ok(count);
     };
@@ -117,23 +201,28 @@ fn accept(
     }
     kept[target as usize] = Held::by_edge(best.strength, best.offer.source, read.slot, count + 1);
     if best.strength.rank() >= Strength::Final.rank() {
-        offer_out(graph, kept, target, buckets)?;
+        offer_out(edited, kept, target, buckets)?;
     }
     Ok(count + 1)
 }
 
 /// Takes offers, the greatest first, until none is left.
-fn spread(graph: &Graph, mut kept: Vec<Held>, mut buckets: Buckets) -> Result<Vec<Held>, NoMemory>
-    requires few { length graph.now.objects < 2 ^ 32 }
-    requires count { length kept.items ≡ length graph.now.objects }
-    requires growing { IsGrowing (standing graph.now []) (edge_at graph.now) kept.items (bucket buckets) 0 Every }
-    ensures count { IfOk result (λ v. length v.items ≡ length graph.now.objects) }
-    ensures settled { IfOk result (λ v. Settled (standing graph.now []) v.items) }
-    ensures stamps { IfOk result (λ v. (o : ℕ) → (kept_at v.items o).stamp ≤ length graph.now.objects) }
+fn spread(
+    edited: Edited<'_>,
+    mut kept: Vec<Held>,
+    mut buckets: Buckets,
+) -> Result<Vec<Held>, NoMemory>
+    requires taken { IsTakenBy edited.graph.now edited.front.now edited.taken.now }
+    requires few { length edited.graph.now.objects < 2 ^ 32 }
+    requires count { length kept.items ≡ length edited.graph.now.objects }
+    requires growing { IsGrowing (standing edited.graph.now edited.front.now) (edge_at edited.graph.now edited.front.now) kept.items (bucket buckets) 0 Every }
+    ensures count { IfOk result (λ v. length v.items ≡ length edited.entry.graph.now.objects) }
+    ensures settled { IfOk result (λ v. Settled (standing edited.entry.graph.now edited.entry.front.now) v.items) }
+    ensures stamps { IfOk result (λ v. (o : ℕ) → (kept_at v.items o).stamp ≤ length edited.entry.graph.now.objects) }
 {
     let mut count = 0;
     while let Some(best) = buckets.pop() {
-        count = accept(graph, &mut kept, &mut buckets, best, count)?;
+        count = accept(edited, &mut kept, &mut buckets, best, count)?;
     }
     Ok(kept)
 }
@@ -144,10 +233,14 @@ pub fn from_scratch(alloc: Global, graph: &Graph, front: &Front) -> Result<Stren
     ensures settled { IfOk result (λ ks. Settled (standing graph.now front.now) ks) }
     ensures stamps { IfOk result (λ ks. (o : ℕ) → (kept_at ks o).stamp ≤ length graph.now.objects) }
 {
-    let events = front.len();
-    prove!(events == 0);
-    let kept = rooted(alloc, graph)?;
-    let buckets = offer_held(alloc, graph, &kept)?;
-    let kept = spread(graph, kept, buckets)?;
+    let taken = Taken::of(alloc, graph, front)?;
+    let edited = Edited {
+        graph,
+        front,
+        taken: &taken,
+    };
+    let kept = rooted(alloc, edited)?;
+    let buckets = offer_held(alloc, edited, &kept)?;
+    let kept = spread(edited, kept, buckets)?;
     Ok(Strengths { kept })
 }

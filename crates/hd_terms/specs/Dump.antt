@@ -1,9 +1,11 @@
 -- The dump: what a file says of the heap, and all that the heap half of the definitions knows of it.
 -- Source: this project. It is where the two halves meet: nothing above it names a byte of a file, nothing below it a strength.
-use Rattle.std.specs.Prelude.{ℕ, List, Option}
+use Rattle.std.specs.Prelude.{ℕ, List, [], Option, None}
+use Rattle.std.specs.List.{slice_index_or}
 use Rattle.hd_terms.specs.declared.Slot.{Slot}
 use Rattle.hd_terms.specs.declared.EdgeKind.{EdgeKind}
 use Rattle.hd_terms.specs.declared.Group.{Group}
+use Rattle.hd_terms.specs.declared.Group.TheVariants as groups
 use Rattle.hd_terms.specs.declared.RootKind.{RootKind}
 
 -- a slot of an object: its name, what a reference in it goes through, and the ID in it, 0 for null
@@ -29,3 +31,11 @@ pub record Root : Type 0 where
 pub record Dump : Type 0 where
   pub objects : List Object
   pub roots : List Root
+
+-- what stands past the last object
+abbrev pub no_object : Object
+no_object = record { id = 0; group = groups.Classes; bytes = 0; slots = []; referent = None }
+
+-- the object of a number
+abbrev pub object_at : Dump → ℕ → Object
+object_at dump o = slice_index_or dump.objects o no_object

@@ -1,7 +1,7 @@
 -- The worked examples of docs/DEFINITIONS.md as data: files, dumps, logs and lines. What the definitions say of them is
 -- proved in `examples`.
 -- Source: this project.
-use Rattle.std.specs.Prelude.{ℕ, ◌+◌, ◌*◌, List, [], ◌∷◌, ◌++◌, length, drop, Some, None}
+use Rattle.std.specs.Prelude.{ℕ, ◌+◌, ◌*◌, List, [], ◌∷◌, ◌++◌, length, drop, replicate, Some, None}
 use Rattle.hd_terms.specs.declared.Slot.{Slot}
 use Rattle.hd_terms.specs.declared.Slot.TheVariants as slots
 use Rattle.hd_terms.specs.declared.EdgeKind.{EdgeKind}
@@ -12,6 +12,8 @@ use Rattle.hd_terms.specs.declared.Edit.{Edit}
 use Rattle.hd_terms.specs.declared.Edit.TheVariants as edits
 use Rattle.hd_terms.specs.declared.Event.{Event}
 use Rattle.hd_terms.specs.declared.What.TheVariants as whats
+use Rattle.hd_terms.specs.declared.SlotMode.{SlotMode}
+use Rattle.hd_terms.specs.declared.SlotRow.{SlotRow}
 use Rattle.hd_terms.specs.Paths.{Edge, RootEntry}
 use Rattle.hd_terms.specs.Dump.{SlotEntry, Object, Root, Dump}
 
@@ -233,3 +235,11 @@ root_on number target = record { number = number; target = target }
 -- edges of kind strong, by the numbers of the objects
 abbrev pub strong_edge : ℕ → Slot → ℕ → Edge
 strong_edge source slot target = record { source = source; slot = slot; target = target; kind = kinds.Strong }
+
+-- a log of as many events as a log can have
+abbrev pub full_log : List Event
+full_log = replicate 4096 (does 0 (edits.Add 1))
+
+-- a slot of kind strong as it is shown
+abbrev pub shown : Slot → ℕ → SlotMode → SlotRow
+shown slot id mode = record { slot = slot; kind = kinds.Strong; id = id; mode = mode }

@@ -14,7 +14,10 @@ pub mod Objects
 pub mod ReadFaults
 pub mod Log
 pub mod EditedDump
+pub mod SlotRows
+pub mod Fell
 pub mod Lines
+pub mod Asking
 pub mod Replies
 pub mod Sessions
 pub mod Examples

@@ -5,6 +5,8 @@ use Rattle.std.specs.Option.{option_map, option_and_then}
 use Rattle.std.specs.List.{slice_split}
 use Rattle.std.specs.Str.{bytes_eq}
 use Rattle.std.specs.Io.BufRead.{strip_last}
+use Rattle.hd_terms.specs.declared.Slot.{Slot}
+use Rattle.hd_terms.specs.declared.Slot.TheVariants as slots
 
 -- the most bytes of a line before its newline
 abbrev pub longest_line : ℕ
@@ -39,6 +41,12 @@ lines_of input = without_empty_end (pieces input)
 pub data Command : Type 0 where
   -- the strength of the object of an ID
   Strength : (id : ℕ) → Command
+  -- the slots of the object of an ID
+  Slots : (id : ℕ) → Command
+  -- the reference in a slot of the object of an ID is taken away
+  Cut : (id : ℕ) (slot : Slot) → Command
+  -- event k is taken back, or the last of the analyst's own edits
+  Undo : (number : Option ℕ) → Command
   Quit : Command
 
 -- why a line asks for nothing
@@ -59,22 +67,68 @@ hex_digit c =
     else if nat_le 65 c && nat_le c 70 then Some (c - 55)
     else None
 
--- the number so far with one more digit after it
-abbrev pub with_digit : Option ℕ → ℕ → Option ℕ
-with_digit so_far c = option_and_then (λ n. option_map (λ digit. 16 * n + digit) (hex_digit c)) so_far
+-- the value of a digit in a base of at most 16
+abbrev pub digit_in : ℕ → ℕ → Option ℕ
+digit_in base c = option_and_then (λ digit. if nat_lt digit base then Some digit else None) (hex_digit c)
 
--- the number that hexadecimal digits spell
-abbrev pub hex_number : List ℕ → Option ℕ
-hex_number digits = fold with_digit (Some 0) digits
+-- the number so far with one more digit after it
+abbrev pub with_digit : ℕ → Option ℕ → ℕ → Option ℕ
+with_digit base so_far c = option_and_then (λ n. option_map (λ digit. base * n + digit) (digit_in base c)) so_far
+
+-- the number that digits spell
+abbrev pub number_in : ℕ → List ℕ → Option ℕ
+number_in base digits = fold (with_digit base) (Some 0) digits
 
 -- an ID is 0x and 1 to 16 hexadecimal digits
 abbrev pub id_digits : List ℕ → Option ℕ
-id_digits digits = if nat_le 1 (length digits) && nat_le (length digits) 16 then hex_number digits else None
+id_digits digits = if nat_le 1 (length digits) && nat_le (length digits) 16 then number_in 16 digits else None
 
 abbrev pub id_of_word : List ℕ → Option ℕ
 id_of_word [] = None
 id_of_word (a ∷ []) = None
 id_of_word (a ∷ b ∷ digits) = if (a == 48) && (b == 120) then id_digits digits else None
+
+-- the greatest number of an event or of a slot
+abbrev pub largest_number : ℕ
+largest_number = 4294967295
+
+-- a number, where it isn't too large
+abbrev pub small_number : ℕ → Option ℕ
+small_number n = if nat_le n largest_number then Some n else None
+
+-- a number is 1 to 10 decimal digits, and at most 4294967295
+abbrev pub number_of_word : List ℕ → Option ℕ
+number_of_word word = if nat_le 1 (length word) && nat_le (length word) 10 then option_and_then small_number (number_in 10 word) else None
+
+-- the slot of a letter and a number
+abbrev pub lettered_slot : ℕ → ℕ → Option Slot
+lettered_slot letter i =
+    if letter == 102 then Some (slots.Field i)
+    else if letter == 101 then Some (slots.Element i)
+    else if letter == 115 then Some (slots.Static i)
+    else if letter == 107 then Some (slots.Const i)
+    else None
+
+-- a numbered slot is one of the letters f, e, s and k, and a number
+abbrev pub numbered_slot : List ℕ → Option Slot
+numbered_slot [] = None
+numbered_slot (letter ∷ digits) = option_and_then (lettered_slot letter) (number_of_word digits)
+
+-- a slot is a word of its own, or a numbered one
+abbrev pub slot_of_word : List ℕ → Option Slot
+slot_of_word word =
+    if bytes_eq word (codes "class") then Some slots.OfClass
+    else if bytes_eq word (codes "super") then Some slots.Super
+    else if bytes_eq word (codes "loader") then Some slots.Loader
+    else if bytes_eq word (codes "signers") then Some slots.Signers
+    else if bytes_eq word (codes "domain") then Some slots.Domain
+    else numbered_slot word
+
+-- the only word, where there is one and no other
+abbrev pub only_word : List (List ℕ) → Option (List ℕ)
+only_word [] = None
+only_word (word ∷ []) = Some word
+only_word (word ∷ more ∷ rest) = None
 
 -- `strength ID`
 abbrev pub strength_of : Option ℕ → Result Command LineFault
@@ -82,9 +136,34 @@ strength_of None = Err BadArgument
 strength_of (Some id) = Ok (Strength id)
 
 abbrev pub strength_command : List (List ℕ) → Result Command LineFault
-strength_command [] = Err BadArgument
-strength_command (word ∷ []) = strength_of (id_of_word word)
-strength_command (word ∷ more ∷ rest) = Err BadArgument
+strength_command arguments = strength_of (option_and_then id_of_word (only_word arguments))
+
+-- `slots ID`
+abbrev pub slots_of : Option ℕ → Result Command LineFault
+slots_of None = Err BadArgument
+slots_of (Some id) = Ok (Slots id)
+
+abbrev pub slots_command : List (List ℕ) → Result Command LineFault
+slots_command arguments = slots_of (option_and_then id_of_word (only_word arguments))
+
+-- `cut ID SLOT`
+abbrev pub cut_of : Option ℕ → Option Slot → Result Command LineFault
+cut_of None slot = Err BadArgument
+cut_of (Some id) None = Err BadArgument
+cut_of (Some id) (Some slot) = Ok (Cut id slot)
+
+abbrev pub cut_command : List (List ℕ) → Result Command LineFault
+cut_command [] = Err BadArgument
+cut_command (id ∷ rest) = cut_of (id_of_word id) (option_and_then slot_of_word (only_word rest))
+
+-- `undo`, and `undo N`
+abbrev pub undo_of : Option ℕ → Result Command LineFault
+undo_of None = Err BadArgument
+undo_of (Some k) = Ok (Undo (Some k))
+
+abbrev pub undo_command : List (List ℕ) → Result Command LineFault
+undo_command [] = Ok (Undo None)
+undo_command (number ∷ rest) = undo_of (option_and_then number_of_word (only_word (number ∷ rest)))
 
 -- `quit`
 abbrev pub quit_command : List (List ℕ) → Result Command LineFault
@@ -96,6 +175,9 @@ abbrev pub command_of_words : List (List ℕ) → Result Command LineFault
 command_of_words [] = Err UnknownCommand
 command_of_words (word ∷ arguments) =
     if bytes_eq word (codes "strength") then strength_command arguments
+    else if bytes_eq word (codes "slots") then slots_command arguments
+    else if bytes_eq word (codes "cut") then cut_command arguments
+    else if bytes_eq word (codes "undo") then undo_command arguments
     else if bytes_eq word (codes "quit") then quit_command arguments
     else Err UnknownCommand
 
@@ -107,6 +189,9 @@ command_of line = if nat_lt longest_line (length line) then Err LineTooLong else
 abbrev pub is_quit_command : Result Command LineFault → Bool
 is_quit_command (Err f) = false
 is_quit_command (Ok (Strength id)) = false
+is_quit_command (Ok (Slots id)) = false
+is_quit_command (Ok (Cut id slot)) = false
+is_quit_command (Ok (Undo number)) = false
 is_quit_command (Ok Quit) = true
 
 abbrev pub is_quit : List ℕ → Bool

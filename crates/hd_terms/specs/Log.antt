@@ -1,11 +1,14 @@
 -- The log of events: which logs are lawful, which events are live.
 -- Source: this project. The log is one list that all analysts share; an undo names an earlier event of the same analyst.
-use Rattle.std.specs.Prelude.{◌≡◌, ℕ, ◌≤◌, ◌<◌, ◌==◌, Bool, false, not, if◌then◌else◌, List, length, Option, Some, None, slice_get}
-use Rattle.std.specs.List.{list_any, filter_map, enumerate_from}
+use Rattle.std.specs.Prelude.{◌≡◌, ℕ, ◌≤◌, ◌<◌, ◌==◌, nat_le, Bool, false, ◌&&◌, not, if◌then◌else◌, List, length, map, Option, Some, None, is_some, slice_get}
+use Rattle.std.specs.Option.{option_or}
+use Rattle.std.specs.List.{list_any, filter_map, last_or, enumerate_from}
 use Rattle.hd_terms.specs.declared.Edit.{Edit}
 use Rattle.hd_terms.specs.declared.Event.{Event}
 use Rattle.hd_terms.specs.declared.What.{What}
 use Rattle.hd_terms.specs.declared.What.TheVariants as whats
+use Rattle.hd_terms.specs.declared.errors.LogFault.{LogFault}
+use Rattle.hd_terms.specs.declared.errors.LogFault.TheVariants as faults
 
 -- the most events of a log
 abbrev pub largest_log : ℕ
@@ -48,3 +51,42 @@ live_edit log (k, event) = if stays log k then edit_of event.what else None
 -- the live edits of a log, in their order
 abbrev pub live_edits : List Event → List Edit
 live_edits log = filter_map (live_edit log) (enumerate_from 0 log)
+
+-- an event is live: a `Do` that no event takes back
+abbrev pub is_live : List Event → ℕ × Event → Bool
+is_live log numbered = is_some (live_edit log numbered)
+
+-- of each event, whether it is live
+abbrev pub live_flags : List Event → List Bool
+live_flags log = map (is_live log) (enumerate_from 0 log)
+
+-- the number of a live event of an analyst
+abbrev pub own_live : List Event → ℕ → ℕ × Event → Option ℕ
+own_live log who (k, event) = if is_live log (k, event) && (event.who == who) then Some k else None
+
+-- the number of an analyst's last live event, if there is one
+abbrev pub last_live : List Event → ℕ → Option ℕ
+last_live log who = last_or None (filter_map (own_live log who) (enumerate_from 0 log))
+
+-- why an analyst may not take back event k, by what it does: it is an undo, another's, or taken back already
+abbrev pub undo_fault_of : List Event → (k who owner : ℕ) → What → Option LogFault
+undo_fault_of log k who owner (whats.Undo j) = Some faults.NoSuchEvent
+undo_fault_of log k who owner (whats.Do edit) = if owner == who then (if stays log k then None else Some faults.NotLive) else Some faults.NotYours
+
+-- why an analyst may not take back event k: there is none, or its own reasons
+abbrev pub undo_fault : List Event → (k who : ℕ) → Option Event → Option LogFault
+undo_fault log k who None = Some faults.NoSuchEvent
+undo_fault log k who (Some event) = undo_fault_of log k who event.who event.what
+
+-- a log of the most events takes no more
+abbrev pub full_fault : List Event → Option LogFault
+full_fault log = if nat_le largest_log (length log) then Some faults.LogFull else None
+
+-- why a log doesn't take what an analyst does, the first reason
+abbrev pub log_fault_of : List Event → ℕ → What → Option LogFault
+log_fault_of log who (whats.Do edit) = full_fault log
+log_fault_of log who (whats.Undo k) = option_or (undo_fault log k who (slice_get log k)) (full_fault log)
+
+-- why a log doesn't take an event, the first reason, if there is one
+abbrev pub log_fault : List Event → Event → Option LogFault
+log_fault log event = log_fault_of log event.who event.what

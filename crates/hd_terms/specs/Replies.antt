@@ -1,14 +1,28 @@
--- The reply to a line: bytes that are a function of the dump, of a log and of the line.
+-- The reply to a line: bytes that are a function of the dump, of logs and of the line.
 -- Source: this project's protocol (docs/PROTOCOL.md).
-use Rattle.std.specs.Prelude.{◌≡◌, ℕ, List, [], ◌∷◌, ◌++◌, length, codes, decimal, Option, Some, None, Result, Ok, Err}
+use Rattle.std.specs.Prelude.{◌≡◌, ℕ, false, true, Bool, List, [], ◌∷◌, ◌++◌, length, map, codes, decimal, Option, Some, None, Result, Ok, Err}
+use Rattle.std.specs.Fmt.{digits}
 use Rattle.std.specs.List.{flat_map}
 use Rattle.hd_terms.specs.declared.Strength.{Strength}
 use Rattle.hd_terms.specs.declared.Strength.TheVariants as strengths
+use Rattle.hd_terms.specs.declared.Slot.{Slot}
+use Rattle.hd_terms.specs.declared.Slot.TheVariants as slots
+use Rattle.hd_terms.specs.declared.EdgeKind.{EdgeKind}
+use Rattle.hd_terms.specs.declared.EdgeKind.TheVariants as kinds
+use Rattle.hd_terms.specs.declared.SlotMode.{SlotMode}
+use Rattle.hd_terms.specs.declared.SlotMode.TheVariants as modes
+use Rattle.hd_terms.specs.declared.SlotRow.{SlotRow}
+use Rattle.hd_terms.specs.declared.errors.LogFault.{LogFault}
+use Rattle.hd_terms.specs.declared.errors.LogFault.TheVariants as faults
+use Rattle.hd_terms.specs.declared.errors.Refusal.{Refusal}
+use Rattle.hd_terms.specs.declared.errors.Refusal.TheVariants as refusals
 use Rattle.hd_terms.specs.declared.Event.{Event}
 use Rattle.hd_terms.specs.Strengths.{HasStrength}
-use Rattle.hd_terms.specs.Dump.{Dump}
+use Rattle.hd_terms.specs.Dump.{Dump, object_at}
 use Rattle.hd_terms.specs.Edges.{index_of}
 use Rattle.hd_terms.specs.EditedDump.{standing}
+use Rattle.hd_terms.specs.SlotRows.{slot_rows}
+use Rattle.hd_terms.specs.Fell.{FellCount}
 use Rattle.hd_terms.specs.Lines.{Command, Quit, LineFault, LineTooLong, UnknownCommand, BadArgument, command_of}
 use Rattle.hd_terms.specs.Lines as commands
 
@@ -39,17 +53,102 @@ line_fault_name LineTooLong = codes "LineTooLong"
 line_fault_name UnknownCommand = codes "UnknownCommand"
 line_fault_name BadArgument = codes "BadArgument"
 
+-- why an edit or an undo is refused, as it is printed
+abbrev pub log_fault_name : LogFault → List ℕ
+log_fault_name faults.NoSuchEvent = codes "NoSuchEvent"
+log_fault_name faults.NotYours = codes "NotYours"
+log_fault_name faults.NotLive = codes "NotLive"
+log_fault_name faults.LogFull = codes "LogFull"
+log_fault_name faults.OutOfMemory = codes "OutOfMemory"
+
+abbrev pub refusal_name : Refusal → List ℕ
+refusal_name refusals.NoSuchObject = codes "NoSuchObject"
+refusal_name refusals.NoSuchSlot = codes "NoSuchSlot"
+refusal_name refusals.NotCuttable = codes "NotCuttable"
+refusal_name refusals.EmptySlot = codes "EmptySlot"
+refusal_name refusals.NothingToUndo = codes "NothingToUndo"
+refusal_name (refusals.Log f) = log_fault_name f
+
+-- an ID as it is printed: 0x and hexadecimal digits in lower case, without leading zeros
+abbrev pub id_text : ℕ → List ℕ
+id_text id = codes "0x" ++ digits 16 false id
+
+-- a slot as it is printed
+abbrev pub slot_name : Slot → List ℕ
+slot_name (slots.Field i) = codes "f" ++ decimal i
+slot_name (slots.Element i) = codes "e" ++ decimal i
+slot_name (slots.Static i) = codes "s" ++ decimal i
+slot_name (slots.Const i) = codes "k" ++ decimal i
+slot_name slots.OfClass = codes "class"
+slot_name slots.Super = codes "super"
+slot_name slots.Loader = codes "loader"
+slot_name slots.Signers = codes "signers"
+slot_name slots.Domain = codes "domain"
+
+-- a kind as it is printed
+abbrev pub kind_name : EdgeKind → List ℕ
+kind_name kinds.Strong = codes "strong"
+kind_name kinds.Soft = codes "soft"
+kind_name kinds.Weak = codes "weak"
+kind_name kinds.Final = codes "final"
+kind_name kinds.Phantom = codes "phantom"
+
+-- how a slot stands, as it is printed
+abbrev pub mode_name : SlotMode → List ℕ
+mode_name modes.Stands = codes "stands"
+mode_name modes.Cut = codes "cut"
+mode_name modes.Null = codes "null"
+mode_name modes.Absent = codes "absent"
+
+-- `SLOT KIND ID MODE`
+abbrev pub slot_line : SlotRow → List ℕ
+slot_line row = slot_name row.slot ++ 32 ∷ kind_name row.kind ++ 32 ∷ id_text row.id ++ 32 ∷ mode_name row.mode
+
+-- `event E fell F back B`
+abbrev pub event_line : (event fell back : ℕ) → List ℕ
+event_line event fell back = codes "event " ++ decimal event ++ codes " fell " ++ decimal fell ++ codes " back " ++ decimal back
+
 -- the reply to `strength` for the object of a number, if there is one: its strength under the log
 abbrev pub RepliesStrength : Dump → List Event → Option ℕ → List ℕ → Type 0
-RepliesStrength dump log None reply = reply ≡ refused (codes "NoSuchObject")
+RepliesStrength dump log None reply = reply ≡ refused (refusal_name refusals.NoSuchObject)
 RepliesStrength dump log (Some o) reply = (s : Strength) × HasStrength (standing dump log) o s × (reply ≡ answered (strength_name s ∷ []))
 
--- the reply to a command that asks, under a log
+-- the reply to `slots` for the object of a number, if there is one: a line for each of its slots
+abbrev pub RepliesSlots : Dump → List Event → Option ℕ → List ℕ → Type 0
+RepliesSlots dump log None reply = reply ≡ refused (refusal_name refusals.NoSuchObject)
+RepliesSlots dump log (Some o) reply = reply ≡ answered (map slot_line (slot_rows dump log (object_at dump o)))
+
+-- the reply to a command that asks nothing of the log. What an edit or an undo is answered isn't said here
 abbrev pub RepliesTo : Dump → List Event → Result Command LineFault → List ℕ → Type 0
 RepliesTo dump log (Err f) reply = reply ≡ refused (line_fault_name f)
 RepliesTo dump log (Ok (commands.Strength id)) reply = RepliesStrength dump log (index_of dump.objects id) reply
+RepliesTo dump log (Ok (commands.Slots id)) reply = RepliesSlots dump log (index_of dump.objects id) reply
+RepliesTo dump log (Ok (commands.Cut id slot)) reply = ⊥
+RepliesTo dump log (Ok (commands.Undo number)) reply = ⊥
 RepliesTo dump log (Ok Quit) reply = reply ≡ answered []
 
--- the reply to a line under a log
+-- the reply to a line that asks nothing of the log
 abbrev pub IsReply : Dump → List Event → List ℕ → List ℕ → Type 0
 IsReply dump log line reply = RepliesTo dump log (command_of line) reply
+
+-- the reply to an edit or an undo that the log has taken: the number of its event, and how many objects fell by it and
+-- how many came back
+pub record RepliesDone (dump : Dump) (before after : List Event) (reply : List ℕ) : Type 0 where
+  pub fell : ℕ
+  pub back : ℕ
+  pub fell_is : FellCount dump before after fell
+  pub back_is : FellCount dump after before back
+  pub reply_is : reply ≡ answered (event_line (length before) fell back ∷ [])
+
+-- the reply to a command that wants more memory than there is
+abbrev pub no_memory : List ℕ
+no_memory = refused (log_fault_name faults.OutOfMemory)
+
+-- the commands that take memory
+abbrev pub takes_memory : Result Command LineFault → Bool
+takes_memory (Err f) = false
+takes_memory (Ok (commands.Strength id)) = false
+takes_memory (Ok (commands.Slots id)) = true
+takes_memory (Ok (commands.Cut id slot)) = true
+takes_memory (Ok (commands.Undo number)) = true
+takes_memory (Ok Quit) = false

@@ -19,6 +19,58 @@ impl<T: Drop> From<AllocFailed<T>> for NoMemory {
     }
 }
 
+/// Why a log doesn't take an event. The first that holds is answered.
+#[derive(Clone, Copy, Debug, PartialEq, Eq)]
+pub enum LogFault {
+    /// An undo names no event, or one that is an undo itself.
+    NoSuchEvent,
+    /// An undo names another analyst's event.
+    NotYours,
+    /// An undo names an event that was taken back already.
+    NotLive,
+    /// The log has 4,096 events already.
+    LogFull,
+    /// Memory ran out.
+    OutOfMemory,
+}
+
+impl From<AllocError> for LogFault {
+    ghost use Rattle.hd_terms.specs.declared.errors.LogFault.TheVariants.{OutOfMemory};
+
+    ghost from_gives = { λ _ e. e ≡ OutOfMemory };
+
+    fn from(_error: AllocError) -> LogFault {
+        LogFault::OutOfMemory
+    }
+}
+
+impl<T: Drop> From<AllocFailed<T>> for LogFault {
+    ghost use Rattle.hd_terms.specs.declared.errors.LogFault.TheVariants.{OutOfMemory};
+
+    ghost from_gives = { λ _ e. e ≡ OutOfMemory };
+
+    fn from(_error: AllocFailed<T>) -> LogFault {
+        LogFault::OutOfMemory
+    }
+}
+
+/// Why an edit or an undo is refused. The first that holds is answered.
+#[derive(Clone, Copy, Debug, PartialEq, Eq)]
+pub enum Refusal {
+    /// No object of the dump has the ID.
+    NoSuchObject,
+    /// The object doesn't have the slot.
+    NoSuchSlot,
+    /// The slot isn't a field, an element or a static.
+    NotCuttable,
+    /// The slot is null, or its ID is no object's.
+    EmptySlot,
+    /// None of the analyst's own edits is live.
+    NothingToUndo,
+    /// The log doesn't take the event.
+    Log(LogFault),
+}
+
 /// Why a dump can't be read.
 #[derive(Clone, Copy, Debug, PartialEq, Eq)]
 pub enum Cause {

@@ -1,6 +1,6 @@
 //! What the definitions say of the worked examples of `docs/DEFINITIONS.md`. Each is the contract of a function with an
 //! empty body.
-ghost use Rattle.std.specs.Prelude.{◌≡◌, ℕ, ◌≤◌, List, [], ◌∷◌, ◌++◌, take, slice_set, replicate, codes};
+ghost use Rattle.std.specs.Prelude.{◌≡◌, ℕ, ◌≤◌, List, [], ◌∷◌, ◌++◌, Some, None, Ok, Err, take, slice_set, replicate, codes};
 ghost use Rattle.hd_terms.specs.declared.Strength.TheVariants as strengths;
 ghost use Rattle.hd_terms.specs.declared.Slot.TheVariants as slots;
 ghost use Rattle.hd_terms.specs.declared.errors.Cause.TheVariants as causes;
@@ -12,8 +12,16 @@ ghost use Rattle.hd_terms.specs.Edges.{edges};
 ghost use Rattle.hd_terms.specs.EditedDump.{standing};
 ghost use Rattle.hd_terms.specs.Replies.{IsReply};
 ghost use Rattle.hd_terms.specs.Sessions.{IsServed, IsServedUntilRead, IsServedUntilWrite};
-ghost use Rattle.hd_terms.specs.Log.{IsLawful, live_edits};
-ghost use Rattle.hd_terms.specs.Lines.{command_of, lines_of, whole_lines, Strength, Quit, LineTooLong, UnknownCommand, BadArgument};
+ghost use Rattle.hd_terms.specs.declared.SlotMode.TheVariants as modes;
+ghost use Rattle.hd_terms.specs.declared.What.TheVariants as whats;
+ghost use Rattle.hd_terms.specs.declared.errors.LogFault.TheVariants as faults;
+ghost use Rattle.hd_terms.specs.declared.errors.Refusal.TheVariants as refusals;
+ghost use Rattle.hd_terms.specs.Dump.{object_at};
+ghost use Rattle.hd_terms.specs.SlotRows.{slot_rows};
+ghost use Rattle.hd_terms.specs.Fell.{FellCount};
+ghost use Rattle.hd_terms.specs.Asking.{asked};
+ghost use Rattle.hd_terms.specs.Log.{IsLawful, live_edits, last_live, log_fault};
+ghost use Rattle.hd_terms.specs.Lines.{command_of, lines_of, whole_lines, Strength, Slots, Cut, Undo, Quit, LineTooLong, UnknownCommand, BadArgument};
 ghost use Rattle.hd_terms.specs.Examples as examples;
 
 /// What files are read as, and their faults.
@@ -72,6 +80,33 @@ pub fn log_examples()
     ensures dropped_before_it_was_added { (standing examples.added_and_dropped_roots examples.drop_and_add).roots ≡ examples.root_on 0 0 ∷ examples.root_on 1 1 ∷ [] }
 {}
 
+/// What logs refuse, what edits and undos ask for, what falls by an edit, and how slots are shown then.
+pub fn edit_examples()
+    ensures taken { log_fault (take 1 examples.cut_and_undo) (examples.undoes 0 0) ≡ None }
+    ensures no_such_event { log_fault [] (examples.undoes 0 0) ≡ Some faults.NoSuchEvent }
+    ensures undo_of_an_undo { log_fault (take 2 examples.undo_of_an_undo) (examples.undoes 0 1) ≡ Some faults.NoSuchEvent }
+    ensures not_yours { log_fault (take 1 examples.cut_and_undo) (examples.undoes 1 0) ≡ Some faults.NotYours }
+    ensures not_live { log_fault examples.cut_and_undo (examples.undoes 0 0) ≡ Some faults.NotLive }
+    ensures full_log { log_fault examples.full_log (examples.does 0 (examples.cut 0)) ≡ Some faults.LogFull }
+    ensures no_such_event_of_a_full_log { log_fault examples.full_log (examples.undoes 0 5000) ≡ Some faults.NoSuchEvent }
+    ensures last_live { last_live (take 2 examples.two_cuts_of_one_slot) 0 ≡ Some 0 }
+    ensures none_live { last_live examples.cut_and_undo 0 ≡ None }
+    ensures cut { asked examples.two_arrays [] 0 (Cut 1 (slots.Element 0)) ≡ Some (Ok (whats.Do (examples.cut 0))) }
+    ensures null_slot { asked examples.two_arrays [] 0 (Cut 1 (slots.Element 1)) ≡ Some (Err refusals.EmptySlot) }
+    ensures absent_slot { asked examples.two_arrays [] 0 (Cut 1 (slots.Element 2)) ≡ Some (Err refusals.EmptySlot) }
+    ensures no_such_slot { asked examples.two_arrays [] 0 (Cut 1 (slots.Element 3)) ≡ Some (Err refusals.NoSuchSlot) }
+    ensures no_such_word { asked examples.two_arrays [] 0 (Cut 1 slots.Super) ≡ Some (Err refusals.NoSuchSlot) }
+    ensures not_cuttable { asked examples.two_arrays [] 0 (Cut 1 slots.OfClass) ≡ Some (Err refusals.NotCuttable) }
+    ensures no_such_object { asked examples.two_arrays [] 0 (Cut 9 (slots.Element 0)) ≡ Some (Err refusals.NoSuchObject) }
+    ensures nothing_to_undo { asked examples.two_arrays [] 0 (Undo None) ≡ Some (Err refusals.NothingToUndo) }
+    ensures fell { FellCount examples.two_arrays [] (take 1 examples.cut_and_undo) 1 }
+    ensures none_back { FellCount examples.two_arrays (take 1 examples.cut_and_undo) [] 0 }
+    ensures back { FellCount examples.two_arrays examples.cut_and_undo (take 1 examples.cut_and_undo) 1 }
+    ensures cycle_fell { FellCount examples.cycle_behind_one_edge [] (take 1 examples.cut_and_undo) 4 }
+    ensures slots_of_a_cut { slot_rows examples.two_arrays (take 1 examples.cut_and_undo) (object_at examples.two_arrays 0) ≡ examples.shown (slots.Element 0) 2 modes.Cut
+        ∷ examples.shown (slots.Element 1) 0 modes.Null ∷ examples.shown (slots.Element 2) 9 modes.Absent ∷ examples.shown slots.OfClass 0 modes.Null ∷ [] }
+{}
+
 /// What lines ask for, and why some ask for nothing.
 pub fn line_examples()
     ensures strength { command_of (codes "strength 0x2") ≡ Ok (Strength 2) }
@@ -79,6 +114,16 @@ pub fn line_examples()
     ensures carriage_return { command_of (codes "  strength   0x2  " ++ 13 ∷ []) ≡ Ok (Strength 2) }
     ensures sixteen_digits { command_of (codes "strength 0x0000000000000002") ≡ Ok (Strength 2) }
     ensures seventeen_digits { command_of (codes "strength 0x00000000000000002") ≡ Err BadArgument }
+    ensures slots { command_of (codes "slots 0x1") ≡ Ok (Slots 1) }
+    ensures cut { command_of (codes "cut 0x1 e0") ≡ Ok (Cut 1 (slots.Element 0)) }
+    ensures cut_of_a_word { command_of (codes "cut 0x1 signers") ≡ Ok (Cut 1 slots.Signers) }
+    ensures cut_of_a_static { command_of (codes "cut 0x1 s0000000007") ≡ Ok (Cut 1 (slots.Static 7)) }
+    ensures eleven_digits { command_of (codes "cut 0x1 s00000000007") ≡ Err BadArgument }
+    ensures capital_slot { command_of (codes "cut 0x1 E0") ≡ Err BadArgument }
+    ensures no_slot { command_of (codes "cut 0x1") ≡ Err BadArgument }
+    ensures undo { command_of (codes "undo") ≡ Ok (Undo None) }
+    ensures undo_of_the_greatest { command_of (codes "undo 4294967295") ≡ Ok (Undo (Some 4294967295)) }
+    ensures undo_past_the_greatest { command_of (codes "undo 4294967296") ≡ Err BadArgument }
     ensures quit { command_of (codes "quit") ≡ Ok Quit }
     ensures quit_now { command_of (codes "quit now") ≡ Err BadArgument }
     ensures no_argument { command_of (codes "strength") ≡ Err BadArgument }

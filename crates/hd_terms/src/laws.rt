@@ -1,13 +1,17 @@
 //! Laws over the definitions. Each is the contract of a function with an empty body.
-ghost use Rattle.std.specs.Prelude.{ℕ, List, ◌≡◌, ◌≢◌};
+ghost use Rattle.std.specs.Prelude.{ℕ, List, [], ◌∷◌, ◌++◌, None, Some, ◌≡◌, ◌≢◌};
 ghost use Rattle.hd_terms.specs.declared.IdSize.{IdSize};
+ghost use Rattle.hd_terms.specs.declared.Event.{Event};
+ghost use Rattle.hd_terms.specs.declared.errors.LogFault.{LogFault};
 ghost use Rattle.hd_terms.specs.declared.errors.ReadFault.{ReadFault};
+ghost use Rattle.hd_terms.specs.declared.Strength.{Strength};
 ghost use Rattle.hd_terms.specs.declared.Strength.TheVariants as strengths;
 ghost use Rattle.hd_terms.specs.Records.{Record, AreRecords};
 ghost use Rattle.hd_terms.specs.SubRecords.{SubRecord, AreSubRecords};
 ghost use Rattle.hd_terms.specs.Dump.{Dump};
 ghost use Rattle.hd_terms.specs.Objects.{IsDumpOf};
 ghost use Rattle.hd_terms.specs.ReadFaults.{IsReadFault};
+ghost use Rattle.hd_terms.specs.Log.{IsLawful, log_fault};
 ghost use Rattle.hd_terms.specs.Paths.{Edge, RootEntry, Standing};
 ghost use Rattle.hd_terms.specs.Strengths.{HasStrength};
 ghost use Rattle.hd_terms.specs.Chains.{IsChain};
@@ -29,4 +33,16 @@ pub fn one_reading()
     ensures dumps { (bytes : List ℕ) (a b : Dump) → IsDumpOf bytes a → IsDumpOf bytes b → a ≡ b }
     ensures no_fault { (bytes : List ℕ) (dump : Dump) (f : ReadFault) → IsDumpOf bytes dump → IsReadFault bytes f → ⊥ }
     ensures faults { (bytes : List ℕ) (f g : ReadFault) → IsReadFault bytes f → IsReadFault bytes g → f ≡ g }
+{}
+
+/// A lawful log takes exactly the events that leave it lawful.
+pub fn lawful_logs()
+    ensures none { IsLawful [] }
+    ensures takes { (log : List Event) (event : Event) → IsLawful log → log_fault log event ≡ None → IsLawful (log ++ event ∷ []) }
+    ensures refuses { (log : List Event) (event : Event) (f : LogFault) → log_fault log event ≡ Some f → IsLawful (log ++ event ∷ []) → ⊥ }
+{}
+
+/// An object has one strength.
+pub fn one_strength()
+    ensures { (g : Standing) (o : ℕ) (a b : Strength) → HasStrength g o a → HasStrength g o b → a ≡ b }
 {}

@@ -15,9 +15,11 @@ ghost use Rattle.hd_terms.specs.Ranks.{rank, given_by, weaker_of};
 ghost use Rattle.hd_terms.specs.Records.{id_len};
 
 use byteorder::{BigEndian, ByteOrder};
-pub use errors::{Cause, NoMemory, ReadFault};
-pub use examples::{file_examples, heap_examples, line_examples, log_examples, reply_examples};
-pub use laws::{one_reading, settled_supports_give_strengths};
+pub use errors::{Cause, LogFault, NoMemory, ReadFault, Refusal};
+pub use examples::{
+    edit_examples, file_examples, heap_examples, line_examples, log_examples, reply_examples,
+};
+pub use laws::{lawful_logs, one_reading, one_strength, settled_supports_give_strengths};
 
 /// How well an object can be reached, the worst first.
 ///
@@ -127,6 +129,30 @@ pub enum Slot {
     Loader,
     Signers,
     Domain,
+}
+
+/// How a slot of an object is shown under a log.
+#[derive(Clone, Copy, Debug, PartialEq, Eq)]
+pub enum SlotMode {
+    /// Its reference stands.
+    Stands,
+    /// A live edit takes its reference away.
+    Cut,
+    /// Its ID is 0.
+    Null,
+    /// Its ID is no object's.
+    Absent,
+}
+
+/// A slot of an object as it is shown under a log.
+#[derive(Clone, Copy, Debug, PartialEq, Eq)]
+pub struct SlotRow {
+    pub slot: Slot,
+    /// What a reference in the slot goes through.
+    pub kind: EdgeKind,
+    /// The ID in the slot, 0 for null.
+    pub id: u64,
+    pub mode: SlotMode,
 }
 
 /// A what-if edit. It is never written to the dump. A `u64` is an object's ID, in `Drop` a root's number.

@@ -4,3 +4,6 @@ pub mod Writing
 pub mod Lines
 pub mod Told
 pub mod Serving
+pub mod Cutting
+pub mod RowTexts
+pub mod Answering

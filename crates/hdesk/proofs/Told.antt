@@ -1,72 +1,71 @@
--- Lemmas on lines with their replies: they are the turns of a session with no log.
-use Rattle.std.proofs.Common.{◌≡◌, ◌∙◌, ℕ, List, [], ◌∷◌, ◌++◌, map, refl, sym, ap, arith, append-nil}
+-- Lemmas on lines that were answered, turn by turn.
+use Rattle.std.proofs.Common.{◌≡◌, ◌∙◌, ℕ, true, List, [], ◌∷◌, ◌++◌, Some, None, Ok, map, refl, sym, ap, subst, append-nil}
 use Rattle.std.specs.List.{flat_map, AllByRecursion}
 use Rattle.std.proofs.lemmas.List.{map-append}
 use Rattle.std.proofs.lemmas.List.Concat.{flat_map-append}
+use Rattle.hd_terms.specs.declared.Event.{Event}
 use Rattle.hd_terms.specs.Dump.{Dump}
-use Rattle.hd_terms.specs.Log.{IsLawful}
-use Rattle.hd_terms.specs.Replies.{IsReply}
-use Rattle.hd_terms.specs.Sessions.{Turn, IsLater, IsSession, IsAlone, IsSessionAlone, answered, replies}
-use Rattle.hdesk.specs.Serving.{Answer, IsAnswer, IsTold}
+use Rattle.hd_terms.specs.Log.{IsLawful, log_fault}
+use Rattle.hd_terms.specs.Sessions.{Turn, IsLater, IsTurn, IsSession, IsAlone, IsSessionAlone, replies, event_by}
+use Rattle.hd_terms.specs.Sessions as sessions
+use Rattle.hd_terms.proofs.LawfulLogs.{empty_lawful, takes}
+use Rattle.hdesk.specs.Serving.{turn_alone, log_after, IsTold, IsTurnOf}
 
--- the turn of an answer, with no log
-abbrev turn_of : Answer → Turn
-turn_of a = record { line = a.line; log = []; found = []; after = []; reply = a.reply }
+-- a lawful log is later than itself
+same_log : (log : List Event) → IsLawful log → IsLater 0 log log
+same_log log lawful = record { more = []; begins = sym (append-nil log); same_own = refl; lawful = lawful }
 
-abbrev turns_of : List Answer → List Turn
-turns_of answers = map turn_of answers
+-- one more turn of an analyst alone
+session_push : (dump : Dump) (front : List Event) (ts : List Turn) (line : List ℕ) (log after : List Event) (reply : List ℕ) → log ≡ log_after front ts → IsLawful log
+    → IsSession dump 0 front ts → IsTurn dump 0 (turn_alone line log after reply) → IsSession dump 0 front (ts ++ turn_alone line log after reply ∷ [])
+session_push dump front [] line log after reply is lawful h turn = (subst (λ (l : List Event). IsLater 0 l log) is (same_log log lawful), same_log log lawful, turn, tt)
+session_push dump front (t ∷ ts) line log after reply is lawful h turn = (h.0, h.1, h.2, session_push dump t.after ts line log after reply is lawful h.3 turn)
 
-no_log : IsLawful []
-no_log = record { short = omega arith; undos = λ i k who h. absurd (cc) }
+alone_push : (front : List Event) (ts : List Turn) (line : List ℕ) (log after : List Event) (reply : List ℕ) → log ≡ log_after front ts
+    → IsAlone front ts → IsAlone front (ts ++ turn_alone line log after reply ∷ [])
+alone_push front [] line log after reply is h = (is, refl, tt)
+alone_push front (t ∷ ts) line log after reply is h = (h.0, h.1, alone_push t.after ts line log after reply is h.2)
 
-still_none : IsLater 0 [] []
-still_none = record { more = []; begins = refl; same_own = refl; lawful = no_log }
+log_after-push : (front : List Event) (ts : List Turn) (t : Turn) → log_after front (ts ++ t ∷ []) ≡ t.after
+log_after-push front [] t = refl
+log_after-push front (u ∷ ts) t = log_after-push u.after ts t
 
-session : (dump : Dump) (answers : List Answer) → AllByRecursion (IsAnswer dump) answers → IsSession dump 0 [] (turns_of answers)
-session dump [] h = tt
-session dump (a ∷ rest) h = (still_none, still_none, answered h.0 refl refl, session dump rest h.1)
-
-alone : (answers : List Answer) → IsAlone [] (turns_of answers)
-alone [] = tt
-alone (a ∷ rest) = (refl, refl, alone rest)
-
-lines_same : (answers : List Answer) → map (λ (t : Turn). t.line) (turns_of answers) ≡ map (λ (a : Answer). a.line) answers
-lines_same [] = refl
-lines_same (a ∷ rest) = ap (λ l. a.line ∷ l) (lines_same rest)
-
-replies_same : (answers : List Answer) → replies (turns_of answers) ≡ flat_map (λ (a : Answer). a.reply) answers
-replies_same [] = refl
-replies_same (a ∷ rest) = ap (λ l. a.reply ++ l) (replies_same rest)
-
--- lines that were answered are a session
-module _ (dump : Dump) (lines : List (List ℕ)) (written : List ℕ) (told : IsTold dump lines written) where
-  pub turns : List Turn
-  turns = turns_of told.answers
-
-  pub is_session : IsSessionAlone dump lines turns
-  unfolding turns
-  is_session = record { session = session dump told.answers told.each; alone = alone told.answers; over = lines_same told.answers ∙ told.lines_are }
-
-  pub written_replies : written ≡ replies turns
-  unfolding turns
-  written_replies = told.written_is ∙ sym (replies_same told.answers)
+-- a turn leaves a lawful log lawful
+lawful_turn : (dump : Dump) (line : List ℕ) (log after : List Event) (reply : List ℕ) → IsLawful log → IsTurn dump 0 (turn_alone line log after reply) → IsLawful after
+lawful_turn dump line log after reply lawful (sessions.answered r f a) = subst IsLawful (sym a) lawful
+lawful_turn dump line log after reply lawful (sessions.declined c r is asks says f a) = subst IsLawful (sym a) lawful
+lawful_turn dump line log after reply lawful (sessions.rejected c what f is asks fault says a) = subst IsLawful (sym a) lawful
+lawful_turn dump line log after reply lawful (sessions.accepted c what is asks none says a) = subst IsLawful (sym a) (takes log (event_by 0 what) lawful none)
+lawful_turn dump line log after reply lawful (sessions.wanting takes says f a) = subst IsLawful (sym a) lawful
 
 -- nothing was answered
-pub told_none : (dump : Dump) → IsTold dump [] []
-told_none dump = record { answers = []; each = tt; lines_are = refl; written_is = refl }
+pub told_none : (dump : Dump) → IsTold dump [] [] []
+told_none dump = record {
+  turns = [];
+  session = record { session = tt; alone = tt; over = refl };
+  written_is = refl;
+  log_is = refl;
+  lawful = empty_lawful;
+}
 
 pub all_push : {X : Type 0} (P : X → Type 0) (xs : List X) (x : X) → AllByRecursion P xs → P x → AllByRecursion P (xs ++ x ∷ [])
 all_push P [] x h p = (p, tt)
 all_push P (y ∷ ys) x h p = (h.0, all_push P ys x h.1 p)
 
 -- one more line
-pub told_push : (dump : Dump) (lines : List (List ℕ)) (written : List ℕ) (line reply : List ℕ) → IsTold dump lines written → IsReply dump [] line reply → IsTold dump (lines ++ line ∷ []) (written ++ reply)
-told_push dump lines written line reply told is_reply =
-    let a : Answer = record { line = line; reply = reply } in
+pub told_push : (dump : Dump) (lines : List (List ℕ)) (written : List ℕ) (log after : List Event) (line reply : List ℕ) → IsTold dump lines written log
+    → IsTurn dump 0 (turn_alone line log after reply) → IsTold dump (lines ++ line ∷ []) (written ++ reply) after
+told_push dump lines written log after line reply told turn =
+    let t : Turn = turn_alone line log after reply in
     record {
-      answers = told.answers ++ a ∷ [];
-      each = all_push (IsAnswer dump) told.answers a told.each is_reply;
-      lines_are = map-append (λ (b : Answer). b.line) told.answers (a ∷ []) ∙ ap (λ l. l ++ line ∷ []) told.lines_are;
-      written_is = ap (λ l. l ++ reply) told.written_is ∙ ap (λ l. flat_map (λ (b : Answer). b.reply) told.answers ++ l) (sym (append-nil reply))
-          ∙ sym (flat_map-append (λ (b : Answer). b.reply) told.answers (a ∷ []));
+      turns = told.turns ++ t ∷ [];
+      session = record {
+        session = session_push dump [] told.turns line log after reply told.log_is told.lawful told.session.session turn;
+        alone = alone_push [] told.turns line log after reply told.log_is told.session.alone;
+        over = map-append (λ (u : Turn). u.line) told.turns (t ∷ []) ∙ ap (λ l. l ++ line ∷ []) told.session.over;
+      };
+      written_is = ap (λ l. l ++ reply) told.written_is ∙ ap (λ l. replies told.turns ++ l) (sym (append-nil reply))
+          ∙ sym (flat_map-append (λ (u : Turn). u.reply) told.turns (t ∷ []));
+      log_is = sym (log_after-push [] told.turns t);
+      lawful = lawful_turn dump line log after reply told.lawful turn;
     }

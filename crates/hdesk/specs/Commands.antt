@@ -11,6 +11,9 @@ use Rattle.hdesk.specs.declared.command.LineFault.TheVariants as faults
 -- a command
 abbrev pub command_seen : Command → lines.Command
 command_seen (commands.Strength id) = lines.Strength id
+command_seen (commands.Slots id) = lines.Slots id
+command_seen (commands.Cut id slot) = lines.Cut id slot
+command_seen (commands.Undo number) = lines.Undo number
 command_seen commands.Quit = lines.Quit
 
 -- a line's fault

@@ -1,4 +1,6 @@
 pub mod Commands
 pub mod Replying
+pub mod Editing
+pub mod Answering
 pub mod Serving
 pub mod Running

@@ -2,12 +2,16 @@
 #![tactic(auto)]
 
 mod command;
+mod edit;
 mod program;
 mod reply;
 mod room;
 mod run;
 mod sample;
 mod serve;
+#[cfg(test)]
+mod session_tests;
+mod slots;
 #[cfg(test)]
 mod tests;
 

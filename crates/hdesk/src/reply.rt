@@ -1,51 +1,127 @@
 //! Replies to commands.
-ghost use Rattle.std.specs.Prelude.{◌≡◌, ◌+◌, ◌<◌, ◌≤◌, [], ◌∷◌, ◌++◌, length};
-ghost use Rattle.hd_terms.specs.EditedDump.{standing};
-ghost use Rattle.hd_terms.specs.Settled.{Settled};
-ghost use Rattle.hd_terms.specs.Replies.{RepliesTo, RepliesStrength, with_newline, answered, refused, strength_name, line_fault_name};
+ghost use Rattle.std.specs.Prelude.{◌≡◌, ◌⊎◌, ◌+◌, ◌<◌, ◌≤◌, [], ◌∷◌, ◌++◌, length, decimal, string_bytes, Ok, MatchOption};
+ghost use Rattle.hd_terms.specs.Replies.{RepliesStrength, RepliesSlots, with_newline, answered, refused, event_line, strength_name, refusal_name, line_fault_name, no_memory};
 ghost use Rattle.hd_terms.specs.Edges.{index_of};
-ghost use Rattle.hdesk.specs.Commands.{reading_seen, fault_seen};
+ghost use Rattle.hdesk.specs.Commands.{command_seen, reading_seen, fault_seen};
 ghost use Rattle.hdesk.specs.Replying.{answered_head};
+ghost use Rattle.hdesk.specs.Editing.{edit_reply};
+ghost use Rattle.hdesk.specs.Answering.{IsAnswered};
 
 use crate::command::{Command, LineFault};
+use crate::edit::{cut, undo};
 use crate::room::Room;
-use hd_graph::Graph;
-use hd_strength::Strengths;
-use hd_terms::{Strength, settled_supports_give_strengths};
+use crate::slots::slots_text;
+use hd_state::{Done, State};
+use hd_terms::{LogFault, Refusal, Strength};
 use itoa::Buffer;
+use std::alloc::Global;
 
 /// The most bytes of a reply.
-pub const LONGEST_REPLY: usize = 64;
+pub const LONGEST_REPLY: usize = 256;
 
-/// Puts the reply to what a line spells in place of the bytes of `out`.
-pub fn put_reply(
-    out: &mut Room<LONGEST_REPLY>,
-    graph: &Graph,
-    strengths: &Strengths,
+/// Runs what a line spells, and answers it: a short reply is put in place of the bytes of `out`, a long one given back.
+pub fn answer(
+    alloc: Global,
+    state: &mut State,
     reading: Result<Command, LineFault>,
-)
-    requires settled { Settled (standing graph.now []) strengths.now }
-    requires count { length strengths.now ≡ length graph.now.objects }
-    ensures { RepliesTo graph.now [] (reading_seen reading) out.new }
+    out: &mut Room<LONGEST_REPLY>,
+) -> Option<String>
+    ensures { MatchOption result (IsAnswered state.old state.new (reading_seen reading) out.new)
+        (λ text. IsAnswered state.old state.new (reading_seen reading) (string_bytes text)) }
 {
     match reading {
-        Ok(Command::Strength(id)) => put_strength(out, graph, strengths, id),
-        Ok(Command::Quit) => put_head(out, 0),
-        Err(fault) => put_refused(out, fault_name(fault)),
+        Ok(command) => answer_command(alloc, state, command, out),
+        Err(fault) => {
+            put_refused(out, fault_name(fault));
+            None
+        }
     }
 }
 
-/// Puts the reply to `strength`.
-fn put_strength(out: &mut Room<LONGEST_REPLY>, graph: &Graph, strengths: &Strengths, id: u64)
-    requires settled { Settled (standing graph.now []) strengths.now }
-    requires count { length strengths.now ≡ length graph.now.objects }
-    ensures { RepliesStrength graph.now [] (index_of graph.now.objects id) out.new }
+/// Runs a command, and answers it.
+fn answer_command(
+    alloc: Global,
+    state: &mut State,
+    command: Command,
+    out: &mut Room<LONGEST_REPLY>,
+) -> Option<String>
+    ensures { MatchOption result (IsAnswered state.old state.new (Ok (command_seen command)) out.new)
+        (λ text. IsAnswered state.old state.new (Ok (command_seen command)) (string_bytes text)) }
 {
-    settled_supports_give_strengths();
-    match graph.index_of(id) {
-        Some(object) => put_line(out, strength_text(strengths.strength(object))),
-        None => put_refused(out, b"NoSuchObject"),
+    match command {
+        Command::Strength(id) => put_strength(out, state, id),
+        Command::Slots(id) => return answer_slots(alloc, state, id, out),
+        Command::Cut(id, slot) => put_edit(out, cut(alloc, state, id, slot)),
+        Command::Undo(number) => put_edit(out, undo(alloc, state, number)),
+        Command::Quit => put_head(out, 0),
     }
+    None
+}
+
+/// Puts the reply to `strength`.
+fn put_strength(out: &mut Room<LONGEST_REPLY>, state: &State, id: u64)
+    ensures { RepliesStrength state.now.dump state.now.log (index_of state.now.dump.objects id) out.new }
+{
+    match state.graph().index_of(id) {
+        Some(object) => put_line(out, strength_text(state.strength(object))),
+        None => put_refused(out, refusal_text(Refusal::NoSuchObject)),
+    }
+}
+
+/// Answers `slots`: the text is given back, or a refusal put in place of the bytes of `out`.
+fn answer_slots(
+    alloc: Global,
+    state: &State,
+    id: u64,
+    out: &mut Room<LONGEST_REPLY>,
+) -> Option<String>
+    ensures { MatchOption result
+        ((out.new ≡ no_memory) ⊎ RepliesSlots state.now.dump state.now.log (index_of state.now.dump.objects id) out.new)
+        (λ text. RepliesSlots state.now.dump state.now.log (index_of state.now.dump.objects id) (string_bytes text)) }
+{
+    let Some(object) = state.graph().index_of(id) else {
+        put_refused(out, refusal_text(Refusal::NoSuchObject));
+        return None;
+    };
+    match slots_text(alloc, state, object) {
+        Ok(text) => Some(text),
+        Err(_) => {
+            put_refused(out, refusal_text(Refusal::Log(LogFault::OutOfMemory)));
+            None
+        }
+    }
+}
+
+/// Puts the reply to an edit or an undo that ended so.
+fn put_edit(out: &mut Room<LONGEST_REPLY>, ended: Result<Done, Refusal>)
+    ensures { out.new ≡ edit_reply ended }
+{
+    match ended {
+        Ok(done) => put_done(out, done),
+        Err(refusal) => put_refused(out, refusal_text(refusal)),
+    }
+}
+
+/// Puts `ok 1` and the line of an event.
+fn put_done(out: &mut Room<LONGEST_REPLY>, done: Done)
+    ensures { out.new ≡ answered (event_line done.event done.fell done.back ∷ []) }
+{
+    put_head(out, 1);
+    put_number(out, b"event ", u64::from(done.event));
+    put_number(out, b" fell ", done.fell);
+    put_number(out, b" back ", done.back);
+    put_text(out, b"");
+}
+
+/// Puts a text and a number behind the bytes.
+fn put_number(out: &mut Room<LONGEST_REPLY>, text: &[u8], number: u64)
+    requires { length out.old + length text.now + 40 ≤ LONGEST_REPLY }
+    ensures bytes { out.new ≡ out.old ++ (text.now ++ decimal number) }
+    ensures len { length out.new ≤ length out.old + length text.now + 40 }
+{
+    let mut buffer = Buffer::new();
+    out.put(text);
+    out.put(buffer.format(number).as_bytes());
 }
 
 /// Puts a text and the newline that ends it behind the bytes.
@@ -100,6 +176,25 @@ fn strength_text(strength: Strength) -> &'static [u8]
         Strength::Weak => b"WEAK",
         Strength::Soft => b"SOFT",
         Strength::Strong => b"STRONG",
+    }
+}
+
+/// A refusal as it is printed.
+fn refusal_text(refusal: Refusal) -> &'static [u8]
+    ensures name { result.now ≡ refusal_name refusal }
+    ensures short { length result.now ≤ 16 }
+{
+    match refusal {
+        Refusal::NoSuchObject => b"NoSuchObject",
+        Refusal::NoSuchSlot => b"NoSuchSlot",
+        Refusal::NotCuttable => b"NotCuttable",
+        Refusal::EmptySlot => b"EmptySlot",
+        Refusal::NothingToUndo => b"NothingToUndo",
+        Refusal::Log(LogFault::NoSuchEvent) => b"NoSuchEvent",
+        Refusal::Log(LogFault::NotYours) => b"NotYours",
+        Refusal::Log(LogFault::NotLive) => b"NotLive",
+        Refusal::Log(LogFault::LogFull) => b"LogFull",
+        Refusal::Log(LogFault::OutOfMemory) => b"OutOfMemory",
     }
 }
 

@@ -4,10 +4,11 @@ ghost use Rattle.hdesk.specs.Running.{RunsDump};
 
 use crate::serve::{ServeFault, serve};
 use hd_graph::open_plain;
-use hd_log::Front;
-use hd_strength::from_scratch;
+use hd_state::State;
 use hd_terms::{NoMemory, ReadFault};
+use std::alloc::AllocFailed;
 use std::io::{BufRead, Write};
+use std::sync::Arc;
 use thiserror::Error;
 
 /// Why a run ended early. The texts are what the program tells of it.
@@ -47,6 +48,16 @@ impl From<NoMemory> for RunFault {
     }
 }
 
+impl<T: Drop> From<AllocFailed<T>> for RunFault {
+    ghost use Rattle.hdesk.specs.declared.run.RunFault.TheVariants.{Memory};
+
+    ghost from_gives = { λ _ e. e ≡ Memory };
+
+    fn from(_fault: AllocFailed<T>) -> RunFault {
+        RunFault::Memory
+    }
+}
+
 impl From<ServeFault> for RunFault {
     ghost use Rattle.hdesk.specs.declared.run.RunFault.TheVariants.{Serve};
 
@@ -72,8 +83,8 @@ pub fn run_bytes<T: AllocGlobal, R: BufRead, W: Write>(
     ensures { RunsDump bytes.now (R.remaining input.old) (R.remaining input.new) (W.contents output.old) (W.contents output.new) result }
 {
     let graph = open_plain(rt.alloc(), bytes)?;
-    let front = Front::empty(rt.alloc())?;
-    let strengths = from_scratch(rt.alloc(), &graph, &front)?;
-    serve(rt.alloc(), input, output, &graph, &strengths)?;
+    let graph = Arc::new(rt.alloc(), graph)?;
+    let state = State::open(rt.alloc(), graph)?;
+    serve(rt.alloc(), input, output, state)?;
     Ok(())
 }

@@ -1,17 +1,14 @@
 //! Lines are served: read, run in turn, and answered.
 ghost use Rattle.std.specs.Prelude.{◌≡◌, ℕ, ◌≤◌, [], ◌∷◌, ◌++◌, length, take, Ok, Err, IfOk, IfErr, OnOk, OnErr, OnSome, if◌then◌else◌};
 ghost use Rattle.std.specs.Io.KnownBytes.{Keeps, Appends, Consumes, IsAtEnd};
-ghost use Rattle.hd_terms.specs.EditedDump.{standing};
-ghost use Rattle.hd_terms.specs.Settled.{Settled};
 ghost use Rattle.hd_terms.specs.Lines.{is_quit_command};
 ghost use Rattle.hdesk.specs.Commands.{reading_seen};
-ghost use Rattle.hdesk.specs.Serving.{kept_of, RunsLine, RunsBytes, RunsEnd, Serves};
+ghost use Rattle.hdesk.specs.Serving.{kept_of, midway, RunsLine, RunsBytes, RunsEnd, Serves};
 
 use crate::command::{Command, LONGEST_LINE, LineFault, read_command};
-use crate::reply::{LONGEST_REPLY, put_reply};
+use crate::reply::{LONGEST_REPLY, answer};
 use crate::room::Room;
-use hd_graph::Graph;
-use hd_strength::Strengths;
+use hd_state::State;
 use std::alloc::{AllocError, Global};
 use std::io::{BufRead, Write};
 use thiserror::Error;
@@ -104,21 +101,30 @@ fn refill<R: BufRead>(reader: &mut R, chunk: &mut Room<CHUNK>) -> Result<(), Ser
     Ok(())
 }
 
-/// Runs one line, and writes its reply.
-fn run_line<W: Write>(
-    writer: &mut W,
-    graph: &Graph,
-    strengths: &Strengths,
-    line: &[u8],
-    reply: &mut Room<LONGEST_REPLY>,
-) -> Result<Flow, ServeFault>
-    requires settled { Settled (standing graph.now []) strengths.now }
-    requires count { length strengths.now ≡ length graph.now.objects }
-    ensures { RunsLine graph.now line.now (W.contents writer.old) (W.contents writer.new) result }
+/// What serves an analyst: the state, the line that isn't ended yet, and room for a reply.
+#[derive(Drop)]
+struct Service {
+    alloc: Global,
+    state: State,
+    line: Room<KEPT_LINE>,
+    reply: Room<LONGEST_REPLY>,
+}
+
+/// Runs the open line, and writes its reply.
+fn run_line<W: Write>(writer: &mut W, service: &mut Service) -> Result<Flow, ServeFault>
+    ensures line { service.new.line ≡ service.old.line }
+    ensures runs { RunsLine service.old.state service.new.state service.old.line (W.contents writer.old) (W.contents writer.new) result }
 {
-    let reading = read_command(line);
-    put_reply(reply, graph, strengths, reading);
-    put_all(writer, reply.as_slice())?;
+    let reading = read_command(service.line.as_slice());
+    match answer(
+        service.alloc,
+        &mut service.state,
+        reading,
+        &mut service.reply,
+    ) {
+        Some(text) => put_all(writer, text.as_bytes())?,
+        None => put_all(writer, service.reply.as_slice())?,
+    }
     Ok(flow_after(reading))
 }
 
@@ -133,24 +139,15 @@ fn flow_after(reading: Result<Command, LineFault>) -> Flow
 }
 
 /// Runs one byte: a newline ends the open line, any other byte goes onto it.
-fn run_byte<W: Write>(
-    writer: &mut W,
-    graph: &Graph,
-    strengths: &Strengths,
-    byte: u8,
-    line: &mut Room<KEPT_LINE>,
-    reply: &mut Room<LONGEST_REPLY>,
-) -> Result<Flow, ServeFault>
-    requires settled { Settled (standing graph.now []) strengths.now }
-    requires count { length strengths.now ≡ length graph.now.objects }
-    ensures { RunsBytes graph.now (byte ∷ []) line.old line.new (W.contents writer.old) (W.contents writer.new) result }
+fn run_byte<W: Write>(writer: &mut W, service: &mut Service, byte: u8) -> Result<Flow, ServeFault>
+    ensures { RunsBytes (byte ∷ []) (midway service.old.state service.old.line) (midway service.new.state service.new.line) (W.contents writer.old) (W.contents writer.new) result }
 {
     if byte == b'\n' {
-        let flow = run_line(writer, graph, strengths, line.as_slice(), reply)?;
-        line.clear();
+        let flow = run_line(writer, service)?;
+        service.line.clear();
         return Ok(flow);
     }
-    keep(line, byte);
+    keep(&mut service.line, byte);
     Ok(Flow::GoesOn)
 }
 
@@ -166,18 +163,13 @@ fn keep(line: &mut Room<KEPT_LINE>, byte: u8)
 /// Runs bytes in turn.
 fn run_chunk<W: Write>(
     writer: &mut W,
-    graph: &Graph,
-    strengths: &Strengths,
+    service: &mut Service,
     bytes: &[u8],
-    line: &mut Room<KEPT_LINE>,
-    reply: &mut Room<LONGEST_REPLY>,
 ) -> Result<Flow, ServeFault>
-    requires settled { Settled (standing graph.now []) strengths.now }
-    requires count { length strengths.now ≡ length graph.now.objects }
-    ensures { RunsBytes graph.now bytes.now line.old line.new (W.contents writer.old) (W.contents writer.new) result }
+    ensures { RunsBytes bytes.now (midway service.old.state service.old.line) (midway service.new.state service.new.line) (W.contents writer.old) (W.contents writer.new) result }
 {
     for byte in bytes {
-        match run_byte(writer, graph, strengths, *byte, line, reply)? {
+        match run_byte(writer, service, *byte)? {
             Flow::GoesOn => {}
             Flow::Quits => return Ok(Flow::Quits),
         }
@@ -186,21 +178,13 @@ fn run_chunk<W: Write>(
 }
 
 /// Runs what is left at the end of the input, if it has a byte.
-fn run_end<W: Write>(
-    writer: &mut W,
-    graph: &Graph,
-    strengths: &Strengths,
-    line: &[u8],
-    reply: &mut Room<LONGEST_REPLY>,
-) -> Result<(), ServeFault>
-    requires settled { Settled (standing graph.now []) strengths.now }
-    requires count { length strengths.now ≡ length graph.now.objects }
-    ensures { RunsEnd graph.now line.now (W.contents writer.old) (W.contents writer.new) result }
+fn run_end<W: Write>(writer: &mut W, service: &mut Service) -> Result<(), ServeFault>
+    ensures { RunsEnd (midway service.old.state service.old.line) (W.contents writer.old) (W.contents writer.new) result }
 {
-    if line.is_empty() {
+    if service.line.as_slice().is_empty() {
         return Ok(());
     }
-    let _flow = run_line(writer, graph, strengths, line, reply)?;
+    let _flow = run_line(writer, service)?;
     Ok(())
 }
 
@@ -208,25 +192,21 @@ fn run_end<W: Write>(
 fn run_input<R: BufRead, W: Write>(
     reader: &mut R,
     writer: &mut W,
-    graph: &Graph,
-    strengths: &Strengths,
+    service: &mut Service,
     chunk: &mut Room<CHUNK>,
-    line: &mut Room<KEPT_LINE>,
-    reply: &mut Room<LONGEST_REPLY>,
 ) -> Result<(), ServeFault>
-    requires settled { Settled (standing graph.now []) strengths.now }
-    requires count { length strengths.now ≡ length graph.now.objects }
-    requires line { line.old ≡ [] }
-    ensures { Serves graph.now (R.remaining reader.old) (R.remaining reader.new) (W.contents writer.old) (W.contents writer.new) result }
+    requires log { service.old.state.log ≡ [] }
+    requires line { service.old.line ≡ [] }
+    ensures { Serves service.old.state.dump (R.remaining reader.old) (R.remaining reader.new) (W.contents writer.old) (W.contents writer.new) result }
 {
     for _ in 0..MOST_REFILLS {
         flush(writer)?;
         refill(reader, chunk)?;
         let bytes = chunk.as_slice();
         if bytes.is_empty() {
-            return run_end(writer, graph, strengths, line.as_slice(), reply);
+            return run_end(writer, service);
         }
-        match run_chunk(writer, graph, strengths, bytes, line, reply)? {
+        match run_chunk(writer, service, bytes)? {
             Flow::GoesOn => {}
             Flow::Quits => return Ok(()),
         }
@@ -235,25 +215,28 @@ fn run_input<R: BufRead, W: Write>(
     Err(ServeFault::Read)
 }
 
-/// Serves the lines of a reader to a writer, until the input ends, a line is `quit`, or a fault. All memory is taken
-/// before anything is read. The writer is flushed before each refill and at the end.
+/// Serves the lines of a reader to a writer, from a state with no edits on, until the input ends, a line is `quit`, or
+/// a fault. Room for lines and short replies is taken before anything is read; the writer is flushed before each refill
+/// and at the end.
 pub fn serve<R: BufRead, W: Write>(
     alloc: Global,
     reader: &mut R,
     writer: &mut W,
-    graph: &Graph,
-    strengths: &Strengths,
+    state: State,
 ) -> Result<(), ServeFault>
-    requires settled { Settled (standing graph.now []) strengths.now }
-    requires count { length strengths.now ≡ length graph.now.objects }
-    ensures { Serves graph.now (R.remaining reader.old) (R.remaining reader.new) (W.contents writer.old) (W.contents writer.new) result }
+    requires { state.log ≡ [] }
+    ensures { Serves state.dump (R.remaining reader.old) (R.remaining reader.new) (W.contents writer.old) (W.contents writer.new) result }
 {
     let mut chunk = Room::new(alloc)?;
-    let mut line = Room::new(alloc)?;
-    let mut reply = Room::new(alloc)?;
-    run_input(
-        reader, writer, graph, strengths, &mut chunk, &mut line, &mut reply,
-    )?;
+    let line = Room::new(alloc)?;
+    let reply = Room::new(alloc)?;
+    let mut service = Service {
+        alloc,
+        state,
+        line,
+        reply,
+    };
+    run_input(reader, writer, &mut service, &mut chunk)?;
     flush(writer)?;
     Ok(())
 }

@@ -177,7 +177,7 @@ fn lines(rt: HostRuntime) {
         (b"strength 0x00000000000000002\n", b"no BadArgument\n"),
         (b"\n", b"no UnknownCommand\n"),
         (b"STRENGTH 0x2\n", b"no UnknownCommand\n"),
-        (b"slots 0x2\n", b"no UnknownCommand\n"),
+        (b"stat 0x2\n", b"no UnknownCommand\n"),
         (b"  strength   0x2  \r\n", b"ok 1\nSTRONG\n"),
         (b"strength\t0x2\n", b"no UnknownCommand\n"),
         (b"strength 0x2", b"ok 1\nSTRONG\n"),

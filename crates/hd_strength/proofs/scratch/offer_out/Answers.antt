@@ -6,11 +6,11 @@ use Rattle.hd_strength.proofs.scratch.offer_out.Goals as goal
 use Rattle.hd_strength.proofs.scratch.offer_out.Goals.{in-Some+in_ok-push, in_default}
 
 pub loop-place-init : goal.loop-place-init
-loop-place-init c = record { adds = none_added (edge_at c.args.graph.now) c.args.kept.now c.args.o (bucket c.args.buckets.now); few = omega arith }
+loop-place-init c = record { adds = none_added (edge_at c.args.edited.graph.now c.args.edited.front.now) c.args.kept.now c.args.o (bucket c.args.buckets.now); few = omega arith }
 
 pub loop-place-preserved : goal.loop-place-preserved
 loop-place-preserved c =
-    let at = edge_at c.args.graph.now in
+    let at = edge_at c.args.edited.graph.now c.args.edited.front.now in
     let ks = c.args.kept.now in
     let i = c.loop-place.place in
     elim c.match-gift_at.branch [
@@ -25,7 +25,7 @@ loop-place-preserved c =
     ]
 
 pub returns-clause-adds : goal.returns-clause-adds
-returns-clause-adds c = all_added (edge_at c.args.graph.now) c.args.kept.now c.args.o (width c.args.graph.now c.args.o) c.loop-place.place (bucket c.args.buckets.now) (bucket c.loop-place.buckets) c.loop-place.invariant.adds (omega arith)
+returns-clause-adds c = all_added (edge_at c.args.edited.graph.now c.args.edited.front.now) c.args.kept.now c.args.o (width c.args.edited.graph.now c.args.o) c.loop-place.place (bucket c.args.buckets.now) (bucket c.loop-place.buckets) c.loop-place.invariant.adds (omega arith)
 
 pub returns-clause-few : goal.returns-clause-few
 returns-clause-few c = omega (arith, c.loop-place.invariant.few)

@@ -7,6 +7,6 @@ use Rattle.hd_strength.proofs.scratch.offer_out.Given as goal
 -- the places so far are offered
 abbrev pub invariant-loop-place : goal.invariant-loop-place
 invariant-loop-place l = record {
-  adds : AddsOffers (edge_at l.fn.graph) l.fn.kept l.fn.o l.place (bucket l.fn.buckets) (bucket l.buckets);
+  adds : AddsOffers (edge_at l.fn.edited.graph.now l.fn.edited.front.now) l.fn.kept l.fn.o l.place (bucket l.fn.buckets) (bucket l.buckets);
   few : pending l.buckets ≤ pending l.fn.buckets + l.place;
 }

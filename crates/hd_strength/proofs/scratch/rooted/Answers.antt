@@ -1,38 +1,48 @@
-use Rattle.std.proofs.Common.{◌≡◌, ◌∙◌, ◌<◌, length, length-set, Some, sym, subst, arith}
-use Rattle.hd_terms.specs.Dump.{Root}
-use Rattle.hd_terms.specs.Edges.{index_of}
+use Rattle.std.proofs.Common.{◌≡◌, ◌∙◌, ◌+◌, ◌<◌, length, length-set, sym, subst, arith, ℕ}
 use Rattle.hd_strength.specs.Held.{rooted}
+use Rattle.hd_strength.specs.Rows.{root_count}
 use Rattle.hd_strength.specs.Growing.{AreHeld}
-use Rattle.hd_strength.proofs.RowLemmas.{root_none, root_some, index_of_within}
-use Rattle.hd_strength.proofs.Offering.{one_held, no_root, none_held}
+use Rattle.hd_strength.proofs.RowLemmas.{root_none, root_some, held_within}
+use Rattle.hd_strength.proofs.Offering.{one_held, no_root}
 use Rattle.hd_strength.proofs.scratch.rooted.Goals as goal
 use Rattle.hd_strength.proofs.scratch.rooted.Goals.{in-Some, in_default}
 
-pub loop-r-init : goal.loop-r-init
-loop-r-init c = record { count = c.in_ok-kept.ensures.count ∙ c.objects.ensures; held = none_held c.args.graph.now c.in_ok-kept.kept.items c.in_ok-kept.ensures.unreached }
+pub loop-k-init : goal.loop-k-init
+loop-k-init c =
+    let none : length c.args.edited.graph.now.roots + 0 ≡ length c.args.edited.graph.now.roots = omega arith in
+    record { count = c.in_ok-kept.ensures.count; held = rw none c.in_ok-kept.ensures.held }
 
-pub loop-r-preserved : goal.loop-r-preserved
-loop-r-preserved c =
-    let dump = c.args.graph.now in
-    let root : Root = record { kind = c.roots.result.kind; id = c.roots.result.id } in
-    let r = c.loop-r.r in
-    let ks = c.loop-r.kept.items in
-    elim c.match-roots.branch [
+pub index_mut-requires : goal.index_mut-requires
+index_mut-requires c =
+    let dump = c.args.edited.graph.now in
+    omega (arith, held_within dump c.args.edited.front.now (length dump.roots + c.loop-k.k) c.in-Some.o (sym c.in-Some.is ∙ c.added_object.ensures), c.loop-k.invariant.count)
+
+pub loop-k-preserved : goal.loop-k-preserved
+loop-k-preserved c =
+    let dump = c.args.edited.graph.now in
+    let log = c.args.edited.front.now in
+    let r : ℕ = length dump.roots + c.loop-k.k in
+    let next : length dump.roots + (c.loop-k.k + 1) ≡ (length dump.roots + c.loop-k.k) + 1 = omega arith in
+    let ks = c.loop-k.kept.items in
+    elim c.match-added_object.branch [
       | in-Some w ↦
           let t = w.in-Some.o in
-          let some : index_of dump.objects root.id ≡ Some t = sym c.roots.ensures.object ∙ w.in-Some.is in
-          let lt : t < length ks = omega (arith, index_of_within dump.objects root.id t some, c.loop-r.invariant.count) in
-          rw (w.kept-is, w.by_root.ensures) (record {
-            count = length-set ks t (rooted r) ∙ c.loop-r.invariant.count;
-            held = one_held dump ks r t c.loop-r.invariant.held lt (root_some dump r root c.roots.ensures.entry t some);
+          let some = sym w.in-Some.is ∙ c.added_object.ensures in
+          let lt : t < length ks = omega (arith, held_within dump log r t some, c.loop-k.invariant.count) in
+          let number : w.from.result + w.from-in-Some.result ≡ length dump.roots + c.loop-k.k = omega (arith, w.from.ensures, w.from-in-Some.ensures, w.roots_len.ensures) in
+          rw (w.kept-is, w.by_root.ensures, number, next) (record {
+            count = length-set ks t (rooted r) ∙ c.loop-k.invariant.count;
+            held = one_held dump log ks r t c.loop-k.invariant.held lt (root_some dump log r t some);
           })
-      | in_default w ↦ rw w.kept-is (record {
-        count = c.loop-r.invariant.count;
-        held = no_root dump ks r c.loop-r.invariant.held (root_none dump r root c.roots.ensures.entry (sym c.roots.ensures.object ∙ w.in_default.is));
+      | in_default w ↦ rw (w.kept-is, next) (record {
+        count = c.loop-k.invariant.count;
+        held = no_root dump log ks r c.loop-k.invariant.held (root_none dump log r (sym w.in_default.is ∙ c.added_object.ensures));
       })
     ]
 
 pub returns-clause-held : goal.returns-clause-held
 returns-clause-held c =
-    let end : c.loop-r.r ≡ length c.args.graph.now.roots = omega arith in
-    subst (AreHeld c.args.graph.now c.loop-r.kept.items) end c.loop-r.invariant.held
+    let dump = c.args.edited.graph.now in
+    let log = c.args.edited.front.now in
+    let end : length dump.roots + c.loop-k.k ≡ root_count dump log = omega (arith, c.len-k-end.ensures.len) in
+    subst (AreHeld dump log c.loop-k.kept.items) end c.loop-k.invariant.held

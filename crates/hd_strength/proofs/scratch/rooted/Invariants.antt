@@ -1,7 +1,10 @@
-use Rattle.std.proofs.Common.{◌≡◌, length}
+use Rattle.std.proofs.Common.{◌≡◌, ◌+◌, length}
 use Rattle.hd_strength.specs.Growing.{AreHeld}
 use Rattle.hd_strength.proofs.scratch.rooted.Given as goal
 
--- the roots so far hold their objects
-abbrev pub invariant-loop-r : goal.invariant-loop-r
-invariant-loop-r l = record { count : length l.kept.items ≡ length l.fn.graph.objects; held : AreHeld l.fn.graph l.kept.items l.r }
+-- the roots of the dump hold their objects, and so do the roots added so far
+abbrev pub invariant-loop-k : goal.invariant-loop-k
+invariant-loop-k l = record {
+  count : length l.kept.items ≡ length l.fn.edited.graph.now.objects;
+  held : AreHeld l.fn.edited.graph.now l.fn.edited.front.now l.kept.items (length l.fn.edited.graph.now.roots + l.k);
+}

@@ -1,7 +1,6 @@
 use Rattle.std.proofs.Common.{◌∙◌, ℕ, ◌<◌, length, ap, sym, arith}
 use Rattle.hd_terms.specs.declared.Group.TheVariants as groups
-use Rattle.hd_terms.specs.Dump.{Dump, Object}
-use Rattle.hd_graph.specs.Rows.{object_at}
+use Rattle.hd_terms.specs.Dump.{Object, Dump, object_at}
 use Rattle.hd_graph.specs.Arrays.{row_objects}
 use Rattle.hd_graph.proofs.ArrayLemmas.{length-row_objects, row_objects-at}
 use Rattle.hd_graph.proofs.graph.Graph.group_of.Goals as goal

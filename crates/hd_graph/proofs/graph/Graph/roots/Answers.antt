@@ -7,6 +7,6 @@ use Rattle.hd_graph.proofs.graph.Graph.roots.Goals as goal
 pub returns-clause-object : goal.returns-clause-object
 returns-clause-object c =
     let a = c.self.inside in
-    c.index_of.ensures
+    c.index_of.ensures.first
     ∙ sym (index_of-row_objects a.id_size c.index-root.result.now.id a.references.ids a.references.rows c.self.invariant.rows)
     ∙ ap (λ (dump : Dump). index_of dump.objects c.index-root.result.now.id) c.self.view_is

@@ -1,9 +1,8 @@
 use Rattle.std.proofs.Common.{◌≡◌, ◌∙◌, ℕ, suc, ◌<◌, List, length, get_or, ap, sym, arith, Some}
 use Rattle.std.specs.List.{slice_get}
-use Rattle.hd_terms.specs.Dump.{Dump, SlotEntry}
+use Rattle.hd_terms.specs.Dump.{SlotEntry, Dump, no_object, object_at}
 use Rattle.hd_terms.specs.Edges.{index_of}
 use Rattle.hd_graph.specs.Table.{row_at}
-use Rattle.hd_graph.specs.Rows.{object_at, no_object}
 use Rattle.hd_graph.specs.Arrays.{row_objects}
 use Rattle.hd_graph.proofs.ArrayLemmas.{length-row_objects, index_of-row_objects, length-row_slots, row_slots-class, row_slots-element, slots-at}
 use Rattle.hd_terms.specs.Slots.{strong_slot}

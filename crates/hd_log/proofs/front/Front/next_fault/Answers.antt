@@ -1,0 +1,9 @@
+use Rattle.std.proofs.Common.{◌∙◌, List, ap}
+use Rattle.hd_terms.specs.declared.Event.{Event}
+use Rattle.hd_terms.specs.Log.{log_fault}
+use Rattle.hd_log.proofs.FlagLemmas.{takes_or_refuses}
+use Rattle.hd_log.proofs.front.Front.next_fault.Goals as goal
+
+pub returns-clause-lawful : goal.returns-clause-lawful
+returns-clause-lawful c =
+    rw (← c.self.view_is) (takes_or_refuses c.self.inside.events.items c.args.event.now c.log_fault.result c.self.invariant (c.log_fault.ensures ∙ ap (λ (log : List Event). log_fault log c.args.event.now) c.deref.ensures.value))

@@ -1,0 +1,134 @@
+//! What can be read from a list of events: the live ones, and why it doesn't take one more.
+ghost use Rattle.std.specs.Prelude.{◌≡◌, ℕ, ◌^◌, ◌<◌, length, slice_get, Some, IfOk};
+ghost use Rattle.std.specs.List.{list_any};
+ghost use Rattle.hd_terms.specs.declared.Event.{Event};
+ghost use Rattle.hd_terms.specs.declared.What.TheVariants as whats;
+ghost use Rattle.hd_terms.specs.Log.{IsEvent, full_fault, last_live, live_flags, log_fault, own_live, undo_fault, undoes_what};
+ghost use Rattle.hd_log.specs.Flags.{are_edits, is_edit};
+
+use hd_terms::{Event, LogFault, NoMemory, What};
+use std::alloc::Global;
+
+/// The most events of a log.
+const LARGEST_LOG: usize = 4096;
+
+/// Whether the event is an edit, and no undo.
+fn is_edit(what: What) -> bool
+    ensures { result ≡ is_edit what }
+{
+    match what {
+        What::Do(_) => true,
+        What::Undo(_) => false,
+    }
+}
+
+/// Whether the event takes back event k.
+fn undoes_what(k: u32, what: What) -> bool
+    ensures { result ≡ undoes_what k what }
+{
+    match what {
+        What::Do(_) => false,
+        What::Undo(j) => j == k,
+    }
+}
+
+/// Whether an event takes back event k.
+fn is_taken_back(events: &[Event], k: u32) -> bool
+    ensures { result ≡ list_any (λ (e : Event). undoes_what k e.what) events.now }
+{
+    events.iter().any(|event| undoes_what(k, event.what))
+}
+
+/// Why an analyst may not take back event k, if there is a reason.
+fn undo_fault(events: &[Event], k: u32, who: u8) -> Option<LogFault>
+    ensures { result ≡ undo_fault events.now k who (slice_get events.now k) }
+{
+    let Some(event) = events.get(k as usize) else {
+        return Some(LogFault::NoSuchEvent);
+    };
+    if !is_edit(event.what) {
+        return Some(LogFault::NoSuchEvent);
+    }
+    if event.who != who {
+        return Some(LogFault::NotYours);
+    }
+    if is_taken_back(events, k) {
+        return Some(LogFault::NotLive);
+    }
+    None
+}
+
+/// Why a log takes no more, if there is a reason.
+fn full_fault(events: &[Event]) -> Option<LogFault>
+    ensures { result ≡ full_fault events.now }
+{
+    if events.len() >= LARGEST_LOG {
+        Some(LogFault::LogFull)
+    } else {
+        None
+    }
+}
+
+/// Why a log doesn't take an event, the first reason, if there is one.
+pub fn log_fault(events: &[Event], event: Event) -> Option<LogFault>
+    ensures { result ≡ log_fault events.now event }
+{
+    if let What::Undo(k) = event.what {
+        let fault = undo_fault(events, k, event.who);
+        if fault.is_some() {
+            return fault;
+        }
+    }
+    full_fault(events)
+}
+
+/// Of each event, whether it is an edit.
+pub fn edit_flags(alloc: Global, events: &[Event]) -> Result<Vec<bool>, NoMemory>
+    ensures { IfOk result (λ v. v.items ≡ are_edits events.now) }
+{
+    let mut flags = Vec::with_capacity(alloc, events.len())?;
+    for event in events {
+        flags.push(is_edit(event.what))?;
+    }
+    Ok(flags)
+}
+
+/// Clears the flags of the events that are taken back.
+pub fn clear_undone(events: &[Event], flags: &mut [bool])
+    requires edits { flags.old ≡ are_edits events.now }
+    requires within { (i k who : ℕ) → IsEvent events.now i (record { who = who; what = whats.Undo k }) → k < length events.now }
+    ensures { flags.new ≡ live_flags events.now }
+{
+    for event in events {
+        if let What::Undo(k) = event.what {
+            flags[k as usize] = false;
+        }
+    }
+}
+
+/// The number of event k, where it is a live one of an analyst.
+fn own_live(events: &[Event], k: u32, who: u8) -> Option<u32>
+    requires { k < length events.now }
+    ensures { (e : Event) → slice_get events.now k ≡ Some e → result ≡ own_live events.now who (k, e) }
+{
+    let event = events[k as usize];
+    if event.who == who && is_edit(event.what) && !is_taken_back(events, k) {
+        Some(k)
+    } else {
+        None
+    }
+}
+
+/// The number of an analyst's last live event, if there is one.
+pub fn last_live(events: &[Event], who: u8) -> Option<u32>
+    requires { length events.now < 2 ^ 32 }
+    ensures { result ≡ last_live events.now who }
+{
+    let mut last = None;
+    for k in 0..events.len() as u32 {
+        if let Some(own) = own_live(events, k, who) {
+            last = Some(own);
+        }
+    }
+    last
+}

@@ -1,0 +1,93 @@
+//! A lawful log as it stands at one time.
+ghost use Rattle.std.specs.Prelude.{◌≡◌, ◌⊎◌, ◌↔◌, ◌<◌, ◌≤◌, ◌++◌, ◌∷◌, [], None, Some, length, slice_get, IfErr, IfOk, IsNone};
+ghost use Rattle.hd_terms.specs.declared.errors.LogFault.TheVariants.{OutOfMemory};
+ghost use Rattle.hd_terms.specs.Log.{IsLawful, largest_log, last_live, live_flags, log_fault};
+
+use crate::events;
+use hd_terms::{Event, LogFault, NoMemory};
+use std::alloc::Global;
+use std::marker::Model;
+
+/// A log of events as it stands at one time. It is lawful: it has 4,096 events at most, and each undo takes back an
+/// earlier, live edit of the same analyst.
+#[derive(Drop)]
+pub struct Front {
+    events: Vec<Event>,
+}
+
+impl Model for Front {
+    ghost use Rattle.std.specs.Prelude.{List};
+    ghost use Rattle.hd_terms.specs.declared.Event.{Event};
+    ghost use Rattle.hd_terms.specs.Log.{IsLawful};
+
+    ghost Value = { List Event };
+
+    ghost view = { λ f. f.events.items };
+
+    ghost invariant = { λ f. IsLawful f.events.items };
+}
+
+impl Front {
+    /// The log with no event.
+    pub fn empty(alloc: Global) -> Result<Front, NoMemory>
+        ensures { IfOk result (λ f. f ≡ []) }
+    {
+        let events = Vec::new(alloc);
+        Ok(Front { events })
+    }
+
+    /// How many events there are, from 0 to 4,096.
+    pub fn len(&self) -> u32
+        ensures len { result ≡ length self.now }
+        ensures most { length self.now ≤ largest_log }
+        ensures lawful { IsLawful self.now }
+    {
+        self.events.len() as u32
+    }
+
+    /// The event of a number. Numbers count from 0.
+    pub fn event(&self, i: u32) -> Event
+        requires { i < length self.now }
+        ensures { slice_get self.now i ≡ Some result }
+    {
+        self.events[i as usize]
+    }
+
+    /// Why the log doesn't take an event, the first reason, or `None` where it takes it. It takes no memory.
+    pub fn next_fault(&self, event: &Event) -> Option<LogFault>
+        ensures fault { result ≡ log_fault self.now event.now }
+        ensures lawful { IsNone result ↔ IsLawful (self.now ++ event.now ∷ []) }
+    {
+        events::log_fault(&self.events, *event)
+    }
+
+    /// The log with one more event, or why there is none: the log's own reason, or else that memory ran out.
+    pub fn extend(&self, alloc: Global, event: Event) -> Result<Front, LogFault>
+        ensures ok { IfOk result (λ f. (log_fault self.now event ≡ None) × (f ≡ self.now ++ event ∷ [])) }
+        ensures err { IfErr result (λ e. (log_fault self.now event ≡ Some e) ⊎ ((log_fault self.now event ≡ None) × (e ≡ OutOfMemory))) }
+    {
+        if let Some(fault) = self.next_fault(&event) {
+            return Err(fault);
+        }
+        let mut events = Vec::with_capacity(alloc, self.events.len() + 1)?;
+        events.extend_from_slice(&self.events)?;
+        events.push(event)?;
+        Ok(Front { events })
+    }
+
+    /// Of each event, whether it is live: an edit that no event takes back.
+    pub fn live(&self, alloc: Global) -> Result<Vec<bool>, NoMemory>
+        ensures { IfOk result (λ v. v.items ≡ live_flags self.now) }
+    {
+        let mut flags = events::edit_flags(alloc, &self.events)?;
+        events::clear_undone(&self.events, &mut flags);
+        Ok(flags)
+    }
+
+    /// The number of an analyst's last live event, if there is one. It takes no memory.
+    pub fn last_live(&self, who: u8) -> Option<u32>
+        ensures { result ≡ last_live self.now who }
+    {
+        events::last_live(&self.events, who)
+    }
+}

@@ -1,0 +1,2 @@
+pub mod FallenLemmas
+pub mod RowLemmas

@@ -1,0 +1,5 @@
+pub mod Situation
+pub mod StateInside
+pub mod Fallen
+pub mod Shown
+pub mod Done

@@ -1,0 +1,8 @@
+//! What one log makes of a dump: a graph that never changes, a log, and the strengths that the two give.
+#![tactic(auto)]
+
+mod fallen;
+mod rows;
+mod state;
+
+pub use state::{Done, State};

@@ -1,0 +1,134 @@
+//! The state of one log over one graph. Each step makes a new state, and computes it from scratch.
+ghost use Rattle.std.specs.Prelude.{◌≡◌, ◌<◌, [], ◌∷◌, ◌++◌, length, IfOk, None};
+ghost use Rattle.std.specs.Arc.{arc_value};
+ghost use Rattle.hd_terms.specs.Log.{log_fault};
+ghost use Rattle.hd_terms.specs.Dump.{object_at};
+ghost use Rattle.hd_terms.specs.EditedDump.{standing};
+ghost use Rattle.hd_terms.specs.Strengths.{HasStrength};
+ghost use Rattle.hd_terms.specs.SlotRows.{slot_rows};
+ghost use Rattle.hd_state.specs.Done.{IsDone};
+
+use crate::fallen::count_fallen;
+use crate::rows::rows_of;
+use hd_graph::Graph;
+use hd_log::Front;
+use hd_strength::{Strengths, from_scratch};
+use hd_terms::{Event, NoMemory, SlotRow, Strength, one_strength, settled_supports_give_strengths};
+use std::alloc::Global;
+use std::marker::Model;
+use std::sync::Arc;
+
+/// What one log makes of a dump: the dump's graph, which all states share, the log, and the strength of each object.
+#[derive(Drop)]
+pub struct State {
+    graph: Arc<Graph>,
+    front: Front,
+    strengths: Strengths,
+}
+
+/// What an event did.
+#[derive(Clone, Copy, Debug, PartialEq, Eq)]
+pub struct Done {
+    /// The event's number in the log, from 0.
+    pub event: u32,
+    /// How many objects became unreachable.
+    pub fell: u64,
+    /// How many objects ceased to be unreachable.
+    pub back: u64,
+}
+
+impl Model for State {
+    ghost use Rattle.hd_state.specs.Situation.{Situation};
+
+    ghost Value = { Situation };
+
+    ghost use Rattle.hd_state.specs.StateInside.{situation_of, IsState};
+
+    ghost view = { situation_of };
+
+    ghost invariant = { IsState };
+}
+
+impl State {
+    /// The state of a graph under the log with no event.
+    ///
+    /// # Errors
+    ///
+    /// Want of memory.
+    pub fn open(alloc: Global, graph: Arc<Graph>) -> Result<State, NoMemory>
+        ensures { IfOk result (λ s. s ≡ record { dump = arc_value graph; log = [] }) }
+    {
+        let front = Front::empty(alloc)?;
+        let strengths = from_scratch(alloc, &graph, &front)?;
+        Ok(State {
+            graph,
+            front,
+            strengths,
+        })
+    }
+
+    /// The state after one more event, and what the event did. This state stays as it is.
+    ///
+    /// # Errors
+    ///
+    /// Want of memory.
+    pub fn step(&self, alloc: Global, event: Event) -> Result<(State, Done), NoMemory>
+        requires { log_fault self.now.log event ≡ None }
+        ensures state { IfOk result (λ r. r.0 ≡ record { dump = self.now.dump; log = self.now.log ++ event ∷ [] }) }
+        ensures done { IfOk result (λ r. IsDone self.now.dump self.now.log (self.now.log ++ event ∷ []) r.1) }
+    {
+        settled_supports_give_strengths();
+        one_strength();
+        let Ok(front) = self.front.extend(alloc, event) else {
+            return Err(NoMemory);
+        };
+        let strengths = from_scratch(alloc, &self.graph, &front)?;
+        let done = Done {
+            event: self.front.len(),
+            fell: count_fallen(&self.strengths, &strengths),
+            back: count_fallen(&strengths, &self.strengths),
+        };
+        let graph = Arc::try_clone(&self.graph)?;
+        let state = State {
+            graph,
+            front,
+            strengths,
+        };
+        Ok((state, done))
+    }
+
+    /// The log.
+    pub fn front(&self) -> &Front
+        ensures { result.now ≡ self.now.log }
+    {
+        &self.front
+    }
+
+    /// The dump's graph.
+    pub fn graph(&self) -> &Graph
+        ensures { result.now ≡ self.now.dump }
+    {
+        &self.graph
+    }
+
+    /// How well an object can be reached.
+    pub fn strength(&self, o: u32) -> Strength
+        requires { o < length self.now.dump.objects }
+        ensures { HasStrength (standing self.now.dump self.now.log) o result }
+    {
+        settled_supports_give_strengths();
+        self.strengths.strength(o)
+    }
+
+    /// All slots of an object, in their order, as the log leaves them.
+    ///
+    /// # Errors
+    ///
+    /// Want of memory.
+    pub fn slots(&self, alloc: Global, o: u32) -> Result<Vec<SlotRow>, NoMemory>
+        requires { o < length self.now.dump.objects }
+        ensures { IfOk result (λ v. v.items ≡ slot_rows self.now.dump self.now.log (object_at self.now.dump o)) }
+    {
+        rows_of(alloc, &self.graph, &self.front, o)
+    }
+}

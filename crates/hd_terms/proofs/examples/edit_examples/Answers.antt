@@ -1,0 +1,39 @@
+use Rattle.std.proofs.Common.{ℕ, List, [], ◌∷◌, take, refl}
+use Rattle.hd_terms.specs.declared.Slot.{Slot}
+use Rattle.hd_terms.specs.declared.Slot.TheVariants as slots
+use Rattle.hd_terms.specs.declared.Strength.TheVariants as strengths
+use Rattle.hd_terms.specs.declared.Support.TheVariants as supports
+use Rattle.hd_terms.specs.Settled.{Kept, unreached}
+use Rattle.hd_terms.specs.Examples as examples
+use Rattle.hd_terms.proofs.FellByTest.{fell}
+use Rattle.hd_terms.proofs.examples.edit_examples.Goals as goal
+
+-- held by root 0
+abbrev held : Kept
+held = record { strength = strengths.Strong; support = supports.Root 0; stamp = 0 }
+
+-- strong by a slot of an object
+abbrev strong_by : ℕ → Slot → ℕ → Kept
+strong_by source slot stamp = record { strength = strengths.Strong; support = supports.Edge source slot; stamp = stamp }
+
+-- what is kept of the two arrays, with and without the edge between them
+abbrev both : List Kept
+both = held ∷ strong_by 0 (slots.Element 0) 1 ∷ []
+
+abbrev first : List Kept
+first = held ∷ unreached ∷ []
+
+pub returns-clause-fell : goal.returns-clause-fell
+returns-clause-fell c = fell examples.two_arrays [] (take 1 examples.cut_and_undo) both first refl refl
+
+pub returns-clause-none_back : goal.returns-clause-none_back
+returns-clause-none_back c = fell examples.two_arrays (take 1 examples.cut_and_undo) [] first both refl refl
+
+pub returns-clause-back : goal.returns-clause-back
+returns-clause-back c = fell examples.two_arrays examples.cut_and_undo (take 1 examples.cut_and_undo) both first refl refl
+
+pub returns-clause-cycle_fell : goal.returns-clause-cycle_fell
+returns-clause-cycle_fell c =
+    fell examples.cycle_behind_one_edge [] (take 1 examples.cut_and_undo)
+    (held ∷ strong_by 0 (slots.Element 0) 1 ∷ strong_by 1 (slots.Element 0) 2 ∷ strong_by 2 (slots.Element 1) 3 ∷ strong_by 3 (slots.Element 0) 4 ∷ [])
+    (held ∷ unreached ∷ unreached ∷ unreached ∷ unreached ∷ []) refl refl

@@ -1,0 +1,73 @@
+-- What an edit or an undo asks of the log: an event, or nothing where it is refused before.
+-- Source: this project.
+use Rattle.std.specs.Prelude.{ℕ, ◌==◌, Bool, true, false, ◌||◌, if◌then◌else◌, List, Option, Some, None, is_none, Result, Ok, Err}
+use Rattle.std.specs.List.{find}
+use Rattle.hd_terms.specs.declared.Slot.{Slot}
+use Rattle.hd_terms.specs.declared.Slot.TheVariants as slots
+use Rattle.hd_terms.specs.declared.Edit.TheVariants as edits
+use Rattle.hd_terms.specs.declared.Event.{Event}
+use Rattle.hd_terms.specs.declared.What.{What}
+use Rattle.hd_terms.specs.declared.What.TheVariants as whats
+use Rattle.hd_terms.specs.declared.errors.Refusal.{Refusal}
+use Rattle.hd_terms.specs.declared.errors.Refusal.TheVariants as refusals
+use Rattle.hd_terms.specs.Dump.{SlotEntry, Object, Dump, object_at}
+use Rattle.hd_terms.specs.Edges.{index_of}
+use Rattle.hd_terms.specs.EditedDump.{same_slot}
+use Rattle.hd_terms.specs.Log.{last_live}
+use Rattle.hd_terms.specs.Lines.{Command, Quit}
+use Rattle.hd_terms.specs.Lines as commands
+
+-- fields, elements and statics may be cut; what makes an object what it is may not
+abbrev pub is_cuttable : Slot → Bool
+is_cuttable (slots.Field i) = true
+is_cuttable (slots.Element i) = true
+is_cuttable (slots.Static i) = true
+is_cuttable (slots.Const i) = false
+is_cuttable slots.OfClass = false
+is_cuttable slots.Super = false
+is_cuttable slots.Loader = false
+is_cuttable slots.Signers = false
+is_cuttable slots.Domain = false
+
+-- a slot with this ID in it refers to nothing
+abbrev pub is_empty_slot : Dump → ℕ → Bool
+is_empty_slot dump id = (id == 0) || is_none (index_of dump.objects id)
+
+-- why a slot may not be cut, by what the object has there
+abbrev pub slot_refusal : Dump → Slot → Option SlotEntry → Option Refusal
+slot_refusal dump slot None = Some refusals.NoSuchSlot
+slot_refusal dump slot (Some s) =
+    if is_cuttable slot then (if is_empty_slot dump s.id then Some refusals.EmptySlot else None) else Some refusals.NotCuttable
+
+-- the slot of an object that has this name
+abbrev pub named_slot : Object → Slot → Option SlotEntry
+named_slot x slot = find (λ (s : SlotEntry). same_slot s.slot slot) x.slots
+
+-- why a slot of the object of a number may not be cut, if there is such an object
+abbrev pub cut_refusal : Dump → Slot → Option ℕ → Option Refusal
+cut_refusal dump slot None = Some refusals.NoSuchObject
+cut_refusal dump slot (Some o) = slot_refusal dump slot (named_slot (object_at dump o) slot)
+
+-- what is done, or why not
+abbrev pub unless_refused : Option Refusal → What → Result What Refusal
+unless_refused None what = Ok what
+unless_refused (Some refusal) what = Err refusal
+
+-- the undo of the last live edit, if there is one
+abbrev pub undo_of_last : Option ℕ → Result What Refusal
+undo_of_last None = Err refusals.NothingToUndo
+undo_of_last (Some k) = Ok (whats.Undo k)
+
+-- the undo of event k, or where none is named that of the analyst's last live edit
+abbrev pub undo_asked : List Event → ℕ → Option ℕ → Result What Refusal
+undo_asked log who None = undo_of_last (last_live log who)
+undo_asked log who (Some k) = Ok (whats.Undo k)
+
+-- what a command of an analyst asks of the log, where it asks something: what its event is to do, or why it is
+-- refused before the log is asked
+abbrev pub asked : Dump → List Event → ℕ → Command → Option (Result What Refusal)
+asked dump log who (commands.Strength id) = None
+asked dump log who (commands.Slots id) = None
+asked dump log who (commands.Cut id slot) = Some (unless_refused (cut_refusal dump slot (index_of dump.objects id)) (whats.Do (edits.Cut id slot)))
+asked dump log who (commands.Undo number) = Some (undo_asked log who number)
+asked dump log who Quit = None

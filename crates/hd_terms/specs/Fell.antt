@@ -1,0 +1,23 @@
+-- What falls from one log to another: the objects that become unreachable.
+-- Source: this project.
+use Rattle.std.specs.Prelude.{◌≡◌, ℕ, ◌<◌, ◌↔◌, Bool, true, List, length, count_by}
+use Rattle.std.specs.List.{range_with_len}
+use Rattle.hd_terms.specs.declared.Strength.TheVariants as strengths
+use Rattle.hd_terms.specs.declared.Event.{Event}
+use Rattle.hd_terms.specs.Strengths.{HasStrength}
+use Rattle.hd_terms.specs.Dump.{Dump}
+use Rattle.hd_terms.specs.EditedDump.{standing}
+
+-- an object is unreachable under a log
+abbrev pub IsUnreachable : Dump → List Event → ℕ → Type 0
+IsUnreachable dump log o = HasStrength (standing dump log) o strengths.Unreachable
+
+-- the object of a number is unreachable under the later log, and was not under the earlier one
+abbrev pub Falls : Dump → (before after : List Event) → ℕ → Type 0
+Falls dump before after o = IsUnreachable dump after o × (IsUnreachable dump before o → ⊥)
+
+-- so many objects fall: those of which a test says so that decides it
+pub record FellCount (dump : Dump) (before after : List Event) (n : ℕ) : Type 0 where
+  pub falls : ℕ → Bool
+  pub decides : (o : ℕ) → o < length dump.objects → (falls o ≡ true) ↔ Falls dump before after o
+  pub count : n ≡ count_by falls (range_with_len 0 (length dump.objects))
