@@ -1,6 +1,7 @@
 #!/usr/bin/env bash
-# Runs hdesk on its stored input while memory is refused to it, and looks for a wrong answer: each run has to answer all
-# lines rightly, or to end with the named fault of want of memory and nothing written.
+# Runs hdesk over its sample while memory is refused to it, and looks for a wrong answer. Each run has to answer all
+# lines rightly; or to answer `no OutOfMemory` to some that take memory, and the others rightly for a log without the
+# events of those; or to end with the named fault of want of memory and nothing written.
 #
 #   bench/refuse_memory.sh PROGRAM
 #
@@ -25,8 +26,49 @@ room=$(mktemp -d)
 trap 'rm -rf "$room"' EXIT
 rustc --edition 2021 -O --crate-type cdylib -C panic=abort "$here/refuse.rs" -o "$room/refuse.so"
 
-printf 'strength 0x2\nquit\n' >"$room/input"
-right=$'ok 1\nSTRONG\nok 0'
+printf 'strength 0x2\ncut 0x1 e0\nstrength 0x2\nslots 0x1\nundo\nstrength 0x2\nquit\n' >"$room/input"
+
+# The right answers where `cut`, `slots` and `undo` find memory or don't: right_answers CUT SLOTS UNDO, each yes or no.
+right_answers() {
+    local after=STRONG mode=stands last=STRONG
+    printf 'ok 1\nSTRONG\n'
+    if [[ $1 == yes ]]; then
+        printf 'ok 1\nevent 0 fell 1 back 0\n'
+        after=UNREACHABLE mode=cut
+        [[ $3 == yes ]] || last=UNREACHABLE
+    else
+        echo 'no OutOfMemory'
+    fi
+    printf 'ok 1\n%s\n' "$after"
+    if [[ $2 == yes ]]; then
+        printf 'ok 4\ne0 strong 0x2 %s\ne1 strong 0x0 null\ne2 strong 0x9 absent\nclass strong 0x0 null\n' "$mode"
+    else
+        echo 'no OutOfMemory'
+    fi
+    if [[ $1 == no ]]; then
+        echo 'no NothingToUndo'
+    elif [[ $3 == yes ]]; then
+        printf 'ok 1\nevent 1 fell 0 back 1\n'
+    else
+        echo 'no OutOfMemory'
+    fi
+    printf 'ok 1\n%s\nok 0\n' "$last"
+}
+
+right=$(right_answers yes yes yes)
+
+# Whether the output is right where some commands found no memory.
+is_right_in_part() {
+    local cut slots undo
+    for cut in yes no; do
+        for slots in yes no; do
+            for undo in yes no; do
+                [[ $1 != "$(right_answers "$cut" "$slots" "$undo")" ]] || return 0
+            done
+        done
+    done
+    return 1
+}
 
 # Sets `outcome` to the name of what the last run did, from its status and what it wrote.
 judge() {
@@ -35,6 +77,8 @@ judge() {
     outcome=wrong
     if [[ $status -eq 0 && $output == "$right" && -z $faults ]]; then
         outcome=answered
+    elif [[ $status -eq 0 && -z $faults ]] && is_right_in_part "$output"; then
+        outcome=in_part
     elif [[ $status -eq 2 && ! -s $room/output && $faults == 'hdesk: OutOfMemory at 0' ]]; then
         outcome=at_opening
     elif [[ $status -eq 1 && ! -s $room/output && $faults == 'hdesk: OutOfMemory' ]]; then
@@ -67,12 +111,12 @@ run_without_allocation() {
 }
 
 forget_counts() {
-    counts=([answered]=0 [at_opening]=0 [elsewhere]=0 [wrong]=0)
+    counts=([answered]=0 [in_part]=0 [at_opening]=0 [elsewhere]=0 [wrong]=0)
 }
 
 print_counts() {
-    printf '%s: refused at the opening %s, refused elsewhere %s, answered all %s, anything else %s; %s\n' \
-        "$1" "${counts[at_opening]}" "${counts[elsewhere]}" "${counts[answered]}" "${counts[wrong]}" "$2"
+    printf '%s: refused at the opening %s, elsewhere %s, at a command %s, answered all %s, anything else %s; %s\n' \
+        "$1" "${counts[at_opening]}" "${counts[elsewhere]}" "${counts[in_part]}" "${counts[answered]}" "${counts[wrong]}" "$2"
 }
 
 sweep_limits() {
@@ -100,7 +144,7 @@ sweep_allocations() {
         [[ -z $end ]] || break
     done
     print_counts 'one allocation refused' "${end:-no end after $most_allocations runs}"
-    [[ -n $end ]] && ((counts[wrong] == 0 && counts[at_opening] > 0 && counts[elsewhere] > 0))
+    [[ -n $end ]] && ((counts[wrong] == 0 && counts[at_opening] > 0 && counts[elsewhere] > 0 && counts[in_part] > 0))
 }
 
 declare -A counts
