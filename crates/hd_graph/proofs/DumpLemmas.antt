@@ -1,5 +1,5 @@
 -- The dump of the sub-records of a file, from the list of them.
-use Rattle.std.proofs.Common.{◌≡◌, ◌∙◌, ℕ, suc, ◌+◌, ◌≤◌, List, [], ◌∷◌, ◌++◌, length, map, drop, Option, Some, None, Bool, true, false, cond, refl, sym, ap, arith, append_assoc, length-append, All}
+use Rattle.std.proofs.Common.{◌≡◌, ◌∙◌, ℕ, ◌+◌, ◌≤◌, List, [], ◌∷◌, ◌++◌, length, map, drop, Option, Some, refl, sym, ap, arith, append_assoc, length-append, All}
 use Rattle.std.specs.List.{AllByRecursion, flat_map, filter_map, cons_option}
 use Rattle.std.proofs.lemmas.List.{map-append, drop-drop, take-append-drop, length-take}
 use Rattle.std.proofs.lemmas.List.Elements.{filter_map-append, All-nil, All-cons, All-append}
@@ -11,11 +11,9 @@ use Rattle.hd_terms.specs.SubRecords.{SubRecord, RootUnknown, ObjectArray, IsSub
 use Rattle.hd_terms.specs.Dump.{Object, Root}
 use Rattle.hd_terms.specs.Objects.{object_of}
 use Rattle.hd_terms.specs.Roots.{root_of, roots_of}
-use Rattle.hd_graph.specs.Firsts.{firsts_from}
 use Rattle.hd_graph.specs.Arrays.{row_object, row_objects}
 use Rattle.hd_graph.specs.ArrayRows.{array_of, item_weight, weight, IsItemWithin, roots_in}
 use Rattle.hd_graph.specs.Bodies.{AreBodies, body_at}
-use Rattle.hd_graph.proofs.FirstLemmas.{is_known}
 use Rattle.hd_graph.proofs.RowLemmas.{id_of_array, row_of_array}
 use Rattle.hd_graph.proofs.SpanLemmas.{span_total}
 use Rattle.hd_graph.proofs.LocatedLemmas.{object_of_array, array-object, array-within, array-weight}
@@ -124,21 +122,3 @@ module _ (bytes : List ℕ) (size : IdSize) where
 pub row_objects-pairs : (size : IdSize) (xs : List (ℕ × List ℕ)) → row_objects size (map id_of_array xs) (map row_of_array xs) ≡ map (object_of_array size) xs
 row_objects-pairs size [] = refl
 row_objects-pairs size (x ∷ xs) = ap (λ (ys : List Object). row_object size x.0 x.1 ∷ ys) (row_objects-pairs size xs)
-
--- no more than there are
-module _ {X : Type 0} where
-  known-le : (b : Bool) (x : X) (rest : List X) (n : ℕ) → length rest ≤ n → length (cond b rest (x ∷ rest)) ≤ suc n
-  known-le true x rest n le = omega arith
-  known-le false x rest n le = omega arith
-
-  option-le : (o : Option X) (rest : List X) (n : ℕ) → length rest ≤ n → length (cons_option o rest) ≤ suc n
-  option-le None rest n le = omega arith
-  option-le (Some y) rest n le = omega arith
-
-pub firsts-le : {X : Type 0} (key : X → ℕ) (before xs : List X) → length (firsts_from key before xs) ≤ length xs
-firsts-le key before [] = omega arith
-firsts-le key before (x ∷ xs) = known-le (is_known key before x) x (firsts_from key (before ++ x ∷ []) xs) (length xs) (firsts-le key (before ++ x ∷ []) xs)
-
-pub filter_map-le : {X Y : Type 0} (f : X → Option Y) (xs : List X) → length (filter_map f xs) ≤ length xs
-filter_map-le f [] = omega arith
-filter_map-le f (x ∷ xs) = option-le (f x) (filter_map f xs) (length xs) (filter_map-le f xs)

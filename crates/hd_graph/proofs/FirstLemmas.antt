@@ -1,5 +1,5 @@
 -- Lemmas on the first of each key.
-use Rattle.std.proofs.Common.{◌≡◌, ◌∙◌, ℕ, ◌+◌, List, [], ◌∷◌, ◌++◌, length, map, Some, None, Bool, true, false, ◌||◌, cond, eqb, refl, sym, ap, append_assoc, length-append}
+use Rattle.std.proofs.Common.{◌≡◌, ◌∙◌, ℕ, suc, ◌+◌, ◌≤◌, List, [], ◌∷◌, ◌++◌, length, map, Option, Some, None, Bool, true, false, ◌||◌, cond, eqb, refl, sym, ap, arith, append_assoc, length-append}
 use Rattle.std.specs.List.{list_any, filter_map, cons_option, enumerate_from}
 use Rattle.std.proofs.lemmas.List.{append-nil, map-append}
 use Rattle.std.proofs.Math.Seq.{take-append_seam}
@@ -82,3 +82,21 @@ stands-from before (x ∷ xs) =
 -- the definition's objects are the first of each ID
 pub first_of_each-firsts : (xs : List Object) → first_of_each xs ≡ firsts id_of xs
 first_of_each-firsts xs = stands-from [] xs
+
+-- no more than there are
+module _ {X : Type 0} where
+  known-le : (b : Bool) (x : X) (rest : List X) (n : ℕ) → length rest ≤ n → length (cond b rest (x ∷ rest)) ≤ suc n
+  known-le true x rest n le = omega arith
+  known-le false x rest n le = omega arith
+
+  option-le : (o : Option X) (rest : List X) (n : ℕ) → length rest ≤ n → length (cons_option o rest) ≤ suc n
+  option-le None rest n le = omega arith
+  option-le (Some y) rest n le = omega arith
+
+pub firsts-le : {X : Type 0} (key : X → ℕ) (before xs : List X) → length (firsts_from key before xs) ≤ length xs
+firsts-le key before [] = omega arith
+firsts-le key before (x ∷ xs) = known-le (is_known key before x) x (firsts_from key (before ++ x ∷ []) xs) (length xs) (firsts-le key (before ++ x ∷ []) xs)
+
+pub filter_map-le : {X Y : Type 0} (f : X → Option Y) (xs : List X) → length (filter_map f xs) ≤ length xs
+filter_map-le f [] = omega arith
+filter_map-le f (x ∷ xs) = option-le (f x) (filter_map f xs) (length xs) (filter_map-le f xs)

@@ -10,3 +10,6 @@ pub mod SpanLemmas
 pub mod LocatedLemmas
 pub mod DumpLemmas
 pub mod OpenLemmas
+pub mod SmallLemmas
+pub mod RepeatLemmas
+pub mod CountLemmas

@@ -4,29 +4,33 @@ use Rattle.std.specs.List.{AllZip, filter, filter_map, find, slice_get}
 use Rattle.std.proofs.lemmas.List.{length-map}
 use Rattle.hd_terms.specs.declared.IdSize.{IdSize}
 use Rattle.hd_terms.specs.declared.Span.{Span}
+use Rattle.hd_terms.specs.declared.Text.{Text}
+use Rattle.hd_terms.specs.declared.Load.{Load}
 use Rattle.hd_terms.specs.declared.errors.ReadFault.{ReadFault}
-use Rattle.hd_terms.specs.Records.{Record, header_len, segment_spans, is_segment}
+use Rattle.hd_terms.specs.Records.{Record, header_len, segment_spans, is_segment, texts}
 use Rattle.hd_terms.specs.SubRecords.{SubRecord, Sub, Item, ObjArray, AreSubRecords, AreDumpSubRecords, dump_subs_at}
 use Rattle.hd_terms.specs.SubRecords as subs
 use Rattle.hd_terms.specs.declared.IdSize.TheVariants as sizes
 use Rattle.hd_terms.specs.Roots.{roots_of}
-use Rattle.hd_terms.specs.Dump.{Object, Root}
-use Rattle.hd_terms.specs.Objects.{object_of, objects_of, IsDumpOf, is_null_object}
+use Rattle.hd_terms.specs.Dump.{Object, Root, Repeated}
+use Rattle.hd_terms.specs.Objects.{object_of, objects_of, IsDumpOf, is_null_object, repeats, repeated_of}
 use Rattle.hd_terms.specs.ReadFaults.{IsReadFault, in_records, in_sub_records, in_objects, IsSubRecordsFault, IsSegmentFault}
 use Rattle.hd_records.specs.Reading.{ReadsRecords, IsRecordsFaultOrMemory}
 use Rattle.hd_graph.specs.declared.graph.RootRow.{RootRow}
 use Rattle.hd_graph.specs.GraphInside.{root_of_row}
 use Rattle.hd_graph.specs.Table.{Table}
 use Rattle.hd_graph.specs.Firsts.{firsts}
-use Rattle.hd_graph.specs.Arrays.{row_objects}
+use Rattle.hd_graph.specs.Arrays.{IsSmallRow, row_objects}
 use Rattle.hd_graph.specs.ArrayRows.{array_id, array_of, arrays_of, weight, item_weight, AreWithin, root_of_item, roots_in}
 use Rattle.hd_graph.specs.Bodies.{AreBodies, ReadsBodies, IsBodiesFault, body_at, IsSpanWithin}
 use Rattle.hd_graph.specs.Building.{IsNumbered, HasRowsOf, IsBodiesFaultOrMemory, IsNullFaultOrMemory, IsReadFaultOrMemory}
-use Rattle.hd_graph.proofs.FirstLemmas.{firsts-map, first_of_each-firsts}
+use Rattle.hd_graph.proofs.FirstLemmas.{firsts-map, first_of_each-firsts, firsts-le, filter_map-le}
 use Rattle.hd_graph.proofs.RowLemmas.{id_of_array, row_of_array, ids-of-arrays}
 use Rattle.hd_graph.proofs.SpanLemmas.{IsBodyAt, span_total, bodies_at, total-le, all_within, bodies_of_records}
 use Rattle.hd_graph.proofs.LocatedLemmas.{object_of_array}
-use Rattle.hd_graph.proofs.DumpLemmas.{all_of, objects_in, roots_all, within_all, weight_all, weight-cons, row_objects-pairs, firsts-le, filter_map-le}
+use Rattle.hd_graph.proofs.DumpLemmas.{all_of, objects_in, roots_all, within_all, weight_all, weight-cons, row_objects-pairs}
+use Rattle.hd_graph.proofs.SmallLemmas.{rows-small}
+use Rattle.hd_graph.proofs.RepeatLemmas.{repeats-map}
 
 abbrev same : ℕ → ℕ
 same id = id
@@ -40,10 +44,10 @@ length-le-weight : (list : List Sub) → length list ≤ weight list
 length-le-weight [] = omega arith
 length-le-weight (s ∷ list) = omega (arith, length-le-weight list, item-heavy s.item, weight-cons [] sizes.Four s list)
 
-module _ (bytes : List ℕ) (size : IdSize) (spans : List Span) (r : ReadsRecords bytes size spans) where
+module _ (bytes : List ℕ) (size : IdSize) (strings : List Text) (classes : List Load) (spans : List Span) (r : ReadsRecords bytes size strings classes spans) where
   -- the segments lie where they are said to
   located : AllZip (IsBodyAt bytes) spans (filter is_segment r.records)
-  located = subst (λ (ss : List Span). AllZip (IsBodyAt bytes) ss (filter is_segment r.records)) (sym r.spans) (bodies_at bytes r.header.fits header_len r.records r.whole.whole r.whole.each)
+  located = subst (λ (ss : List Span). AllZip (IsBodyAt bytes) ss (filter is_segment r.records)) (sym r.spans) (bodies_at bytes size r.header.fits header_len r.records r.whole.whole r.whole.each)
 
   pub spans-within : All (IsSpanWithin bytes) spans
   spans-within = all_within bytes spans (filter is_segment r.records) located
@@ -95,7 +99,7 @@ module _ (bytes : List ℕ) (size : IdSize) (spans : List Span) (r : ReadsRecord
     list-within = rw b.list_is (record {
       each = within_all bytes size spans b.segments b.whole;
       few =
-          let total : span_total spans ≤ length bytes - header_len = subst (λ (ss : List Span). span_total ss ≤ length bytes - header_len) (sym r.spans) (total-le bytes header_len r.records r.whole.whole r.whole.each) in
+          let total : span_total spans ≤ length bytes - header_len = subst (λ (ss : List Span). span_total ss ≤ length bytes - header_len) (sym r.spans) (total-le bytes size header_len r.records r.whole.whole r.whole.each) in
           omega (arith, weight_all bytes size spans b.segments b.whole, total, r.header.fits);
     })
 
@@ -104,7 +108,7 @@ module _ (bytes : List ℕ) (size : IdSize) (spans : List Span) (r : ReadsRecord
     null-fault f (inl memory) = inl memory
     null-fault f (inr h) = inr (subst (IsReadFault bytes) (sym h.fault_is) (in_objects size r.records b.segments h.sub r.header r.whole dump_bodies (ap (find is_null_object) (sym list_of_records) ∙ h.first)))
 
-    module _ (ids : List ℕ) (roots : List RootRow) (n : IsNumbered list ids roots) where
+    module _ (ids : List ℕ) (roots : List RootRow) (repeated : ℕ) (n : IsNumbered list ids roots repeated) where
       short : length list ≤ weight list
       short = length-le-weight list
 
@@ -124,6 +128,9 @@ module _ (bytes : List ℕ) (size : IdSize) (spans : List Span) (r : ReadsRecord
         pub as-many-rows : length t.rows ≡ length t.ids
         as-many-rows = ap (λ (xs : List (List ℕ)). length xs) h.rows_are ∙ length-map arrays row_of_array ∙ sym (length-map arrays id_of_array) ∙ ap (λ (xs : List ℕ). length xs) (sym ids_of_arrays)
 
+        pub small-rows : All (IsSmallRow size) t.rows
+        small-rows = rw h.rows_are (rows-small bytes size r.header.fits list list-within)
+
         objects_are : row_objects size t.ids t.rows ≡ objects_of size (all_of bytes size b.segments)
         objects_are =
             ap (λ (xs : List ℕ). row_objects size xs t.rows) ids_of_arrays ∙ ap (λ (xs : List (List ℕ)). row_objects size (map id_of_array arrays) xs) h.rows_are
@@ -135,19 +142,39 @@ module _ (bytes : List ℕ) (size : IdSize) (spans : List Span) (r : ReadsRecord
         roots_are : map root_of_row roots ≡ roots_of size (all_of bytes size b.segments)
         roots_are = n.roots_are ∙ ap roots_in b.list_is ∙ roots_all bytes size spans b.segments b.whole
 
-        pub opened : IsDumpOf bytes (record { objects = row_objects size t.ids t.rows; roots = map root_of_row roots })
-        opened = record {
-          size = size;
-          records = r.records;
-          segments = b.segments;
-          reads = record {
-            header = r.header;
-            whole = r.whole;
-            bodies = dump_bodies;
-            no_null = rw (← list_of_records, n.not_found) refl;
-          };
-          is = ap (λ (xs : List Object). record { objects = xs; roots = map root_of_row roots }) objects_are ∙ ap (λ (xs : List Root). record { objects = objects_of size (all_of bytes size b.segments); roots = xs }) roots_are;
-        }
+        arrays_again : repeated ≡ repeats (λ (x : Object). x.id) (filter_map (object_of size) (all_of bytes size b.segments))
+        arrays_again =
+            n.repeated_is ∙ ap (repeats same) (ids-of-arrays bytes size list) ∙ repeats-map same id_of_array (filter_map (array_of bytes size) list)
+            ∙ sym (repeats-map (λ (x : Object). x.id) (object_of_array size) (filter_map (array_of bytes size) list))
+            ∙ ap (repeats (λ (x : Object). x.id)) (ap (λ (l : List Sub). map (object_of_array size) (filter_map (array_of bytes size) l)) b.list_is ∙ objects_in bytes size spans b.segments b.whole)
+
+        -- what is repeated
+        module _ (texts_again loads_again : ℕ) (texts_are : texts_again ≡ repeats (λ (x : Text). x.id) strings) (loads_are : loads_again ≡ repeats (λ (x : Load). x.class) classes) where
+          abbrev again : Repeated
+          again = record { objects = repeated; strings = texts_again; loads = loads_again }
+
+          again_is : again ≡ repeated_of size r.records (all_of bytes size b.segments)
+          again_is =
+              ap (λ (m : ℕ). record { objects = m; strings = texts_again; loads = loads_again }) arrays_again
+              ∙ ap (λ (m : ℕ). record { objects = repeats (λ (x : Object). x.id) (filter_map (object_of size) (all_of bytes size b.segments)); strings = m; loads = loads_again }) (texts_are ∙ ap (repeats (λ (x : Text). x.id)) r.strings_are)
+              ∙ ap (λ (m : ℕ). record { objects = repeats (λ (x : Object). x.id) (filter_map (object_of size) (all_of bytes size b.segments)); strings = repeats (λ (x : Text). x.id) (texts size r.records); loads = m })
+              (loads_are ∙ ap (repeats (λ (x : Load). x.class)) r.loads_are)
+
+          pub opened : IsDumpOf bytes (record { objects = row_objects size t.ids t.rows; roots = map root_of_row roots; repeated = again; opaque = 0 })
+          opened = record {
+            size = size;
+            records = r.records;
+            segments = b.segments;
+            reads = record {
+              header = r.header;
+              whole = r.whole;
+              bodies = dump_bodies;
+              no_null = rw (← list_of_records, n.not_found) refl;
+            };
+            is = ap (λ (xs : List Object). record { objects = xs; roots = map root_of_row roots; repeated = again; opaque = 0 }) objects_are
+                ∙ ap (λ (xs : List Root). record { objects = objects_of size (all_of bytes size b.segments); roots = xs; repeated = again; opaque = 0 }) roots_are
+                ∙ ap (λ (x : Repeated). record { objects = objects_of size (all_of bytes size b.segments); roots = roots_of size (all_of bytes size b.segments); repeated = x; opaque = 0 }) again_is;
+          }
 
 pub records-fault : (bytes : List ℕ) (f : ReadFault) → IsRecordsFaultOrMemory bytes f → IsReadFaultOrMemory bytes f
 records-fault bytes f (inl memory) = inl memory

@@ -7,7 +7,7 @@ use Rattle.std.proofs.lemmas.List.Sums.{sum_by-append}
 use Rattle.std.proofs.Math.Seq.{take-append_seam, drop-append_seam}
 use Rattle.hd_terms.specs.declared.IdSize.{IdSize}
 use Rattle.hd_terms.specs.declared.Span.{Span}
-use Rattle.hd_terms.specs.Records.{Record, IsRecord, record_text, is_segment, segment_spans, largest_file}
+use Rattle.hd_terms.specs.Records.{Record, IsFramed, IsRecord, record_text, is_segment, segment_spans, largest_file}
 use Rattle.hd_terms.specs.SubRecords.{SubRecord, AreSubRecords}
 use Rattle.hd_graph.specs.Bodies.{IsSpanWithin, AreBodies, body_at}
 
@@ -32,12 +32,12 @@ case-total false s spans = omega arith
 abbrev head : Record → List ℕ
 head r = r.tag ∷ r.time ++ r.size
 
-length-head : (r : Record) → IsRecord r → length (head r) ≡ 9
+length-head : (r : Record) → IsFramed r → length (head r) ≡ 9
 length-head r is = omega (arith, length-append (r.tag ∷ r.time) r.size, is.time, is.size)
 
 module _ (bytes : List ℕ) where
   -- a record at a place
-  module _ (at : ℕ) (r : Record) (rest : List ℕ) (is : IsRecord r) (whole : drop at bytes ≡ record_text r ++ rest) where
+  module _ (at : ℕ) (r : Record) (rest : List ℕ) (is : IsFramed r) (whole : drop at bytes ≡ record_text r ++ rest) where
     after_head : drop (at + 9) bytes ≡ r.body ++ rest
     after_head =
         sym (drop-drop 9 at bytes) ∙ ap (drop 9) (whole ∙ append_assoc (head r) r.body rest) ∙ ap (λ (n : ℕ). drop n (head r ++ (r.body ++ rest))) (sym (length-head r is))
@@ -53,25 +53,25 @@ module _ (bytes : List ℕ) where
         omega (arith, length-drop at bytes, long)
 
   -- the records from a place on have their bodies at their spans
-  pub bodies_at : length bytes ≤ largest_file → (at : ℕ) (rs : List Record) → drop at bytes ≡ flat_map record_text rs → AllByRecursion IsRecord rs → AllZip (IsBodyAt bytes) (segment_spans at rs) (filter is_segment rs)
-  bodies_at fits at [] whole each = tt
-  bodies_at fits at (r ∷ rs) whole each =
+  pub bodies_at : (size : IdSize) → length bytes ≤ largest_file → (at : ℕ) (rs : List Record) → drop at bytes ≡ flat_map record_text rs → AllByRecursion (IsRecord size) rs → AllZip (IsBodyAt bytes) (segment_spans at rs) (filter is_segment rs)
+  bodies_at size fits at [] whole each = tt
+  bodies_at size fits at (r ∷ rs) whole each =
       let rest = flat_map record_text rs in
       case-zip (IsBodyAt bytes) (is_segment r) (record { start = at + 9; len = length r.body }) r (segment_spans (at + 9 + length r.body) rs) (filter is_segment rs)
       (record {
-        within = record { start = omega (arith, ends at r rest each.0 whole); end = omega (arith, ends at r rest each.0 whole) };
-        body = ap (take (length r.body)) (after_head at r rest each.0 whole) ∙ take-append_seam r.body rest;
+        within = record { start = omega (arith, ends at r rest each.0.framed whole); end = omega (arith, ends at r rest each.0.framed whole) };
+        body = ap (take (length r.body)) (after_head at r rest each.0.framed whole) ∙ take-append_seam r.body rest;
       })
-      (bodies_at fits (at + 9 + length r.body) rs (after_body at r rest each.0 whole) each.1)
+      (bodies_at size fits (at + 9 + length r.body) rs (after_body at r rest each.0.framed whole) each.1)
 
   -- the spans don't overlap
-  pub total-le : (at : ℕ) (rs : List Record) → drop at bytes ≡ flat_map record_text rs → AllByRecursion IsRecord rs → span_total (segment_spans at rs) ≤ length bytes - at
-  total-le at [] whole each = omega arith
-  total-le at (r ∷ rs) whole each =
+  pub total-le : (size : IdSize) (at : ℕ) (rs : List Record) → drop at bytes ≡ flat_map record_text rs → AllByRecursion (IsRecord size) rs → span_total (segment_spans at rs) ≤ length bytes - at
+  total-le size at [] whole each = omega arith
+  total-le size at (r ∷ rs) whole each =
       let rest = flat_map record_text rs in
       let here = case-total (is_segment r) (record { start = at + 9; len = length r.body }) (segment_spans (at + 9 + length r.body) rs) in
-      let more = total-le (at + 9 + length r.body) rs (after_body at r rest each.0 whole) each.1 in
-      omega (arith, here, more, ends at r rest each.0 whole)
+      let more = total-le size (at + 9 + length r.body) rs (after_body at r rest each.0.framed whole) each.1 in
+      omega (arith, here, more, ends at r rest each.0.framed whole)
 
   -- the spans lie in the file
   pub all_within : (spans : List Span) (rs : List Record) → AllZip (IsBodyAt bytes) spans rs → All (IsSpanWithin bytes) spans

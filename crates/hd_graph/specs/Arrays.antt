@@ -1,11 +1,11 @@
 -- An object array from its row of IDs: its elements, and then its class.
-use Rattle.std.specs.Prelude.{ℕ, ◌+◌, ◌-◌, ◌*◌, nat_lt, if◌then◌else◌, List, [], ◌∷◌, length, map, Option, Some, None}
+use Rattle.std.specs.Prelude.{ℕ, ◌+◌, ◌-◌, ◌*◌, ◌≤◌, nat_lt, if◌then◌else◌, List, [], ◌∷◌, length, map, Option, Some, None}
 use Rattle.std.specs.List.{zip}
 use Rattle.hd_terms.specs.declared.IdSize.{IdSize}
 use Rattle.hd_terms.specs.declared.Group.TheVariants as groups
 use Rattle.hd_terms.specs.declared.Slot.{Slot}
 use Rattle.hd_terms.specs.declared.Slot.TheVariants as slots
-use Rattle.hd_terms.specs.Records.{id_len}
+use Rattle.hd_terms.specs.Records.{id_len, largest_file}
 use Rattle.hd_terms.specs.Dump.{SlotEntry, Object}
 use Rattle.hd_terms.specs.Slots.{strong_slot}
 use Rattle.hd_graph.specs.Cuts.{last_from}
@@ -27,6 +27,10 @@ row_place n slots.Super = None
 row_place n slots.Loader = None
 row_place n slots.Signers = None
 row_place n slots.Domain = None
+
+-- the elements of a row are no more bytes than a file has
+abbrev pub IsSmallRow : IdSize → List ℕ → Type 0
+IsSmallRow size row = (length row - 1) * id_len size ≤ largest_file
 
 -- the array of an ID and a row
 abbrev pub row_object : IdSize → ℕ → List ℕ → Object

@@ -7,7 +7,7 @@ use Rattle.hd_terms.specs.declared.errors.Cause.TheVariants as causes
 use Rattle.hd_terms.specs.declared.errors.ReadFault.{ReadFault}
 use Rattle.hd_terms.specs.SubRecords.{Sub, Item, ObjArray}
 use Rattle.hd_terms.specs.SubRecords as subs
-use Rattle.hd_terms.specs.Objects.{is_null_object}
+use Rattle.hd_terms.specs.Objects.{is_null_object, repeats}
 use Rattle.hd_terms.specs.ReadFaults.{fault, IsReadFault}
 use Rattle.hd_graph.specs.declared.graph.RootRow.{RootRow}
 use Rattle.hd_graph.specs.GraphInside.{root_of_row}
@@ -28,18 +28,20 @@ pub record IsNullFault (list : List Sub) (f : ReadFault) : Type 0 where
 abbrev pub IsNullFaultOrMemory : List Sub → ReadFault → Type 0
 IsNullFaultOrMemory list f = (f ≡ fault causes.OutOfMemory 0) ⊎ IsNullFault list f
 
--- these are the IDs of the arrays among sub-records, each once, and the roots; no ID is 0
-pub record IsNumbered (list : List Sub) (ids : List ℕ) (roots : List RootRow) : Type 0 where
+-- these are the IDs of the arrays among sub-records, each once, and the roots, and so many arrays have the ID of an
+-- earlier one; no ID is 0
+pub record IsNumbered (list : List Sub) (ids : List ℕ) (roots : List RootRow) (repeated : ℕ) : Type 0 where
   pub ids_are : ids ≡ array_ids list
   pub known : (id : ℕ) → list_any (λ k. id == k) ids ≡ list_any (λ k. id == k) (filter_map array_id list)
+  pub repeated_is : repeated ≡ repeats (λ (id : ℕ). id) (filter_map array_id list)
   pub roots_are : map root_of_row roots ≡ roots_in list
   pub no_null : All (λ id. 0 < id) ids
   pub distinct : IsDistinct nat_eq ids
   pub not_found : find is_null_object list ≡ None
 
 -- one more sub-record is numbered
-abbrev pub NumbersOneMore : Sub → List ℕ → List RootRow → List ℕ → List RootRow → Type 0
-NumbersOneMore s ids roots ids' roots' = (front : List Sub) → IsNumbered front ids roots → IsNumbered (front ++ s ∷ []) ids' roots'
+abbrev pub NumbersOneMore : Sub → List ℕ → List RootRow → ℕ → List ℕ → List RootRow → ℕ → Type 0
+NumbersOneMore s ids roots repeated ids' roots' repeated' = (front : List Sub) → IsNumbered front ids roots repeated → IsNumbered (front ++ s ∷ []) ids' roots' repeated'
 
 -- want of memory, or an array with ID 0
 abbrev pub IsNullAtOrMemory : Sub → ReadFault → Type 0

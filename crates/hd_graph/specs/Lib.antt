@@ -8,4 +8,6 @@ pub mod GraphInside
 pub mod Firsts
 pub mod ArrayRows
 pub mod Bodies
+pub mod Noted
 pub mod Building
+pub mod Counting

@@ -8,7 +8,8 @@ ghost use Rattle.hd_graph.specs.Building.{IsBodiesFaultOrMemory, IsNullFaultOrMe
 ghost use Rattle.hd_subs.specs.Reading.{AppendsSegment, IsSegmentFaultOrMemory};
 ghost use Rattle.hd_subs.specs.Views.{sub_view, item_view};
 
-use crate::graph::{Graph, RootRow};
+use crate::graph::{Graph, Repeats, RootRow};
+use crate::noted::{note_id, repeated_loads, repeated_strings};
 use crate::references::References;
 use hd_records::{Segments, read_records};
 use hd_subs::{Item, Sub, Subs, read_segment_into};
@@ -21,6 +22,8 @@ use std::alloc::{AllocError, Global};
 struct Numbered {
     ids: IndexSet<u64>,
     roots: Vec<RootRow>,
+    /// How many sub-records of objects have the ID of an earlier one.
+    repeated: u64,
 }
 
 /// Adds the sub-records of one segment, whose body is a span of the file.
@@ -52,9 +55,15 @@ fn read_bodies(
     Ok(list)
 }
 
-/// Numbers an array, if its ID is new, or keeps a root. An array with ID 0 is a fault.
-fn number_one(ids: &mut IndexSet<u64>, roots: &mut Vec<RootRow>, sub: Sub) -> Result<(), ReadFault>
-    ensures ok { OnOk result (NumbersOneMore (sub_view sub) ids.old.keys roots.old.items ids.new.keys roots.new.items) }
+/// Numbers an array, if its ID is new, or counts it as repeated, or keeps a root. An array with ID 0 is a fault.
+fn number_one(
+    ids: &mut IndexSet<u64>,
+    roots: &mut Vec<RootRow>,
+    repeated: &mut u64,
+    sub: Sub,
+) -> Result<(), ReadFault>
+    requires { repeated.old + 1 < 2 ^ 64 }
+    ensures ok { OnOk result (NumbersOneMore (sub_view sub) ids.old.keys roots.old.items repeated.old ids.new.keys roots.new.items repeated.new) }
     ensures err { IfErr result (λ f. IsNullAtOrMemory (sub_view sub) f) }
 {
     match sub.item {
@@ -66,23 +75,29 @@ fn number_one(ids: &mut IndexSet<u64>, roots: &mut Vec<RootRow>, sub: Sub) -> Re
                     offset: sub.offset,
                 });
             }
-            ids.insert(id)?;
+            note_id(ids, repeated, id)?;
         }
     }
     Ok(())
 }
 
-/// Numbers the arrays by their IDs, each ID once, and collects the roots. An array with ID 0 is a fault.
+/// Numbers the arrays by their IDs, each ID once, counts those that are repeated, and collects the roots. An array
+/// with ID 0 is a fault.
 fn number(alloc: Global, list: &Subs) -> Result<Numbered, ReadFault>
-    ensures ok { IfOk result (λ n. IsNumbered list.now n.ids.keys n.roots.items) }
+    ensures ok { IfOk result (λ n. IsNumbered list.now n.ids.keys n.roots.items n.repeated) }
     ensures err { IfErr result (λ f. IsNullFaultOrMemory list.now f) }
 {
     let mut ids = IndexSet::with_capacity(alloc, list.len())?;
     let mut roots = Vec::new(alloc);
+    let mut repeated = 0;
     for i in 0..list.len() {
-        number_one(&mut ids, &mut roots, list.get(i))?;
+        number_one(&mut ids, &mut roots, &mut repeated, list.get(i))?;
     }
-    Ok(Numbered { ids, roots })
+    Ok(Numbered {
+        ids,
+        roots,
+        repeated,
+    })
 }
 
 /// Adds so many IDs that stand one after another to the row that is being filled.
@@ -189,9 +204,20 @@ pub fn open_plain(alloc: Global, bytes: &[u8]) -> Result<Graph, ReadFault>
     ensures err { IfErr result (λ f. IsReadFaultOrMemory bytes.now f) }
 {
     let records = read_records(alloc, bytes)?;
+    let strings = repeated_strings(alloc, &records.strings)?;
+    let loads = repeated_loads(alloc, &records.loads)?;
     let list = read_bodies(alloc, bytes, records.id_size, &records.segments)?;
-    let Numbered { ids, roots } = number(alloc, &list)?;
+    let Numbered {
+        ids,
+        roots,
+        repeated,
+    } = number(alloc, &list)?;
     let mut references = References::new(alloc, ids)?;
     fill_rows(&mut references, records.id_size, bytes, &list)?;
-    Ok(Graph::new(records.id_size, references, roots))
+    let repeats = Repeats {
+        objects: repeated,
+        strings,
+        loads,
+    };
+    Ok(Graph::new(records.id_size, references, roots, repeats))
 }

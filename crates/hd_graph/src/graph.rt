@@ -1,5 +1,5 @@
 //! The graph as it is read: numbers of objects, their slots, the roots.
-ghost use Rattle.std.specs.Prelude.{◌≡◌, ◌<◌, ◌^◌, ℕ, length, map, position, slice_get, Some, true};
+ghost use Rattle.std.specs.Prelude.{◌≡◌, ◌<◌, ◌^◌, ℕ, length, map, position, slice_get, Some, true, ◌≤◌, All};
 ghost use Rattle.hd_terms.specs.Edges.{index_of};
 ghost use Rattle.hd_terms.specs.EditedDump.{same_slot};
 ghost use Rattle.hd_terms.specs.Dump.{SlotEntry, object_at};
@@ -15,6 +15,15 @@ pub struct Graph {
     id_size: IdSize,
     references: References,
     roots: Vec<RootRow>,
+    repeats: Repeats,
+}
+
+/// How many sub-records of objects and records have the ID of an earlier one.
+#[derive(Clone, Copy)]
+pub(crate) struct Repeats {
+    pub(crate) objects: u64,
+    pub(crate) strings: u64,
+    pub(crate) loads: u64,
 }
 
 /// A root as it is kept.
@@ -71,21 +80,43 @@ impl Model for Graph {
 }
 
 impl Graph {
-    ghost use Rattle.hd_graph.specs.Arrays.{row_objects};
-    ghost use Rattle.hd_graph.specs.GraphInside.{root_of_row};
+    ghost use Rattle.hd_graph.specs.Arrays.{IsSmallRow, row_objects};
+    ghost use Rattle.hd_graph.specs.GraphInside.{root_of_row, repeated_in};
 
-    /// The graph of references, a row for each object, and roots.
-    pub(crate) fn new(id_size: IdSize, references: References, roots: Vec<RootRow>) -> Graph
+    /// The graph of references, a row for each object, and roots, and what was repeated.
+    pub(crate) fn new(
+        id_size: IdSize,
+        references: References,
+        roots: Vec<RootRow>,
+        repeats: Repeats,
+    ) -> Graph
         requires rows { length references.rows ≡ length references.ids }
+        requires small { All (IsSmallRow id_size) references.rows }
         requires few { length references.ids < 2 ^ 31 }
         requires few_roots { length roots.items < 2 ^ 32 }
-        ensures { result ≡ record { objects = row_objects id_size references.ids references.rows; roots = map root_of_row roots.items } }
+        ensures { result ≡ record { objects = row_objects id_size references.ids references.rows; roots = map root_of_row roots.items; repeated = repeated_in repeats; opaque = 0 } }
     {
         Graph {
             id_size,
             references,
             roots,
+            repeats,
         }
+    }
+
+    /// What was repeated.
+    pub(crate) fn repeats(&self) -> Repeats
+        ensures { repeated_in result ≡ self.now.repeated }
+    {
+        self.repeats
+    }
+
+    /// How many instances have a class chain that isn't whole. No instance is read so far.
+    pub(crate) fn opaque(&self) -> u64
+        ensures { result ≡ self.now.opaque }
+    {
+        let _repeats = self.repeats;
+        0
     }
 
     /// How many objects the dump has.
@@ -119,10 +150,12 @@ impl Graph {
         Group::Class(self.references.last(o))
     }
 
-    /// The recorded bytes of an object: of an object array its count times the size of an ID.
+    /// The recorded bytes of an object: of an object array its count times the size of an ID. At most
+    /// 2,147,483,647, as a file has.
     pub fn bytes_of(&self, o: u32) -> u64
         requires { o < length self.now.objects }
-        ensures { result ≡ (object_at self.now o).bytes }
+        ensures bytes { result ≡ (object_at self.now o).bytes }
+        ensures small { result ≤ 2147483647 }
     {
         let elements = self.references.row_len(o).saturating_sub(1);
         u64::from(elements) * self.id_size.bytes() as u64

@@ -2,7 +2,9 @@
 #![tactic(auto)]
 
 mod build;
+mod counts;
 mod graph;
+mod noted;
 mod references;
 
 pub use build::open_plain;

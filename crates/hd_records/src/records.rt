@@ -1,11 +1,13 @@
 //! The records, one after another.
-ghost use Rattle.std.specs.Prelude.{◌≡◌, ◌≢◌, ◌+◌, ◌≤◌, ◌<◌, ◌^◌, [], ◌++◌, IfOk, IfErr, OnOk, MatchOption};
+ghost use Rattle.std.specs.Prelude.{◌≡◌, ◌≢◌, ◌+◌, ◌≤◌, ◌<◌, ◌^◌, [], ◌++◌, length, IfOk, IfErr, OnOk, MatchOption};
+ghost use Rattle.hd_terms.specs.ReadFaults.{IsStuckRecord};
+ghost use Rattle.hd_terms.specs.Records as records;
 ghost use Rattle.hd_records.specs.Reading.{ReadsRecords, IsRecordsFaultOrMemory};
-ghost use Rattle.hd_records.specs.Fronts.{BeginsWithRecord, IsCutOffRecord, is_segment_tag, spans_of};
+ghost use Rattle.hd_records.specs.Fronts.{BeginsWithFramed, BeginsWithRecord, IsCutOffRecord, texts_of, loads_of, spans_of};
 
 use crate::header::{HEADER_LEN, number_at, read_header};
-use crate::segments::Segments;
-use hd_terms::{Cause, IdSize, ReadFault, Span};
+use crate::in_order::{Loads, Segments, Texts};
+use hd_terms::{Cause, IdSize, Load, ReadFault, Span, Text};
 use std::alloc::{AllocError, Global};
 
 /// The bytes of a record before its body.
@@ -14,11 +16,30 @@ const HEAD_LEN: usize = 9;
 /// Where the head of a record gives the length of its body.
 const SIZE_AT: usize = 5;
 
+/// The tag of a UTF8 record: an ID and a text.
+const UTF8: u8 = 0x01;
+
+/// The tag of a LOAD CLASS record: a serial number, the ID of the class, a serial number, the ID of its name.
+const LOAD_CLASS: u8 = 0x02;
+
+/// The tag of a HEAP DUMP.
+const HEAP_DUMP: u8 = 0x0c;
+
+/// The tag of a HEAP DUMP SEGMENT.
+const HEAP_DUMP_SEGMENT: u8 = 0x1c;
+
+/// The bytes of a serial number.
+const SERIAL_LEN: usize = 4;
+
 /// What the records of a file say.
 #[derive(Debug, Drop)]
 pub struct Records {
     /// What identifiers measure.
     pub id_size: IdSize,
+    /// The texts.
+    pub strings: Texts,
+    /// The classes that were loaded.
+    pub loads: Loads,
     /// Where the bodies of the segments lie.
     pub segments: Segments,
 }
@@ -27,46 +48,103 @@ pub struct Records {
 #[derive(Clone, Copy)]
 struct Front<'a> {
     tag: u8,
-    body_len: u32,
+    body: &'a [u8],
     after: &'a [u8],
 }
 
-/// The record that these bytes begin with, unless it runs past their end.
-fn read_record(rest: &[u8]) -> Option<Front<'_>>
+/// The record that these bytes begin with, whatever its body says, unless it runs past their end.
+fn read_framed(rest: &[u8]) -> Option<Front<'_>>
     requires { rest.now ≢ [] }
-    ensures { MatchOption result (IsCutOffRecord rest.now) (λ f. BeginsWithRecord rest.now f.tag f.body_len f.after.now) }
+    ensures { MatchOption result (IsCutOffRecord rest.now) (λ f. BeginsWithFramed rest.now f.tag f.body.now f.after.now) }
 {
     if rest.len() < HEAD_LEN {
         return None;
     }
-    let body_len = number_at(rest, SIZE_AT);
-    let len = HEAD_LEN + body_len as usize;
+    let len = HEAD_LEN + number_at(rest, SIZE_AT) as usize;
     if rest.len() < len {
         return None;
     }
     Some(Front {
         tag: rest[0],
-        body_len,
+        body: &rest[HEAD_LEN..len],
         after: &rest[len..],
     })
 }
 
-/// Whether a record of this tag is a HEAP DUMP or a HEAP DUMP SEGMENT.
-fn is_segment(tag: u8) -> bool
-    ensures { result ≡ is_segment_tag tag }
+/// The bytes of a record's fields, by its tag. Its body may have more.
+fn least_body(id_size: IdSize, tag: u8) -> usize
+    ensures { result ≡ records.least_body id_size tag }
 {
-    tag == 0x0c || tag == 0x1c
+    match tag {
+        UTF8 => id_size.bytes(),
+        LOAD_CLASS => 2 * (SERIAL_LEN + id_size.bytes()),
+        _ => 0,
+    }
+}
+
+/// The record that these bytes begin with, or why none can be read: `Truncated`, or else `ShortRecord`.
+fn read_record(id_size: IdSize, rest: &[u8]) -> Result<Front<'_>, Cause>
+    requires { rest.now ≢ [] }
+    ensures ok { IfOk result (λ f. BeginsWithRecord id_size rest.now f.tag f.body.now f.after.now) }
+    ensures err { IfErr result (λ cause. IsStuckRecord id_size rest.now cause) }
+{
+    let Some(front) = read_framed(rest) else {
+        return Err(Cause::Truncated);
+    };
+    if front.body.len() < least_body(id_size, front.tag) {
+        return Err(Cause::ShortRecord);
+    }
+    Ok(front)
+}
+
+/// Notes the text of the record at a place, if it is a UTF8 record.
+fn note_text(
+    texts: &mut Vec<Text>,
+    id_size: IdSize,
+    at: usize,
+    front: Front<'_>,
+) -> Result<(), AllocError>
+    requires room { at + 9 + length front.body.now < 2 ^ 64 }
+    requires fields { records.least_body id_size front.tag ≤ length front.body.now }
+    ensures { OnOk result (texts.new.items ≡ texts.old.items ++ texts_of id_size at front.entry.tag front.entry.body.now) }
+{
+    if front.tag == UTF8 {
+        let id_len = id_size.bytes();
+        texts.push(Text {
+            id: id_size.read(front.body),
+            text: Span {
+                start: (at + HEAD_LEN + id_len) as u64,
+                len: (front.body.len() - id_len) as u64,
+            },
+        })?;
+    }
+    Ok(())
+}
+
+/// Notes what a record says of a class, if it is a LOAD CLASS record.
+fn note_load(loads: &mut Vec<Load>, id_size: IdSize, front: Front<'_>) -> Result<(), AllocError>
+    requires { records.least_body id_size front.tag ≤ length front.body.now }
+    ensures { OnOk result (loads.new.items ≡ loads.old.items ++ loads_of id_size front.entry.tag front.entry.body.now) }
+{
+    if front.tag == LOAD_CLASS {
+        let name_at = SERIAL_LEN + id_size.bytes() + SERIAL_LEN;
+        loads.push(Load {
+            class: id_size.read(&front.body[SERIAL_LEN..]),
+            name: id_size.read(&front.body[name_at..]),
+        })?;
+    }
+    Ok(())
 }
 
 /// Notes where the body of the record at a place lies, if it is a segment.
 fn note_segment(spans: &mut Vec<Span>, at: usize, front: Front<'_>) -> Result<(), AllocError>
     requires { at + 9 < 2 ^ 64 }
-    ensures { OnOk result (spans.new.items ≡ spans.old.items ++ spans_of at front.entry.tag front.entry.body_len) }
+    ensures { OnOk result (spans.new.items ≡ spans.old.items ++ spans_of at front.entry.tag front.entry.body.now) }
 {
-    if is_segment(front.tag) {
+    if front.tag == HEAP_DUMP || front.tag == HEAP_DUMP_SEGMENT {
         spans.push(Span {
             start: (at + HEAD_LEN) as u64,
-            len: u64::from(front.body_len),
+            len: front.body.len() as u64,
         })?;
     }
     Ok(())
@@ -74,26 +152,38 @@ fn note_segment(spans: &mut Vec<Span>, at: usize, front: Front<'_>) -> Result<()
 
 /// What the records of a file say, or the first fault of the header and the records.
 ///
-/// The faults are `TooLarge`, `Truncated` and `BadMagic` at 0, `BadIdSize` at 19, and `Truncated` at the tag of a
-/// record that runs past the end of the file. `OutOfMemory` comes only where the list of segments could not grow.
+/// The faults are `TooLarge`, `Truncated` and `BadMagic` at 0, `BadIdSize` at 19, and at the tag of a record
+/// `Truncated` where it runs past the end of the file and `ShortRecord` where its body is shorter than its fields.
+/// `OutOfMemory` comes only where a list could not grow.
 pub fn read_records(alloc: Global, bytes: &[u8]) -> Result<Records, ReadFault>
-    ensures ok { IfOk result (λ r. ReadsRecords bytes.now r.id_size r.segments) }
+    ensures ok { IfOk result (λ r. ReadsRecords bytes.now r.id_size r.strings r.loads r.segments) }
     ensures err { IfErr result (λ f. IsRecordsFaultOrMemory bytes.now f) }
 {
     let id_size = read_header(bytes)?;
+    let mut texts = Vec::new(alloc);
+    let mut loads = Vec::new(alloc);
     let mut spans = Vec::new(alloc);
     let mut rest = &bytes[HEADER_LEN..];
     while !rest.is_empty() {
         let at = bytes.len() - rest.len();
-        let Some(front) = read_record(rest) else {
-            return Err(ReadFault {
-                cause: Cause::Truncated,
-                offset: at as u64,
-            });
+        let front = match read_record(id_size, rest) {
+            Ok(front) => front,
+            Err(cause) => {
+                return Err(ReadFault {
+                    cause,
+                    offset: at as u64,
+                });
+            }
         };
+        note_text(&mut texts, id_size, at, front)?;
+        note_load(&mut loads, id_size, front)?;
         note_segment(&mut spans, at, front)?;
         rest = front.after;
     }
-    let segments = Segments::from_vec(spans);
-    Ok(Records { id_size, segments })
+    Ok(Records {
+        id_size,
+        strings: Texts::from_vec(texts),
+        loads: Loads::from_vec(loads),
+        segments: Segments::from_vec(spans),
+    })
 }

@@ -1,2 +1,3 @@
 pub mod FallenLemmas
 pub mod RowLemmas
+pub mod TotalLemmas

@@ -3,3 +3,4 @@ pub mod StateInside
 pub mod Fallen
 pub mod Shown
 pub mod Done
+pub mod Totals

@@ -4,5 +4,7 @@
 mod fallen;
 mod rows;
 mod state;
+mod totals;
 
 pub use state::{Done, State};
+pub use totals::{StrengthTotals, Total};

@@ -7,9 +7,13 @@ ghost use Rattle.hd_terms.specs.EditedDump.{standing};
 ghost use Rattle.hd_terms.specs.Strengths.{HasStrength};
 ghost use Rattle.hd_terms.specs.SlotRows.{slot_rows};
 ghost use Rattle.hd_state.specs.Done.{IsDone};
+ghost use Rattle.hd_terms.specs.declared.Strength.{Strength};
+ghost use Rattle.hd_terms.specs.Totals.{IsTotal};
+ghost use Rattle.hd_state.specs.Totals.{total_for};
 
 use crate::fallen::count_fallen;
 use crate::rows::rows_of;
+use crate::totals::{StrengthTotals, count_totals};
 use hd_graph::Graph;
 use hd_log::Front;
 use hd_strength::{Strengths, from_scratch};
@@ -118,6 +122,15 @@ impl State {
     {
         settled_supports_give_strengths();
         self.strengths.strength(o)
+    }
+
+    /// How many objects have each strength, and their recorded bytes. All objects are gone through.
+    pub fn strength_totals(&self) -> StrengthTotals
+        ensures { (s : Strength) → IsTotal self.now.dump self.now.log s (total_for result s).count (total_for result s).bytes }
+    {
+        settled_supports_give_strengths();
+        one_strength();
+        count_totals(&self.graph, &self.strengths)
     }
 
     /// All slots of an object, in their order, as the log leaves them.

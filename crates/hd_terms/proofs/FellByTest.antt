@@ -1,16 +1,15 @@
 -- A count of what falls, by tests that compute, for examples.
-use Rattle.std.proofs.Common.{◌≡◌, ◌∙◌, ℕ, ◌==◌, Bool, true, false, ◌&&◌, not, List, length, refl, sym, ap, subst, eq-eqb}
+use Rattle.std.proofs.Common.{◌≡◌, ℕ, ◌==◌, Bool, true, false, ◌&&◌, not, List, length, refl, ap, subst, eq-eqb}
 use Rattle.std.specs.Prelude.{count_by}
 use Rattle.std.specs.List.{range_with_len}
 use Rattle.std.proofs.lemmas.Bool.{eqb-true}
-use Rattle.hd_terms.specs.declared.Strength.{Strength}
 use Rattle.hd_terms.specs.declared.Strength.TheVariants as strengths
 use Rattle.hd_terms.specs.declared.Event.{Event}
 use Rattle.hd_terms.specs.Ranks.{rank}
 use Rattle.hd_terms.specs.Strengths.{HasStrength}
 use Rattle.hd_terms.specs.Dump.{Dump}
 use Rattle.hd_terms.specs.EditedDump.{standing}
-use Rattle.hd_terms.specs.Fell.{IsUnreachable, Falls, FellCount}
+use Rattle.hd_terms.specs.Fell.{IsUnreachable, FellCount}
 use Rattle.hd_terms.specs.Settled.{Kept, kept_at}
 use Rattle.hd_terms.proofs.RankLemmas.{same_rank}
 use Rattle.hd_terms.proofs.OneStrength.{one_strength}

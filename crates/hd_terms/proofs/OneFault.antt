@@ -1,6 +1,6 @@
 -- A file has at most one fault, and one that has a dump has none.
-use Rattle.std.proofs.Common.{◌≡◌, ◌≢◌, ◌∙◌, ℕ, ◌+◌, Bool, true, false, List, [], ◌∷◌, ◌++◌, length, slice_get, Option, Some, None, subst, sym, ap, refl, arith}
-use Rattle.std.specs.List.{flat_map, find, AllByRecursion, AllZip}
+use Rattle.std.proofs.Common.{◌≡◌, ◌≢◌, ◌∙◌, ℕ, ◌+◌, ◌<◌, Bool, true, false, List, [], ◌∷◌, ◌++◌, length, slice_get, Option, Some, None, subst, sym, ap, refl, arith}
+use Rattle.std.specs.List.{flat_map, find, AllZip}
 use Rattle.std.specs.Option.{IsNone}
 use Rattle.std.proofs.lemmas.List.{append-nil}
 use Rattle.hd_terms.specs.declared.IdSize.{IdSize}
@@ -9,20 +9,60 @@ use Rattle.hd_terms.specs.declared.Span.{Span}
 use Rattle.hd_terms.specs.declared.errors.Cause.{Cause}
 use Rattle.hd_terms.specs.declared.errors.Cause.TheVariants as causes
 use Rattle.hd_terms.specs.declared.errors.ReadFault.{ReadFault}
-use Rattle.hd_terms.specs.Records.{id_len, id_size_of, header_len, Record, IsRecord, record_text, HasHeader, AreRecords, segment_spans}
+use Rattle.hd_terms.specs.Records.{id_len, id_size_of, header_len, Record, IsFramed, least_body, IsRecord, record_text, HasHeader, AreRecords, segment_spans}
 use Rattle.hd_terms.specs.SubRecords.{SubRecord, RootUnknown, ObjectArray, Sub, sub_record_text, is_known_tag, IsSubRecord, AreSubRecords, AreDumpSubRecords, dump_subs_at}
 use Rattle.hd_terms.specs.Objects.{is_null_object, IsDumpOf}
 use Rattle.hd_terms.specs.Dump.{Dump}
-use Rattle.hd_terms.specs.ReadFaults.{fault, IsCutOff, IsRecordsFault, too_large, no_header, other_text, other_id_size, cut_off, IsStuck, unknown, short, IsSegmentFault, IsSubRecordsFault, IsReadFault, in_records, in_sub_records, in_objects}
+use Rattle.hd_terms.specs.ReadFaults.{fault, IsRecordsFault, too_large, no_header, other_text, other_id_size, in_a_record, IsStuckRecord, IsRecordFault, IsStuck, unknown, short, IsSegmentFault, IsSubRecordsFault, IsReadFault, in_records, in_sub_records, in_objects}
 use Rattle.hd_terms.proofs.Spellings.{IsEnd, same_texts, whole_has_no_end, cut_off_ends}
-use Rattle.hd_terms.proofs.OneReading.{records_apart, no_record, sub_records_apart, no_sub_record, same_records, same_size, same_bodies}
+use Rattle.hd_terms.proofs.OneReading.{framed_apart, records_apart, no_record, sub_records_apart, no_sub_record, same_file, same_size, same_bodies}
 
 -- the records
 
--- whole records aren't followed by one that is cut off
-no_cut_off : (rs front : List Record) (rest : List ℕ) (r : Record) → flat_map record_text rs ≡ flat_map record_text front ++ rest → AllByRecursion IsRecord rs → AllByRecursion IsRecord front → IsRecord r → IsCutOff rest (record_text r) → ⊥
-no_cut_off rs front rest r e hr hf is cut =
-    cut.some (whole_has_no_end Record record_text IsRecord records_apart no_record rs front rest e hr hf (cut_off_ends Record record_text IsRecord records_apart rest r is cut))
+-- a record that can be read isn't shorter than its fields
+not_short : (size : IdSize) (r s : Record) → r ≡ s → IsRecord size r → length s.body < least_body size s.tag → ⊥
+not_short size r s same is less = let fields = (subst (IsRecord size) same is).fields in omega arith
+
+-- no record that can be read begins stuck bytes
+no_record_in_stuck : (size : IdSize) (rest : List ℕ) (cause : Cause) → IsStuckRecord size rest cause → IsEnd Record record_text (IsRecord size) (records_apart size) rest
+no_record_in_stuck size rest cause (IsStuckRecord.cut s is off) = λ r z ir e. cut_off_ends Record record_text IsFramed framed_apart rest s is off r z ir.framed e
+no_record_in_stuck size rest cause (IsStuckRecord.short s after is whole less) = λ r z ir e. not_short size r s (framed_apart r s z after (sym e ∙ whole) ir.framed is).0 ir less
+
+-- no bytes aren't stuck
+some_in_stuck : (size : IdSize) (rest : List ℕ) (cause : Cause) → IsStuckRecord size rest cause → rest ≢ []
+some_in_stuck size rest cause (IsStuckRecord.cut r is off) none = off.some none
+some_in_stuck size rest cause (IsStuckRecord.short r after is whole less) none = let both : record_text r ++ after ≡ [] = sym whole ∙ none in cc
+
+-- bytes are stuck for one cause
+same_record_cause : (size : IdSize) (rest : List ℕ) (a b : Cause) → IsStuckRecord size rest a → IsStuckRecord size rest b → a ≡ b
+same_record_cause size rest a b (IsStuckRecord.cut r is off) (IsStuckRecord.cut r' is' off') = refl
+same_record_cause size rest a b (IsStuckRecord.cut r is off) (IsStuckRecord.short s after is' whole less) = absurd (cut_off_ends Record record_text IsFramed framed_apart rest r is off s after is' whole)
+same_record_cause size rest a b (IsStuckRecord.short s after is' whole less) (IsStuckRecord.cut r is off) = absurd (cut_off_ends Record record_text IsFramed framed_apart rest r is off s after is' whole)
+same_record_cause size rest a b (IsStuckRecord.short r after is whole less) (IsStuckRecord.short s after' is' whole' less') = refl
+
+-- a file of records that can be read has no fault among them
+no_record_fault : (size : IdSize) (bytes : List ℕ) (rs : List Record) (f : ReadFault) → AreRecords size bytes rs → IsRecordFault size bytes f → ⊥
+no_record_fault size bytes rs f are h =
+    some_in_stuck size h.rest f.cause h.stuck
+    (whole_has_no_end Record record_text (IsRecord size) (records_apart size) (no_record size) rs h.records h.rest
+    (sym are.whole ∙ h.whole) are.each h.each (no_record_in_stuck size h.rest f.cause h.stuck))
+
+-- faults of one cause and one place are one
+same_fault : (f g : ReadFault) → f.cause ≡ g.cause → f.offset ≡ g.offset → f ≡ g
+same_fault f g cause offset = ap (λ (c : Cause). fault c f.offset) cause ∙ ap (λ (n : ℕ). fault g.cause n) offset
+
+-- records have one fault
+same_record_fault : (size : IdSize) (bytes : List ℕ) (f g : ReadFault) → IsRecordFault size bytes f → IsRecordFault size bytes g → f ≡ g
+same_record_fault size bytes f g h k =
+    let same = same_texts Record record_text (IsRecord size) (records_apart size) h.records k.records h.rest k.rest (sym h.whole ∙ k.whole) h.each k.each
+    (no_record_in_stuck size h.rest f.cause h.stuck) (no_record_in_stuck size k.rest g.cause k.stuck) in
+    let stuck : IsStuckRecord size k.rest f.cause = subst (λ (xs : List ℕ). IsStuckRecord size xs f.cause) same.1 h.stuck in
+    same_fault f g (same_record_cause size k.rest f.cause g.cause stuck k.stuck)
+    (h.place ∙ ap (λ (rs : List Record). header_len + length (flat_map record_text rs)) same.0 ∙ sym k.place)
+
+-- a record's fault at another reading of the identifier size
+at_size : (a b : IdSize) (bytes : List ℕ) (f : ReadFault) → a ≡ b → IsRecordFault a bytes f → IsRecordFault b bytes f
+at_size a b bytes f size h = subst (λ (x : IdSize). IsRecordFault x bytes f) size h
 
 -- an identifier size is 4 or 8
 one_of_two : (size : IdSize) (n : ℕ) → n ≡ id_len size → n ≢ 4 → n ≢ 8 → ⊥
@@ -30,47 +70,41 @@ one_of_two sizes.Four n is four eight = four is
 one_of_two sizes.Eight n is four eight = eight is
 
 -- a file with a header and whole records has no fault there
-no_records_fault : (bytes : List ℕ) (size : IdSize) (rs : List Record) (f : ReadFault) → HasHeader size bytes → AreRecords bytes rs → IsRecordsFault bytes f → ⊥
+no_records_fault : (bytes : List ℕ) (size : IdSize) (rs : List Record) (f : ReadFault) → HasHeader size bytes → AreRecords size bytes rs → IsRecordsFault bytes f → ⊥
 no_records_fault bytes size rs f header whole (too_large more) = let fits = header.fits in omega arith
 no_records_fault bytes size rs f header whole (no_header less) = let long = header.long in omega arith
 no_records_fault bytes size rs f header whole (other_text fits long other) = other header.magic
 no_records_fault bytes size rs f header whole (other_id_size fits long text four eight) = one_of_two size (id_size_of bytes) header.id_size four eight
-no_records_fault bytes size rs f header whole (cut_off size' front rest r header' e each is cut) = no_cut_off rs front rest r (sym whole.whole ∙ e) whole.each each is cut
+no_records_fault bytes size rs f header whole (in_a_record size' header' h) = no_record_fault size bytes rs f whole (at_size size' size bytes f (same_size size' size bytes header' header) h)
 
--- a place where records are cut off
-one_cut : (bytes : List ℕ) (front front' : List Record) (rest rest' : List ℕ) (r r' : Record) → flat_map record_text front ++ rest ≡ flat_map record_text front' ++ rest' → AllByRecursion IsRecord front → AllByRecursion IsRecord front' → IsRecord r → IsRecord r' → IsCutOff rest (record_text r) → IsCutOff rest' (record_text r') → front ≡ front'
-one_cut bytes front front' rest rest' r r' e hf hf' is is' cut cut' =
-    (same_texts Record record_text IsRecord records_apart front front' rest rest' e hf hf'
-    (cut_off_ends Record record_text IsRecord records_apart rest r is cut) (cut_off_ends Record record_text IsRecord records_apart rest' r' is' cut')).0
-
--- records have one fault
+-- the header and the records have one fault
 same_records_fault : (bytes : List ℕ) (f g : ReadFault) → IsRecordsFault bytes f → IsRecordsFault bytes g → f ≡ g
 same_records_fault bytes f g (too_large more) (too_large more') = refl
 same_records_fault bytes f g (too_large more) (no_header less) = absurd (omega arith)
 same_records_fault bytes f g (too_large more) (other_text fits long other) = absurd (omega arith)
 same_records_fault bytes f g (too_large more) (other_id_size fits long text four eight) = absurd (omega arith)
-same_records_fault bytes f g (too_large more) (cut_off size front rest r header e each is cut) = let fits = header.fits in absurd (omega arith)
+same_records_fault bytes f g (too_large more) (in_a_record size header h) = let fits = header.fits in absurd (omega arith)
 same_records_fault bytes f g (no_header less) (too_large more) = absurd (omega arith)
 same_records_fault bytes f g (no_header less) (no_header less') = refl
 same_records_fault bytes f g (no_header less) (other_text fits long other) = absurd (omega arith)
 same_records_fault bytes f g (no_header less) (other_id_size fits long text four eight) = absurd (omega arith)
-same_records_fault bytes f g (no_header less) (cut_off size front rest r header e each is cut) = let long = header.long in absurd (omega arith)
+same_records_fault bytes f g (no_header less) (in_a_record size header h) = let long = header.long in absurd (omega arith)
 same_records_fault bytes f g (other_text fits long other) (too_large more) = absurd (omega arith)
 same_records_fault bytes f g (other_text fits long other) (no_header less) = absurd (omega arith)
 same_records_fault bytes f g (other_text fits long other) (other_text fits' long' other') = refl
 same_records_fault bytes f g (other_text fits long other) (other_id_size fits' long' text four eight) = absurd (other text)
-same_records_fault bytes f g (other_text fits long other) (cut_off size front rest r header e each is cut) = absurd (other header.magic)
+same_records_fault bytes f g (other_text fits long other) (in_a_record size header h) = absurd (other header.magic)
 same_records_fault bytes f g (other_id_size fits long text four eight) (too_large more) = absurd (omega arith)
 same_records_fault bytes f g (other_id_size fits long text four eight) (no_header less) = absurd (omega arith)
 same_records_fault bytes f g (other_id_size fits long text four eight) (other_text fits' long' other) = absurd (other text)
 same_records_fault bytes f g (other_id_size fits long text four eight) (other_id_size fits' long' text' four' eight') = refl
-same_records_fault bytes f g (other_id_size fits long text four eight) (cut_off size front rest r header e each is cut) = absurd (one_of_two size (id_size_of bytes) header.id_size four eight)
-same_records_fault bytes f g (cut_off size front rest r header e each is cut) (too_large more) = let fits = header.fits in absurd (omega arith)
-same_records_fault bytes f g (cut_off size front rest r header e each is cut) (no_header less) = let long = header.long in absurd (omega arith)
-same_records_fault bytes f g (cut_off size front rest r header e each is cut) (other_text fits long other) = absurd (other header.magic)
-same_records_fault bytes f g (cut_off size front rest r header e each is cut) (other_id_size fits long text four eight) = absurd (one_of_two size (id_size_of bytes) header.id_size four eight)
-same_records_fault bytes f g (cut_off size front rest r header e each is cut) (cut_off size' front' rest' r' header' e' each' is' cut') =
-    ap (λ (rs : List Record). fault causes.Truncated (header_len + length (flat_map record_text rs))) (one_cut bytes front front' rest rest' r r' (sym e ∙ e') each each' is is' cut cut')
+same_records_fault bytes f g (other_id_size fits long text four eight) (in_a_record size header h) = absurd (one_of_two size (id_size_of bytes) header.id_size four eight)
+same_records_fault bytes f g (in_a_record size header h) (too_large more) = let fits = header.fits in absurd (omega arith)
+same_records_fault bytes f g (in_a_record size header h) (no_header less) = let long = header.long in absurd (omega arith)
+same_records_fault bytes f g (in_a_record size header h) (other_text fits long other) = absurd (other header.magic)
+same_records_fault bytes f g (in_a_record size header h) (other_id_size fits long text four eight) = absurd (one_of_two size (id_size_of bytes) header.id_size four eight)
+same_records_fault bytes f g (in_a_record size header h) (in_a_record size' header' k) =
+    same_record_fault size' bytes f g (at_size size size' bytes f (same_size size size' bytes header header') h) k
 
 -- the sub-records
 
@@ -108,10 +142,6 @@ no_segment_fault size base body ss f are h =
     stuck_some size h.rest f.cause h.stuck
     (whole_has_no_end SubRecord sub_record_text (IsSubRecord size) (sub_records_apart size) (no_sub_record size) ss h.front h.rest
     (sym are.whole ∙ h.whole) are.each h.each (stuck_ends size h.rest f.cause h.stuck))
-
--- faults of one cause and one place are one
-same_fault : (f g : ReadFault) → f.cause ≡ g.cause → f.offset ≡ g.offset → f ≡ g
-same_fault f g cause offset = ap (λ (c : Cause). fault c f.offset) cause ∙ ap (λ (n : ℕ). fault g.cause n) offset
 
 -- a body has one fault
 same_segment_fault : (size : IdSize) (base : ℕ) (body : List ℕ) (f g : ReadFault) → IsSegmentFault size base body f → IsSegmentFault size base body g → f ≡ g
@@ -195,10 +225,10 @@ pub no_fault : (bytes : List ℕ) (dump : Dump) (f : ReadFault) → IsDumpOf byt
 no_fault bytes dump f is (in_records h) = no_records_fault bytes is.size is.records f is.reads.header is.reads.whole h
 no_fault bytes dump f is (in_sub_records size rs header whole h) =
     no_sub_records_fault is.size is.records is.segments f is.reads.bodies
-    (moved size is.size rs is.records f (same_size size is.size bytes header is.reads.header) (same_records bytes rs is.records whole is.reads.whole) h)
+    (moved size is.size rs is.records f (same_size size is.size bytes header is.reads.header) (same_file size is.size bytes rs is.records (same_size size is.size bytes header is.reads.header) whole is.reads.whole) h)
 no_fault bytes dump f is (in_objects size rs segments s header whole bodies found) =
     let same : size ≡ is.size = same_size size is.size bytes header is.reads.header in
-    let records : rs ≡ is.records = same_records bytes rs is.records whole is.reads.whole in
+    let records : rs ≡ is.records = same_file size is.size bytes rs is.records same whole is.reads.whole in
     let lists : segments ≡ is.segments = same_bodies size is.size rs is.records segments is.segments same records bodies is.reads.bodies in
     not_found (find is_null_object (dump_subs_at is.size (segment_spans header_len is.records) is.segments)) s is.reads.no_null
     (sym (null_at size is.size rs is.records segments is.segments same records lists) ∙ found)
@@ -210,14 +240,14 @@ same_read_fault bytes f g (in_records h) (in_sub_records size rs header whole k)
 same_read_fault bytes f g (in_records h) (in_objects size rs segments s header whole bodies found) = absurd (no_records_fault bytes size rs f header whole h)
 same_read_fault bytes f g (in_sub_records size rs header whole h) (in_records k) = absurd (no_records_fault bytes size rs g header whole k)
 same_read_fault bytes f g (in_sub_records size rs header whole h) (in_sub_records size' rs' header' whole' k) =
-    same_sub_records_fault size' rs' f g (moved size size' rs rs' f (same_size size size' bytes header header') (same_records bytes rs rs' whole whole') h) k
+    same_sub_records_fault size' rs' f g (moved size size' rs rs' f (same_size size size' bytes header header') (same_file size size' bytes rs rs' (same_size size size' bytes header header') whole whole') h) k
 same_read_fault bytes f g (in_sub_records size rs header whole h) (in_objects size' rs' segments s header' whole' bodies found) =
-    absurd (no_sub_records_fault size' rs' segments f bodies (moved size size' rs rs' f (same_size size size' bytes header header') (same_records bytes rs rs' whole whole') h))
+    absurd (no_sub_records_fault size' rs' segments f bodies (moved size size' rs rs' f (same_size size size' bytes header header') (same_file size size' bytes rs rs' (same_size size size' bytes header header') whole whole') h))
 same_read_fault bytes f g (in_objects size rs segments s header whole bodies found) (in_records k) = absurd (no_records_fault bytes size rs g header whole k)
 same_read_fault bytes f g (in_objects size rs segments s header whole bodies found) (in_sub_records size' rs' header' whole' k) =
-    absurd (no_sub_records_fault size rs segments g bodies (moved size' size rs' rs g (same_size size' size bytes header' header) (same_records bytes rs' rs whole' whole) k))
+    absurd (no_sub_records_fault size rs segments g bodies (moved size' size rs' rs g (same_size size' size bytes header' header) (same_file size' size bytes rs' rs (same_size size' size bytes header' header) whole' whole) k))
 same_read_fault bytes f g (in_objects size rs segments s header whole bodies found) (in_objects size' rs' segments' s' header' whole' bodies' found') =
     let same : size ≡ size' = same_size size size' bytes header header' in
-    let records : rs ≡ rs' = same_records bytes rs rs' whole whole' in
+    let records : rs ≡ rs' = same_file size size' bytes rs rs' same whole whole' in
     let lists : segments ≡ segments' = same_bodies size size' rs rs' segments segments' same records bodies bodies' in
     ap (λ (t : Sub). fault causes.NullObject t.offset) (same_found s s' (sym found ∙ null_at size size' rs rs' segments segments' same records lists ∙ found'))

@@ -4,7 +4,7 @@ use Rattle.std.specs.List.{flat_map, concat, filter, AllByRecursion, AllZip}
 use Rattle.byteorder.specs.Endian.{big_number}
 use Rattle.hd_terms.specs.declared.IdSize.{IdSize}
 use Rattle.hd_terms.specs.declared.IdSize.TheVariants as sizes
-use Rattle.hd_terms.specs.Records.{id_len, Record, IsRecord, record_text, HasHeader, AreRecords, is_segment}
+use Rattle.hd_terms.specs.Records.{id_len, Record, IsFramed, IsRecord, record_text, HasHeader, AreRecords, is_segment}
 use Rattle.hd_terms.specs.SubRecords.{SubRecord, RootUnknown, ObjectArray, sub_record_text, AreElements, IsSubRecord, AreSubRecords, AreDumpSubRecords}
 use Rattle.hd_terms.specs.Objects.{dump_of, IsDumpOf}
 use Rattle.hd_terms.specs.Dump.{Dump}
@@ -22,9 +22,9 @@ same_record r s tag time size body =
 three : (a b c x : List ℕ) → (a ++ b ++ c) ++ x ≡ a ++ (b ++ (c ++ x))
 three a b c x = simp append_assoc
 
--- no record's text begins another's
-pub records_apart : (r s : Record) (x y : List ℕ) → record_text r ++ x ≡ record_text s ++ y → IsRecord r → IsRecord s → (r ≡ s) × (x ≡ y)
-records_apart r s x y e ir is =
+-- no framed record's text begins another's
+pub framed_apart : (r s : Record) (x y : List ℕ) → record_text r ++ x ≡ record_text s ++ y → IsFramed r → IsFramed s → (r ≡ s) × (x ≡ y)
+framed_apart r s x y e ir is =
     let tag : r.tag ≡ s.tag = cc in
     let rest : (r.time ++ r.size ++ r.body) ++ x ≡ (s.time ++ s.size ++ s.body) ++ y = cc in
     let grouped : r.time ++ (r.size ++ (r.body ++ x)) ≡ s.time ++ (s.size ++ (s.body ++ y)) = sym (three r.time r.size r.body x) ∙ rest ∙ three s.time s.size s.body y in
@@ -33,9 +33,13 @@ records_apart r s x y e ir is =
     let body = same_front r.body s.body x y (ir.body ∙ ap (big_number 4) size.0 ∙ sym is.body) size.1 in
     (same_record r s tag time.0 size.0 body.0, body.1)
 
+-- nor does the text of one that can be read
+pub records_apart : (size : IdSize) (r s : Record) (x y : List ℕ) → record_text r ++ x ≡ record_text s ++ y → IsRecord size r → IsRecord size s → (r ≡ s) × (x ≡ y)
+records_apart size r s x y e ir is = framed_apart r s x y e ir.framed is.framed
+
 -- no record has an empty text
-pub no_record : IsEnd Record record_text IsRecord records_apart []
-no_record r z ir e = cc
+pub no_record : (size : IdSize) → IsEnd Record record_text (IsRecord size) (records_apart size) []
+no_record size r z ir e = cc
 
 -- the elements of two arrays of one length are one
 same_elements : (n : ℕ) (es fs : List (List ℕ)) (x y : List ℕ) → length es ≡ length fs → AllByRecursion (λ (e : List ℕ). length e ≡ n) es → AllByRecursion (λ (e : List ℕ). length e ≡ n) fs → concat es ++ x ≡ concat fs ++ y → (es ≡ fs) × (x ≡ y)
@@ -96,8 +100,12 @@ no_sub_record size (RootUnknown id) z is e = cc
 no_sub_record size (ObjectArray id serial count class elements) z is e = cc
 
 -- a file has one list of records
-pub same_records : (bytes : List ℕ) (rs ss : List Record) → AreRecords bytes rs → AreRecords bytes ss → rs ≡ ss
-same_records bytes rs ss hr hs = same_whole Record record_text IsRecord records_apart no_record rs ss (sym hr.whole ∙ hs.whole) hr.each hs.each
+pub same_records : (size : IdSize) (bytes : List ℕ) (rs ss : List Record) → AreRecords size bytes rs → AreRecords size bytes ss → rs ≡ ss
+same_records size bytes rs ss hr hs = same_whole Record record_text (IsRecord size) (records_apart size) (no_record size) rs ss (sym hr.whole ∙ hs.whole) hr.each hs.each
+
+-- also where its identifier size was read twice
+pub same_file : (a b : IdSize) (bytes : List ℕ) (rs ss : List Record) → a ≡ b → AreRecords a bytes rs → AreRecords b bytes ss → rs ≡ ss
+same_file a b bytes rs ss size hr hs = same_records b bytes rs ss (subst (λ (x : IdSize). AreRecords x bytes rs) size hr) hs
 
 -- a body has one list of sub-records
 pub same_sub_records : (size : IdSize) (body : List ℕ) (ss ts : List SubRecord) → AreSubRecords size body ss → AreSubRecords size body ts → ss ≡ ts
@@ -137,9 +145,10 @@ same_bodies a b rs ss us vs size records hu hv =
 pub same_dump : (bytes : List ℕ) (a b : Dump) → IsDumpOf bytes a → IsDumpOf bytes b → a ≡ b
 same_dump bytes a b ha hb =
     let size : ha.size ≡ hb.size = same_size ha.size hb.size bytes ha.reads.header hb.reads.header in
-    let records : ha.records ≡ hb.records = same_records bytes ha.records hb.records ha.reads.whole hb.reads.whole in
+    let records : ha.records ≡ hb.records = same_file ha.size hb.size bytes ha.records hb.records size ha.reads.whole hb.reads.whole in
     let segments : ha.segments ≡ hb.segments = same_bodies ha.size hb.size ha.records hb.records ha.segments hb.segments size records ha.reads.bodies hb.reads.bodies in
     ha.is
-    ∙ ap (λ (x : IdSize). dump_of x (flat_map (λ (ss : List SubRecord). ss) ha.segments)) size
-    ∙ ap (λ (xs : List (List SubRecord)). dump_of hb.size (flat_map (λ (ss : List SubRecord). ss) xs)) segments
+    ∙ ap (λ (x : IdSize). dump_of x ha.records (flat_map (λ (ss : List SubRecord). ss) ha.segments)) size
+    ∙ ap (λ (rs : List Record). dump_of hb.size rs (flat_map (λ (ss : List SubRecord). ss) ha.segments)) records
+    ∙ ap (λ (xs : List (List SubRecord)). dump_of hb.size hb.records (flat_map (λ (ss : List SubRecord). ss) xs)) segments
     ∙ sym hb.is

@@ -27,10 +27,19 @@ pub record Root : Type 0 where
   pub kind : RootKind
   pub id : ℕ
 
--- objects in file order, the first of each ID, and roots in file order
+-- how many object sub-records, UTF8 records and LOAD CLASS records have the ID of an earlier one
+pub record Repeated : Type 0 where
+  pub objects : ℕ
+  pub strings : ℕ
+  pub loads : ℕ
+
+-- objects in file order, the first of each ID, and roots in file order; what was repeated, and how many instances have
+-- a class chain that isn't whole
 pub record Dump : Type 0 where
   pub objects : List Object
   pub roots : List Root
+  pub repeated : Repeated
+  pub opaque : ℕ
 
 -- what stands past the last object
 abbrev pub no_object : Object

@@ -15,7 +15,7 @@ use Rattle.hd_terms.specs.declared.What.TheVariants as whats
 use Rattle.hd_terms.specs.declared.SlotMode.{SlotMode}
 use Rattle.hd_terms.specs.declared.SlotRow.{SlotRow}
 use Rattle.hd_terms.specs.Paths.{Edge, RootEntry}
-use Rattle.hd_terms.specs.Dump.{SlotEntry, Object, Root, Dump}
+use Rattle.hd_terms.specs.Dump.{SlotEntry, Object, Root, Repeated, Dump}
 
 -- files
 
@@ -81,6 +81,26 @@ repeated_id_file =
 abbrev pub two_mistakes_file : List ℕ
 two_mistakes_file = head_of 4 ++ segment_head 1 ++ 0x09 ∷ 0x00 ∷ 0x00 ∷ 0x00 ∷ []
 
+-- a UTF8 record of one byte of text
+abbrev pub text_record : ℕ → ℕ → List ℕ
+text_record id byte = 0x01 ∷ four 0 ++ four 5 ++ four id ++ byte ∷ []
+
+-- a LOAD CLASS record
+abbrev pub load_record : ℕ → ℕ → List ℕ
+load_record class name = 0x02 ∷ four 0 ++ four 16 ++ four 1 ++ four class ++ four 0 ++ four name
+
+-- two texts of one ID, and a class that is loaded twice
+abbrev pub repeated_strings_and_loads_file : List ℕ
+repeated_strings_and_loads_file = head_of 4 ++ text_record 0xc1 0x41 ++ text_record 0xc1 0x42 ++ load_record 0x11 0xc1 ++ load_record 0x11 0xc1
+
+-- a UTF8 record of three bytes, fewer than an ID has
+abbrev pub short_record_file : List ℕ
+short_record_file = head_of 4 ++ 0x01 ∷ four 0 ++ four 3 ++ 0x00 ∷ 0x00 ∷ 0x00 ∷ []
+
+-- that record, and behind it a byte of a record that is cut off
+abbrev pub short_and_cut_file : List ℕ
+short_and_cut_file = short_record_file ++ 0x01 ∷ []
+
 -- dumps
 
 -- a slot of kind strong
@@ -130,9 +150,17 @@ root id = record { kind = roots.Unknown; id = id }
 abbrev pub refs : List Object
 refs = class_object 0x11 0 ∷ class_object 0x12 0x11 ∷ class_object 0x13 0x11 ∷ class_object 0x14 0x11 ∷ class_object 0x15 0x11 ∷ class_object 0x16 0x14 ∷ []
 
+-- nothing repeated
+abbrev pub none_repeated : Repeated
+none_repeated = record { objects = 0; strings = 0; loads = 0 }
+
 -- nothing
 abbrev pub empty_dump : Dump
-empty_dump = record { objects = []; roots = [] }
+empty_dump = record { objects = []; roots = []; repeated = none_repeated; opaque = 0 }
+
+-- nothing, but a text and a load are repeated
+abbrev pub repeated_strings_and_loads : Dump
+repeated_strings_and_loads = record { objects = []; roots = []; repeated = record { objects = 0; strings = 1; loads = 1 }; opaque = 0 }
 
 -- root 1  [1: 2 0 9]  [2:]
 abbrev pub two_arrays : Dump
@@ -148,17 +176,21 @@ two_arrays = record {
       ∷ (record { id = 2; group = groups.Class 0; bytes = 0; slots = strong slots.OfClass 0 ∷ []; referent = None })
       ∷ [];
   roots = (record { kind = roots.Unknown; id = 1 }) ∷ [];
+  repeated = none_repeated;
+  opaque = 0;
 }
 
 -- [1: 2]  [2:]
 abbrev pub repeated_id : Dump
-repeated_id = record { objects = array 1 (2 ∷ []) ∷ array 2 [] ∷ []; roots = [] }
+repeated_id = record { objects = array 1 (2 ∷ []) ∷ array 2 [] ∷ []; roots = []; repeated = record { objects = 1; strings = 0; loads = 0 }; opaque = 0 }
 
 -- refs  root 1  [1: 21 31]  (21 of 13: weak 5)  (31 of 16: final 5)  [5:]
 abbrev pub weak_and_final_referents : Dump
 weak_and_final_referents = record {
   objects = refs ++ array 1 (0x21 ∷ 0x31 ∷ []) ∷ reference 0x21 0x13 kinds.Weak 5 ∷ reference 0x31 0x16 kinds.Final 5 ∷ array 5 [] ∷ [];
   roots = root 1 ∷ [];
+  repeated = none_repeated;
+  opaque = 0;
 }
 
 -- refs  root 1  [1: 21 23]  (21 of 12: soft 22)  (22 of 13: weak 3)  [3: 4]  (23 of 12: soft 5)  [5: 4]  [4:]
@@ -168,6 +200,8 @@ soft_then_weak = record {
       refs ++ array 1 (0x21 ∷ 0x23 ∷ []) ∷ reference 0x21 0x12 kinds.Soft 0x22 ∷ reference 0x22 0x13 kinds.Weak 3 ∷ array 3 (4 ∷ [])
       ∷ reference 0x23 0x12 kinds.Soft 5 ∷ array 5 (4 ∷ []) ∷ array 4 [] ∷ [];
   roots = root 1 ∷ [];
+  repeated = none_repeated;
+  opaque = 0;
 }
 
 -- root 1  [1: 2]  [2: 3]  [3: 2 4]  [4: 5]  [5: 4]
@@ -175,6 +209,8 @@ abbrev pub cycle_behind_one_edge : Dump
 cycle_behind_one_edge = record {
   objects = array 1 (2 ∷ []) ∷ array 2 (3 ∷ []) ∷ array 3 (2 ∷ 4 ∷ []) ∷ array 4 (5 ∷ []) ∷ array 5 (4 ∷ []) ∷ [];
   roots = root 1 ∷ [];
+  repeated = none_repeated;
+  opaque = 0;
 }
 
 -- refs  root 1  [1: 21]  (21 of 15: phantom 6)  [6: 7]  [7:]  (22 of 15: phantom 22)
@@ -184,11 +220,13 @@ phantom_referent = record {
       refs ++ array 1 (0x21 ∷ []) ∷ reference 0x21 0x15 kinds.Phantom 6 ∷ array 6 (7 ∷ []) ∷ array 7 []
       ∷ reference 0x22 0x15 kinds.Phantom 0x22 ∷ [];
   roots = root 1 ∷ [];
+  repeated = none_repeated;
+  opaque = 0;
 }
 
 -- root 1  root 2  [1:]  [2:]  [7:]
 abbrev pub added_and_dropped_roots : Dump
-added_and_dropped_roots = record { objects = array 1 [] ∷ array 2 [] ∷ array 7 [] ∷ []; roots = root 1 ∷ root 2 ∷ [] }
+added_and_dropped_roots = record { objects = array 1 [] ∷ array 2 [] ∷ array 7 [] ∷ []; roots = root 1 ∷ root 2 ∷ []; repeated = none_repeated; opaque = 0 }
 
 -- logs
 

@@ -20,4 +20,7 @@ pub mod Lines
 pub mod Asking
 pub mod Replies
 pub mod Sessions
+pub mod Counts
+pub mod Totals
+pub mod Stat
 pub mod Examples

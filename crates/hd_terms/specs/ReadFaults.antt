@@ -7,7 +7,7 @@ use Rattle.hd_terms.specs.declared.Span.{Span}
 use Rattle.hd_terms.specs.declared.errors.Cause.{Cause}
 use Rattle.hd_terms.specs.declared.errors.Cause.TheVariants as causes
 use Rattle.hd_terms.specs.declared.errors.ReadFault.{ReadFault}
-use Rattle.hd_terms.specs.Records.{id_size_of, largest_file, header_len, magic, Record, IsRecord, record_text, HasHeader, AreRecords, is_segment, segment_spans}
+use Rattle.hd_terms.specs.Records.{id_size_of, largest_file, header_len, magic, Record, IsFramed, least_body, IsRecord, record_text, HasHeader, AreRecords, is_segment, segment_spans}
 use Rattle.hd_terms.specs.SubRecords.{SubRecord, Sub, IsSubRecord, sub_record_text, is_known_tag, AreSubRecords, AreDumpSubRecords, dump_subs_at}
 use Rattle.hd_terms.specs.Objects.{is_null_object}
 
@@ -22,6 +22,22 @@ pub record IsCutOff (rest text : List ℕ) : Type 0 where
   pub lacks : missing ≢ []
   pub whole : rest ++ missing ≡ text
 
+-- why no record can be read from the front of what is left of a file
+pub data IsStuckRecord (size : IdSize) (rest : List ℕ) : Cause → Type 0 where
+  -- it runs past the end
+  cut : (r : Record) → IsFramed r → IsCutOff rest (record_text r) → IsStuckRecord size rest causes.Truncated
+  -- it is whole, but its body is shorter than its fields
+  short : (r : Record) (after : List ℕ) → IsFramed r → rest ≡ record_text r ++ after → length r.body < least_body size r.tag → IsStuckRecord size rest causes.ShortRecord
+
+-- the fault of a file's records: records that can be read, and then bytes from which none can be read
+pub record IsRecordFault (size : IdSize) (bytes : List ℕ) (f : ReadFault) : Type 0 where
+  pub records : List Record
+  pub rest : List ℕ
+  pub whole : drop header_len bytes ≡ flat_map record_text records ++ rest
+  pub each : AllByRecursion (IsRecord size) records
+  pub stuck : IsStuckRecord size rest f.cause
+  pub place : f.offset ≡ header_len + length (flat_map record_text records)
+
 -- faults of the header and the records, in the order in which they are looked for
 pub data IsRecordsFault (bytes : List ℕ) : ReadFault → Type 0 where
   too_large : largest_file < length bytes → IsRecordsFault bytes (fault causes.TooLarge 0)
@@ -29,10 +45,7 @@ pub data IsRecordsFault (bytes : List ℕ) : ReadFault → Type 0 where
   other_text : length bytes ≤ largest_file → header_len ≤ length bytes → take 19 bytes ≢ magic → IsRecordsFault bytes (fault causes.BadMagic 0)
   other_id_size : length bytes ≤ largest_file → header_len ≤ length bytes → take 19 bytes ≡ magic → id_size_of bytes ≢ 4 → id_size_of bytes ≢ 8
       → IsRecordsFault bytes (fault causes.BadIdSize 19)
-  -- whole records, and then one that runs past the end
-  cut_off : (size : IdSize) (records : List Record) (rest : List ℕ) (r : Record) → HasHeader size bytes
-      → drop header_len bytes ≡ flat_map record_text records ++ rest → AllByRecursion IsRecord records → IsRecord r → IsCutOff rest (record_text r)
-      → IsRecordsFault bytes (fault causes.Truncated (header_len + length (flat_map record_text records)))
+  in_a_record : {f : ReadFault} (size : IdSize) → HasHeader size bytes → IsRecordFault size bytes f → IsRecordsFault bytes f
 
 -- why no sub-record can be read from the front of what is left of a body
 pub data IsStuck (size : IdSize) (rest : List ℕ) : Cause → Type 0 where
@@ -63,10 +76,10 @@ pub record IsSubRecordsFault (size : IdSize) (records : List Record) (f : ReadFa
 -- the fault of a file
 pub data IsReadFault (bytes : List ℕ) : ReadFault → Type 0 where
   in_records : {f : ReadFault} → IsRecordsFault bytes f → IsReadFault bytes f
-  in_sub_records : {f : ReadFault} (size : IdSize) (records : List Record) → HasHeader size bytes → AreRecords bytes records
+  in_sub_records : {f : ReadFault} (size : IdSize) (records : List Record) → HasHeader size bytes → AreRecords size bytes records
       → IsSubRecordsFault size records f → IsReadFault bytes f
   -- the first object with ID 0
   in_objects : (size : IdSize) (records : List Record) (segments : List (List SubRecord)) (s : Sub)
-      → HasHeader size bytes → AreRecords bytes records → AreDumpSubRecords size records segments
+      → HasHeader size bytes → AreRecords size bytes records → AreDumpSubRecords size records segments
       → find is_null_object (dump_subs_at size (segment_spans header_len records) segments) ≡ Some s
       → IsReadFault bytes (fault causes.NullObject s.offset)

@@ -1,12 +1,14 @@
 -- Records of a file: the header of 31 bytes, and then one record after another.
 -- Source: HPROF binary format, JAVA PROFILE 1.0.2. The header is the zero-terminated text, u4 identifier size, u4 and u4
 -- of time; a record is u1 tag, u4 time, u4 length of the body, the body. Numbers have their highest byte first.
-use Rattle.std.specs.Prelude.{◌≡◌, ℕ, ◌+◌, ◌≤◌, Bool, ◌||◌, ◌==◌, if◌then◌else◌, List, [], ◌∷◌, ◌++◌, length, take, drop, codes}
-use Rattle.std.specs.List.{flat_map, AllByRecursion}
+use Rattle.std.specs.Prelude.{◌≡◌, ℕ, ◌+◌, ◌-◌, ◌*◌, ◌≤◌, Bool, ◌||◌, ◌==◌, if◌then◌else◌, List, [], ◌∷◌, ◌++◌, length, take, drop, codes, Option, Some, None}
+use Rattle.std.specs.List.{flat_map, filter_map, AllByRecursion}
 use Rattle.byteorder.specs.Endian.{big_number}
 use Rattle.hd_terms.specs.declared.IdSize.{IdSize}
 use Rattle.hd_terms.specs.declared.IdSize.TheVariants as sizes
 use Rattle.hd_terms.specs.declared.Span.{Span}
+use Rattle.hd_terms.specs.declared.Text.{Text}
+use Rattle.hd_terms.specs.declared.Load.{Load}
 
 -- the bytes of an identifier
 abbrev pub id_len : IdSize → ℕ
@@ -37,10 +39,20 @@ pub record Record : Type 0 where
   pub body : List ℕ
 
 -- the time and the size have four bytes each, and the size reads as the length of the body
-pub record IsRecord (r : Record) : Type 0 where
+pub record IsFramed (r : Record) : Type 0 where
   pub time : length r.time ≡ 4
   pub size : length r.size ≡ 4
   pub body : length r.body ≡ big_number 4 r.size
+
+-- the least bytes of a body, by the record's tag: UTF8 begins with an ID; LOAD CLASS has u4 class serial, the ID of the
+-- class object, u4 stack trace serial, the ID of the name
+abbrev pub least_body : IdSize → ℕ → ℕ
+least_body size tag = if tag == 0x01 then id_len size else if tag == 0x02 then 8 + 2 * id_len size else 0
+
+-- a record that can be read: it is framed, and its body has its fields
+pub record IsRecord (size : IdSize) (r : Record) : Type 0 where
+  pub framed : IsFramed r
+  pub fields : least_body size r.tag ≤ length r.body
 
 -- how a record is spelled
 abbrev pub record_text : Record → List ℕ
@@ -54,9 +66,9 @@ pub record HasHeader (size : IdSize) (bytes : List ℕ) : Type 0 where
   pub id_size : id_size_of bytes ≡ id_len size
 
 -- the records of a file: what follows the header is their spellings, joined
-pub record AreRecords (bytes : List ℕ) (records : List Record) : Type 0 where
+pub record AreRecords (size : IdSize) (bytes : List ℕ) (records : List Record) : Type 0 where
   pub whole : drop header_len bytes ≡ flat_map record_text records
-  pub each : AllByRecursion IsRecord records
+  pub each : AllByRecursion (IsRecord size) records
 
 -- HEAP DUMP and HEAP DUMP SEGMENT have sub-records as their bodies
 abbrev pub is_segment : Record → Bool
@@ -68,3 +80,32 @@ segment_spans at [] = []
 segment_spans at (r ∷ rs) =
     if is_segment r then (record { start = at + 9; len = length r.body }) ∷ segment_spans (at + 9 + length r.body) rs
     else segment_spans (at + 9 + length r.body) rs
+
+-- records that begin at a place of the file, each with its own
+abbrev pub placed : ℕ → List Record → List (ℕ × Record)
+placed at [] = []
+placed at (r ∷ rs) = (at, r) ∷ placed (at + 9 + length r.body) rs
+
+-- the text of a UTF8 record: its ID, and the place of what follows the ID
+abbrev pub text_of : IdSize → ℕ × Record → Option Text
+text_of size (at, r) =
+    if r.tag == 0x01 then Some (record {
+      id = big_number (id_len size) r.body;
+      text = record { start = at + 9 + id_len size; len = length r.body - id_len size };
+    }) else None
+
+-- the texts of a file, in file order
+abbrev pub texts : IdSize → List Record → List Text
+texts size records = filter_map (text_of size) (placed header_len records)
+
+-- what a LOAD CLASS record says: the IDs of the class object and of its name
+abbrev pub load_of : IdSize → Record → Option Load
+load_of size r =
+    if r.tag == 0x02 then Some (record {
+      class = big_number (id_len size) (drop 4 r.body);
+      name = big_number (id_len size) (drop (8 + id_len size) r.body);
+    }) else None
+
+-- the loaded classes of a file, in file order
+abbrev pub loads : IdSize → List Record → List Load
+loads size records = filter_map (load_of size) records

@@ -17,6 +17,7 @@ ghost use Rattle.hd_terms.specs.declared.What.TheVariants as whats;
 ghost use Rattle.hd_terms.specs.declared.errors.LogFault.TheVariants as faults;
 ghost use Rattle.hd_terms.specs.declared.errors.Refusal.TheVariants as refusals;
 ghost use Rattle.hd_terms.specs.Dump.{object_at};
+ghost use Rattle.hd_terms.specs.Counts.{counts_of};
 ghost use Rattle.hd_terms.specs.SlotRows.{slot_rows};
 ghost use Rattle.hd_terms.specs.Fell.{FellCount};
 ghost use Rattle.hd_terms.specs.Asking.{asked};
@@ -39,6 +40,10 @@ pub fn file_examples()
     ensures repeated_id { IsDumpOf examples.repeated_id_file examples.repeated_id }
     ensures prefixes_of_the_header { (n : ℕ) → n ≤ 30 → IsReadFault (take n examples.two_arrays_file) (fault causes.Truncated 0) }
     ensures prefixes_of_the_record { (n : ℕ) → 32 ≤ n → n ≤ 90 → IsReadFault (take n examples.two_arrays_file) (fault causes.Truncated 31) }
+    ensures repeated_strings_and_loads { IsDumpOf examples.repeated_strings_and_loads_file examples.repeated_strings_and_loads }
+    ensures short_record { IsReadFault examples.short_record_file (fault causes.ShortRecord 31) }
+    ensures short_and_cut { IsReadFault examples.short_and_cut_file (fault causes.ShortRecord 31) }
+    ensures counts { counts_of examples.two_arrays ≡ record { objects = 2; roots = 1; edges = 1; unresolved = 1; repeated_objects = 0; repeated_strings = 0; repeated_loads = 0; opaque = 0 } }
     ensures two_mistakes { IsReadFault examples.two_mistakes_file (fault causes.Truncated 41) }
 {}
 

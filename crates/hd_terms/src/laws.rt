@@ -28,7 +28,7 @@ pub fn settled_supports_give_strengths()
 /// A file reads as one list of records, a body as one list of sub-records. So a file has one dump or one fault at most,
 /// and never both.
 pub fn one_reading()
-    ensures records { (bytes : List ℕ) (rs ss : List Record) → AreRecords bytes rs → AreRecords bytes ss → rs ≡ ss }
+    ensures records { (size : IdSize) (bytes : List ℕ) (rs ss : List Record) → AreRecords size bytes rs → AreRecords size bytes ss → rs ≡ ss }
     ensures sub_records { (size : IdSize) (body : List ℕ) (ss ts : List SubRecord) → AreSubRecords size body ss → AreSubRecords size body ts → ss ≡ ts }
     ensures dumps { (bytes : List ℕ) (a b : Dump) → IsDumpOf bytes a → IsDumpOf bytes b → a ≡ b }
     ensures no_fault { (bytes : List ℕ) (dump : Dump) (f : ReadFault) → IsDumpOf bytes dump → IsReadFault bytes f → ⊥ }

@@ -222,3 +222,39 @@ pub struct Span {
     pub start: u64,
     pub len: u64,
 }
+
+/// A text of the file, as a UTF8 record has it.
+#[derive(Clone, Copy, Debug, PartialEq, Eq)]
+pub struct Text {
+    pub id: u64,
+    /// Where its bytes stand in the file. There may be none.
+    pub text: Span,
+}
+
+/// A class that was loaded, as a LOAD CLASS record has it.
+#[derive(Clone, Copy, Debug, PartialEq, Eq)]
+pub struct Load {
+    /// The ID of the class object.
+    pub class: u64,
+    /// The ID of the text that is its name.
+    pub name: u64,
+}
+
+/// How many of what a dump has.
+#[derive(Clone, Copy, Debug, PartialEq, Eq)]
+pub struct Counts {
+    pub objects: u64,
+    pub roots: u64,
+    /// References from objects to objects.
+    pub edges: u64,
+    /// Slots whose ID is no object's.
+    pub unresolved: u64,
+    /// Object sub-records with the ID of an earlier one.
+    pub repeated_objects: u64,
+    /// UTF8 records with the ID of an earlier one.
+    pub repeated_strings: u64,
+    /// LOAD CLASS records with the class of an earlier one.
+    pub repeated_loads: u64,
+    /// Instances whose class chain isn't whole.
+    pub opaque: u64,
+}

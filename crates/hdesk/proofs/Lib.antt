@@ -7,3 +7,4 @@ pub mod Serving
 pub mod Cutting
 pub mod RowTexts
 pub mod Answering
+pub mod Stating

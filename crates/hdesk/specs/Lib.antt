@@ -4,3 +4,5 @@ pub mod Editing
 pub mod Answering
 pub mod Serving
 pub mod Running
+pub mod Tasks
+pub mod Stating

@@ -15,6 +15,13 @@ use Rattle.hdesk.specs.Serving.{Serves}
 abbrev pub ServesDump : (bytes : List ℕ) → (input rest before after : Option (List ℕ)) → Result (Unit {0}) ServeFault → Type 0
 ServesDump bytes input rest before after result = (dump : Dump) × IsDumpOf bytes dump × Serves dump input rest before after result
 
+-- why a dump isn't open: it has this fault, or memory ran out
+abbrev pub IsOpenFault : (bytes : List ℕ) → RunFault → Type 0
+IsOpenFault bytes (faults.Dump f) = (f ≡ fault OutOfMemory 0) ⊎ IsReadFault bytes f
+IsOpenFault bytes faults.Memory = Unit {0}
+IsOpenFault bytes (faults.Serve f) = ⊥
+IsOpenFault bytes faults.Close = ⊥
+
 -- how a run ends: lines were served to their end; or the dump has this fault, or memory ran out, and nothing was read
 -- or written; or serving ended early. A board that can't be closed isn't met
 abbrev pub RunsDump : (bytes : List ℕ) → (input rest before after : Option (List ℕ)) → Result (Unit {0}) RunFault → Type 0

@@ -1,9 +1,13 @@
 //! The workbench: a dump is opened, and an analyst's lines are read, run over it, and answered.
 #![tactic(auto)]
 
+mod arguments;
 mod command;
 mod edit;
+mod file;
 mod program;
+#[cfg(test)]
+mod program_tests;
 mod reply;
 mod room;
 mod run;
@@ -12,11 +16,12 @@ mod serve;
 #[cfg(test)]
 mod session_tests;
 mod slots;
+mod stat;
 #[cfg(test)]
 mod tests;
 
 use std::env;
-use std::io::{self, BufReader};
+use std::io::{self, BufReader, BufWriter};
 use std::process::ExitCode;
 
 /// Binds the program to the words, the standard streams and the memory of the process.
@@ -25,7 +30,7 @@ fn start(rt: &HostRuntime) -> io::Result<u8> {
     let _name = words.next();
     let words: Vec<String> = words.collect(rt.alloc())?;
     let mut input = BufReader::new(rt.alloc(), rt.reader())?;
-    let mut output = io::writer(rt);
+    let mut output = BufWriter::new(rt.alloc(), io::writer(rt))?;
     let mut faults = rt.stderr();
     let status = program::program(rt, words.as_slice(), &mut input, &mut output, &mut faults);
     Ok(status)
@@ -35,7 +40,7 @@ fn start(rt: &HostRuntime) -> io::Result<u8> {
 fn not_started(rt: &HostRuntime, kind: io::ErrorKind) -> u8 {
     match kind {
         io::ErrorKind::InvalidData => {
-            let _ = rt.eprintln("usage: hdesk");
+            let _ = rt.eprintln("hdesk: a word is not UTF-8");
             program::USAGE
         }
         _ => {

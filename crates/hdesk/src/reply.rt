@@ -63,7 +63,7 @@ fn put_strength(out: &mut Room<LONGEST_REPLY>, state: &State, id: u64)
     ensures { RepliesStrength state.now.dump state.now.log (index_of state.now.dump.objects id) out.new }
 {
     match state.graph().index_of(id) {
-        Some(object) => put_line(out, strength_text(state.strength(object))),
+        Some(object) => put_line(out, strength_text(state.strength(object)).as_bytes()),
         None => put_refused(out, refusal_text(Refusal::NoSuchObject)),
     }
 }
@@ -165,17 +165,17 @@ fn put_refused(out: &mut Room<LONGEST_REPLY>, name: &[u8])
 }
 
 /// A strength as it is printed.
-fn strength_text(strength: Strength) -> &'static [u8]
+pub fn strength_text(strength: Strength) -> &'static str
     ensures name { result.now ≡ strength_name strength }
     ensures short { length result.now ≤ 16 }
 {
     match strength {
-        Strength::Unreachable => b"UNREACHABLE",
-        Strength::Phantom => b"PHANTOM",
-        Strength::Final => b"FINAL",
-        Strength::Weak => b"WEAK",
-        Strength::Soft => b"SOFT",
-        Strength::Strong => b"STRONG",
+        Strength::Unreachable => "UNREACHABLE",
+        Strength::Phantom => "PHANTOM",
+        Strength::Final => "FINAL",
+        Strength::Weak => "WEAK",
+        Strength::Soft => "SOFT",
+        Strength::Strong => "STRONG",
     }
 }
 

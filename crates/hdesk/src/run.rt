@@ -1,6 +1,7 @@
 //! A run: a dump's bytes are opened, and lines are served over it.
-ghost use Rattle.std.specs.Prelude.{◌≡◌, ◌≤◌};
-ghost use Rattle.hdesk.specs.Running.{RunsDump};
+ghost use Rattle.std.specs.Prelude.{◌≡◌, ◌≤◌, [], IfOk, IfErr};
+ghost use Rattle.hd_terms.specs.Objects.{IsDumpOf};
+ghost use Rattle.hdesk.specs.Running.{RunsDump, IsOpenFault};
 
 use crate::serve::{ServeFault, serve};
 use hd_graph::open_plain;
@@ -68,6 +69,21 @@ impl From<ServeFault> for RunFault {
     }
 }
 
+/// Opens the bytes of a dump: its state with no edit.
+///
+/// `workers` is the number of threads that decode, 1 to 16; it isn't used yet.
+pub fn open_bytes<T: AllocGlobal>(rt: &T, bytes: &[u8], workers: u32) -> Result<State, RunFault>
+    requires few { workers ≤ 16 }
+    requires some { 1 ≤ workers }
+    ensures ok { IfOk result (λ state. IsDumpOf bytes.now state.dump × (state.log ≡ [])) }
+    ensures err { IfErr result (λ f. IsOpenFault bytes.now f) }
+{
+    let graph = open_plain(rt.alloc(), bytes)?;
+    let graph = Arc::new(rt.alloc(), graph)?;
+    let state = State::open(rt.alloc(), graph)?;
+    Ok(state)
+}
+
 /// Opens the bytes of a dump and serves one analyst's lines over it.
 ///
 /// `workers` is the number of threads that decode, 1 to 16; it isn't used yet.
@@ -82,9 +98,7 @@ pub fn run_bytes<T: AllocGlobal, R: BufRead, W: Write>(
     requires some { 1 ≤ workers }
     ensures { RunsDump bytes.now (R.remaining input.old) (R.remaining input.new) (W.contents output.old) (W.contents output.new) result }
 {
-    let graph = open_plain(rt.alloc(), bytes)?;
-    let graph = Arc::new(rt.alloc(), graph)?;
-    let state = State::open(rt.alloc(), graph)?;
+    let state = open_bytes(rt, bytes, workers)?;
     serve(rt.alloc(), input, output, state)?;
     Ok(())
 }

@@ -56,7 +56,7 @@ const CHUNK: usize = 65_536;
 const MOST_REFILLS: u32 = 16_777_216;
 
 /// Writes a whole text.
-fn put_all<W: Write>(writer: &mut W, text: &[u8]) -> Result<(), ServeFault>
+pub fn put_all<W: Write>(writer: &mut W, text: &[u8]) -> Result<(), ServeFault>
     ensures ok { OnOk result (Appends (W.contents writer.old) (W.contents writer.new) text.now) }
     ensures err { OnErr result ((k : ℕ) × Appends (W.contents writer.old) (W.contents writer.new) (take k text.now)) }
     ensures write { IfErr result (λ e. e ≡ ServeFault.Write) }
@@ -73,7 +73,7 @@ fn put_all<W: Write>(writer: &mut W, text: &[u8]) -> Result<(), ServeFault>
 }
 
 /// Hands on what was written.
-fn flush<W: Write>(writer: &mut W) -> Result<(), ServeFault>
+pub fn flush<W: Write>(writer: &mut W) -> Result<(), ServeFault>
     ensures bytes { Keeps (W.contents writer.old) (W.contents writer.new) }
     ensures write { IfErr result (λ e. e ≡ ServeFault.Write) }
 {

@@ -1,5 +1,5 @@
 //! Runs over dumps that are written out by hand, with the answers that the formats demand.
-use crate::program::{BAD_DUMP, DONE, FAILED, USAGE, program};
+use crate::program::{BAD_DUMP, DONE, FAILED, program};
 use crate::run::{RunFault, run_bytes};
 use crate::sample::SAMPLE;
 use crate::serve::ServeFault;
@@ -375,7 +375,7 @@ fn writer_that_holds(rt: HostRuntime) {
 }
 
 #[test]
-fn whole_program(rt: HostRuntime) -> Result<(), Fail> {
+fn whole_program(rt: HostRuntime) {
     let mut input: &[u8] = b"strength 0x2\nquit\n";
     let mut output = Vec::new(rt.alloc());
     let mut faults = Vec::new(rt.alloc());
@@ -385,14 +385,6 @@ fn whole_program(rt: HostRuntime) -> Result<(), Fail> {
     );
     assert_eq!(rt; output.as_slice(), b"ok 1\nSTRONG\nok 0\n".as_slice());
     assert_eq!(rt; faults.len(), 0);
-    let words = vec![in rt.alloc(); String::from_str(rt.alloc(), "stat")?]?;
-    assert_eq!(rt;
-        program(&rt, words.as_slice(), &mut input, &mut output, &mut faults),
-        USAGE
-    );
-    assert_eq!(rt; output.as_slice(), b"ok 1\nSTRONG\nok 0\n".as_slice());
-    assert_eq!(rt; faults.as_slice(), b"usage: hdesk\n".as_slice());
-    Ok(())
 }
 
 #[test]

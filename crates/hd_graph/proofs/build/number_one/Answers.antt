@@ -9,14 +9,13 @@ use Rattle.hd_graph.proofs.build.number_one.Goals as goal
 
 pub returns-in_ok-push-in-Root-clause-ok : goal.returns-in_ok-push-in-Root-clause-ok
 returns-in_ok-push-in-Root-clause-ok c = λ front h.
-    rw (c.in-Root.is, c.in_ok-push-in-Root.ensures.items) (root-push front c.args.ids.now.keys c.args.roots.now.items h c.args.sub.offset (record { kind = c.in-Root.kind; id = c.in-Root.id }))
+    rw (c.in-Root.is, c.in_ok-push-in-Root.ensures.items) (root-push front c.args.ids.now.keys c.args.roots.now.items c.args.repeated.now h c.args.sub.offset (record { kind = c.in-Root.kind; id = c.in-Root.id }))
 
-pub returns-in_ok-insert-in-ObjArray-clause-ok : goal.returns-in_ok-insert-in-ObjArray-clause-ok
-returns-in_ok-insert-in-ObjArray-clause-ok c = λ front h.
+pub returns-in_ok-note_id-in-ObjArray-clause-ok : goal.returns-in_ok-note_id-in-ObjArray-clause-ok
+returns-in_ok-note_id-in-ObjArray-clause-ok c = λ front h.
     let s : Sub = sub_view c.args.sub in
-    rw c.in_ok-insert-in-ObjArray.ensures.keys
-    (array-push front c.args.ids.now.keys c.args.roots.now.items h s c.in-ObjArray.id
+    array-push front c.args.ids.now.keys c.args.roots.now.items c.args.repeated.now h s c.in-ObjArray.id _ _ c.in_ok-note_id-in-ObjArray.ensures
     (ap (λ i. array_id_of_item (item_view i)) c.in-ObjArray.is)
     (ap (λ i. is_null_item (item_view i)) c.in-ObjArray.is ∙ ne_eqb c.in-ObjArray.id 0 c.if-id-eq0.false)
     (ap (λ i. cons_option (root_of_item (item_view i)) []) c.in-ObjArray.is)
-    (omega arith))
+    (omega arith)

@@ -1,15 +1,11 @@
-use Rattle.std.proofs.Common.{◌+◌, sym, arith}
-use Rattle.std.proofs.lemmas.List.{take_rest}
-use Rattle.hd_records.proofs.Fronts.{begins, cut_off}
+use Rattle.hd_terms.specs.ReadFaults.{IsStuckRecord}
+use Rattle.hd_records.proofs.Steps.{is_short}
 use Rattle.hd_records.proofs.records.read_record.Goals as goal
 
-pub returns-then-rest-lt-HEAD_LEN : goal.returns-then-rest-lt-HEAD_LEN
-returns-then-rest-lt-HEAD_LEN c = cut_off c.args.rest.now c.requires (omega arith)
+pub returns-in_default-clause-err : goal.returns-in_default-clause-err
+returns-in_default-clause-err c = IsStuckRecord.cut c.in_default.ensures.r c.in_default.ensures.framed c.in_default.ensures.cut
 
-pub returns-then-rest-len : goal.returns-then-rest-len
-returns-then-rest-len c = cut_off c.args.rest.now c.requires (omega arith)
-
-pub returns : goal.returns
-returns c =
-    rw (take_rest c.args.rest.now (9 + c.number_at-body_len.result))
-    (begins c.args.rest.now c.number_at-body_len.result (sym c.number_at-body_len.ensures) c.if-rest-len.false)
+pub returns-then-front-least_body-clause-err : goal.returns-then-front-least_body-clause-err
+returns-then-front-least_body-clause-err c =
+    is_short c.args.id_size c.args.rest.now c.in-Some.front.tag c.in-Some.front.body.now c.in-Some.front.after.now c.in-Some.ensures
+    (rw (← c.least_body.ensures) c.if-front-least_body.true)

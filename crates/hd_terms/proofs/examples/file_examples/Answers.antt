@@ -3,9 +3,9 @@ use Rattle.std.proofs.lemmas.List.{length-take, length-drop, length-append, take
 use Rattle.std.specs.List.{flat_map}
 use Rattle.hd_terms.specs.declared.IdSize.TheVariants as sizes
 use Rattle.hd_terms.specs.declared.errors.Cause.TheVariants as causes
-use Rattle.hd_terms.specs.Records.{Record, IsRecord, record_text}
+use Rattle.hd_terms.specs.Records.{Record, IsFramed, IsRecord, record_text}
 use Rattle.hd_terms.specs.SubRecords.{SubRecord, RootUnknown, ObjectArray, ObjArray, sub_record_text}
-use Rattle.hd_terms.specs.ReadFaults.{IsReadFault, fault, no_header, other_text, other_id_size, cut_off, unknown, short, in_records, in_sub_records, in_objects}
+use Rattle.hd_terms.specs.ReadFaults.{IsReadFault, fault, no_header, other_text, other_id_size, in_a_record, IsStuckRecord, IsStuck, in_records, in_sub_records, in_objects}
 use Rattle.hd_terms.specs.Examples.{head_of, four}
 use Rattle.hd_terms.specs.Examples as examples
 use Rattle.hd_terms.proofs.examples.file_examples.Goals as goal
@@ -56,7 +56,7 @@ returns-clause-two_arrays c = record {
   segments = two_arrays_subs ∷ [];
   reads = record {
     header = record { fits = lit≤ tt; long = lit≤ tt; magic = refl; id_size = refl };
-    whole = record { whole = refl; each = (record { time = refl; size = refl; body = refl }, tt) };
+    whole = record { whole = refl; each = (record { framed = record { time = refl; size = refl; body = refl }; fields = lit≤ tt }, tt) };
     bodies = (
       record {
         whole = refl;
@@ -78,7 +78,7 @@ returns-clause-null_object c =
     ((ObjectArray (four 0) (four 0) (four 0) (four 0) [] ∷ []) ∷ [])
     (record { offset = 40; item = ObjArray 0 0 (record { start = 57; len = 0 }) })
     (record { fits = lit≤ tt; long = lit≤ tt; magic = refl; id_size = refl })
-    (record { whole = refl; each = (record { time = refl; size = refl; body = refl }, tt) })
+    (record { whole = refl; each = (record { framed = record { time = refl; size = refl; body = refl }; fields = lit≤ tt }, tt) })
     (record { whole = refl; each = ((refl, refl, refl, refl, record { many = refl; each = tt }), tt) }, tt)
     refl
 
@@ -86,7 +86,7 @@ pub returns-clause-unknown_sub_record : goal.returns-clause-unknown_sub_record
 returns-clause-unknown_sub_record c =
     in_sub_records sizes.Four (segment 1 (9 ∷ []) ∷ [])
     (record { fits = lit≤ tt; long = lit≤ tt; magic = refl; id_size = refl })
-    (record { whole = refl; each = (record { time = refl; size = refl; body = refl }, tt) })
+    (record { whole = refl; each = (record { framed = record { time = refl; size = refl; body = refl }; fields = lit≤ tt }, tt) })
     (record {
       whole = [];
       r = segment 1 (9 ∷ []);
@@ -96,21 +96,27 @@ returns-clause-unknown_sub_record c =
       first = refl;
       before = tt;
       at = refl;
-      faulty = record { front = []; rest = 9 ∷ []; whole = refl; each = tt; stuck = unknown 9 [] refl refl; place = refl };
+      faulty = record { front = []; rest = 9 ∷ []; whole = refl; each = tt; stuck = IsStuck.unknown 9 [] refl refl; place = refl };
     })
 
 pub returns-clause-cut_record : goal.returns-clause-cut_record
 returns-clause-cut_record c =
-    in_records (cut_off sizes.Four [] (four 0 ++ four 0) zeros
+    in_records (in_a_record sizes.Four
     (record { fits = lit≤ tt; long = lit≤ tt; magic = refl; id_size = refl })
-    refl tt (record { time = refl; size = refl; body = refl })
-    (record { some = some _ _; missing = 0 ∷ []; lacks = some _ _; whole = refl }))
+    (record {
+      records = [];
+      rest = four 0 ++ four 0;
+      whole = refl;
+      each = tt;
+      stuck = IsStuckRecord.cut zeros (record { time = refl; size = refl; body = refl }) (record { some = some _ _; missing = 0 ∷ []; lacks = some _ _; whole = refl });
+      place = refl;
+    }))
 
 pub returns-clause-short_sub_record : goal.returns-clause-short_sub_record
 returns-clause-short_sub_record c =
     in_sub_records sizes.Four (segment 4 (0xff ∷ 0 ∷ 0 ∷ 0 ∷ []) ∷ [])
     (record { fits = lit≤ tt; long = lit≤ tt; magic = refl; id_size = refl })
-    (record { whole = refl; each = (record { time = refl; size = refl; body = refl }, tt) })
+    (record { whole = refl; each = (record { framed = record { time = refl; size = refl; body = refl }; fields = lit≤ tt }, tt) })
     (record {
       whole = [];
       r = segment 4 (0xff ∷ 0 ∷ 0 ∷ 0 ∷ []);
@@ -125,7 +131,7 @@ returns-clause-short_sub_record c =
         rest = 0xff ∷ 0 ∷ 0 ∷ 0 ∷ [];
         whole = refl;
         each = tt;
-        stuck = short (RootUnknown (four 0)) refl (record { some = some _ _; missing = 0 ∷ []; lacks = some _ _; whole = refl });
+        stuck = IsStuck.short (RootUnknown (four 0)) refl (record { some = some _ _; missing = 0 ∷ []; lacks = some _ _; whole = refl });
         place = refl;
       };
     })
@@ -135,20 +141,95 @@ returns-clause-bad_identifier_size c = in_records (other_id_size (lit≤ tt) (li
 
 pub returns-clause-two_mistakes : goal.returns-clause-two_mistakes
 returns-clause-two_mistakes c =
-    in_records (cut_off sizes.Four (segment 1 (9 ∷ []) ∷ []) (0 ∷ 0 ∷ 0 ∷ []) zeros
+    in_records (in_a_record sizes.Four
     (record { fits = lit≤ tt; long = lit≤ tt; magic = refl; id_size = refl })
-    refl (record { time = refl; size = refl; body = refl }, tt) (record { time = refl; size = refl; body = refl })
-    (record { some = some _ _; missing = 0 ∷ 0 ∷ four 0; lacks = some _ _; whole = refl }))
+    (record {
+      records = segment 1 (9 ∷ []) ∷ [];
+      rest = 0 ∷ 0 ∷ 0 ∷ [];
+      whole = refl;
+      each = (record { framed = record { time = refl; size = refl; body = refl }; fields = lit≤ tt }, tt);
+      stuck = IsStuckRecord.cut zeros (record { time = refl; size = refl; body = refl }) (record { some = some _ _; missing = 0 ∷ 0 ∷ four 0; lacks = some _ _; whole = refl });
+      place = refl;
+    }))
 
 pub returns-clause-other_text : goal.returns-clause-other_text
 returns-clause-other_text c = in_records (other_text (lit≤ tt) (lit≤ tt) (λ e. (let differ : ◌≡◌ {A = ℕ} 51 50 = ap (λ (xs : List ℕ). get_or xs 17 0) e in omega arith)))
 
 pub returns-clause-cut_body : goal.returns-clause-cut_body
 returns-clause-cut_body c =
-    in_records (cut_off sizes.Four [] (0x1c ∷ four 0 ++ four 5 ++ 0xff ∷ 0 ∷ 0 ∷ 0 ∷ []) (segment 5 (0xff ∷ four 0))
+    in_records (in_a_record sizes.Four
     (record { fits = lit≤ tt; long = lit≤ tt; magic = refl; id_size = refl })
-    refl tt (record { time = refl; size = refl; body = refl })
-    (record { some = some _ _; missing = 0 ∷ []; lacks = some _ _; whole = refl }))
+    (record {
+      records = [];
+      rest = 0x1c ∷ four 0 ++ four 5 ++ 0xff ∷ 0 ∷ 0 ∷ 0 ∷ [];
+      whole = refl;
+      each = tt;
+      stuck = IsStuckRecord.cut (segment 5 (0xff ∷ four 0)) (record { time = refl; size = refl; body = refl }) (record { some = some _ _; missing = 0 ∷ []; lacks = some _ _; whole = refl });
+      place = refl;
+    }))
+
+-- a record of three bytes with the tag of a text
+abbrev short_text : Record
+short_text = record { tag = 1; time = four 0; size = four 3; body = 0 ∷ 0 ∷ 0 ∷ [] }
+
+pub returns-clause-short_record : goal.returns-clause-short_record
+returns-clause-short_record c =
+    in_records (in_a_record sizes.Four
+    (record { fits = lit≤ tt; long = lit≤ tt; magic = refl; id_size = refl })
+    (record {
+      records = [];
+      rest = record_text short_text;
+      whole = refl;
+      each = tt;
+      stuck = IsStuckRecord.short short_text [] (record { time = refl; size = refl; body = refl }) refl (lit≤ tt);
+      place = refl;
+    }))
+
+pub returns-clause-short_and_cut : goal.returns-clause-short_and_cut
+returns-clause-short_and_cut c =
+    in_records (in_a_record sizes.Four
+    (record { fits = lit≤ tt; long = lit≤ tt; magic = refl; id_size = refl })
+    (record {
+      records = [];
+      rest = record_text short_text ++ 1 ∷ [];
+      whole = refl;
+      each = tt;
+      stuck = IsStuckRecord.short short_text (1 ∷ []) (record { time = refl; size = refl; body = refl }) refl (lit≤ tt);
+      place = refl;
+    }))
+
+-- a text of one byte
+abbrev text : ℕ → Record
+text byte = record { tag = 1; time = four 0; size = four 5; body = four 0xc1 ++ byte ∷ [] }
+
+-- a class that is loaded
+abbrev load : Record
+load = record { tag = 2; time = four 0; size = four 16; body = four 1 ++ four 0x11 ++ four 0 ++ four 0xc1 }
+
+-- texts of five bytes can be read
+text_is : (byte : ℕ) → IsRecord sizes.Four (text byte)
+text_is byte = record { framed = record { time = refl; size = refl; body = refl }; fields = lit≤ tt }
+
+-- and so can the class
+load_is : IsRecord sizes.Four load
+load_is = record { framed = record { time = refl; size = refl; body = refl }; fields = lit≤ tt }
+
+pub returns-clause-repeated_strings_and_loads : goal.returns-clause-repeated_strings_and_loads
+returns-clause-repeated_strings_and_loads c = record {
+  size = sizes.Four;
+  records = text 0x41 ∷ text 0x42 ∷ load ∷ load ∷ [];
+  segments = [];
+  reads = record {
+    header = record { fits = lit≤ tt; long = lit≤ tt; magic = refl; id_size = refl };
+    whole = record { whole = refl; each = (text_is 0x41, (text_is 0x42, (load_is, (load_is, tt)))) };
+    bodies = tt;
+    no_null = refl;
+  };
+  is = refl;
+}
+
+pub returns-clause-counts : goal.returns-clause-counts
+returns-clause-counts c = refl
 
 pub returns-clause-skipped_record : goal.returns-clause-skipped_record
 returns-clause-skipped_record c = record {
@@ -157,7 +238,7 @@ returns-clause-skipped_record c = record {
   segments = two_arrays_subs ∷ [];
   reads = record {
     header = record { fits = lit≤ tt; long = lit≤ tt; magic = refl; id_size = refl };
-    whole = record { whole = refl; each = (record { time = refl; size = refl; body = refl }, (record { time = refl; size = refl; body = refl }, tt)) };
+    whole = record { whole = refl; each = (record { framed = record { time = refl; size = refl; body = refl }; fields = lit≤ tt }, (record { framed = record { time = refl; size = refl; body = refl }; fields = lit≤ tt }, tt)) };
     bodies = (
       record {
         whole = refl;
@@ -186,7 +267,7 @@ returns-clause-repeated_id c = record {
   segments = repeated_id_subs ∷ [];
   reads = record {
     header = record { fits = lit≤ tt; long = lit≤ tt; magic = refl; id_size = refl };
-    whole = record { whole = refl; each = (record { time = refl; size = refl; body = refl }, tt) };
+    whole = record { whole = refl; each = (record { framed = record { time = refl; size = refl; body = refl }; fields = lit≤ tt }, tt) };
     bodies = (
       record {
         whole = refl;
@@ -213,13 +294,20 @@ pub returns-clause-prefixes_of_the_header : goal.returns-clause-prefixes_of_the_
 returns-clause-prefixes_of_the_header c n le = in_records (no_header (simp length-take (omega arith)))
 
 -- what a header and the front of one record are read as
-front_of_a_record : (m : ℕ) (text missing : List ℕ) (r : Record) → length (take (m + 1) text) ≡ m + 1 → m ≤ 100 → IsRecord r → take (m + 1) text ++ missing ≡ record_text r → missing ≢ []
+front_of_a_record : (m : ℕ) (text missing : List ℕ) (r : Record) → length (take (m + 1) text) ≡ m + 1 → m ≤ 100 → IsFramed r → take (m + 1) text ++ missing ≡ record_text r → missing ≢ []
     → IsReadFault (head_of 4 ++ take (m + 1) text) (fault causes.Truncated 31)
 front_of_a_record m text missing r long le is whole lacks =
     let size : length (head_of 4 ++ take (m + 1) text) ≡ 31 + (m + 1) = length-append (head_of 4) (take (m + 1) text) ∙ ap (λ (k : ℕ). 31 + k) long in
-    in_records (cut_off sizes.Four [] (take (m + 1) text) r
+    in_records (in_a_record sizes.Four
     (record { fits = omega arith; long = omega arith; magic = refl; id_size = refl })
-    refl tt is (record { some = λ e. (let none : m + 1 ≡ 0 = sym long ∙ ap length e in omega arith); missing = missing; lacks = lacks; whole = whole }))
+    (record {
+      records = [];
+      rest = take (m + 1) text;
+      whole = refl;
+      each = tt;
+      stuck = IsStuckRecord.cut r is (record { some = λ e. (let none : m + 1 ≡ 0 = sym long ∙ ap length e in omega arith); missing = missing; lacks = lacks; whole = whole });
+      place = refl;
+    }))
 
 pub returns-clause-prefixes_of_the_record : goal.returns-clause-prefixes_of_the_record
 returns-clause-prefixes_of_the_record c n low high =

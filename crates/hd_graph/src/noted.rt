@@ -1,0 +1,49 @@
+//! Noting IDs one after another, and counting those that were noted before.
+ghost use Rattle.std.specs.Prelude.{◌≡◌, ◌+◌, ◌<◌, ◌^◌, IfOk, OnOk};
+ghost use Rattle.hd_terms.specs.declared.Load.{Load};
+ghost use Rattle.hd_terms.specs.declared.Text.{Text};
+ghost use Rattle.hd_terms.specs.Objects.{repeats};
+ghost use Rattle.hd_graph.specs.Noted.{NotesId};
+
+use hd_records::{Loads, Texts};
+use indexmap::IndexSet;
+use std::alloc::{AllocError, Global};
+
+/// Notes an ID, and counts it if it was noted before.
+pub(crate) fn note_id(
+    ids: &mut IndexSet<u64>,
+    repeated: &mut u64,
+    id: u64,
+) -> Result<(), AllocError>
+    requires { repeated.old + 1 < 2 ^ 64 }
+    ensures { OnOk result (NotesId id ids.old.keys repeated.old ids.new.keys repeated.new) }
+{
+    if !ids.insert(id)? {
+        *repeated += 1;
+    }
+    Ok(())
+}
+
+/// How many texts have the ID of an earlier one.
+pub(crate) fn repeated_strings(alloc: Global, strings: &Texts) -> Result<u64, AllocError>
+    ensures { IfOk result (λ n. n ≡ repeats (λ (t : Text). t.id) strings.now) }
+{
+    let mut ids = IndexSet::with_capacity(alloc, strings.len())?;
+    let mut repeated = 0;
+    for text in strings.as_slice() {
+        note_id(&mut ids, &mut repeated, text.id)?;
+    }
+    Ok(repeated)
+}
+
+/// How many loaded classes were loaded before, by the IDs of their class objects.
+pub(crate) fn repeated_loads(alloc: Global, loads: &Loads) -> Result<u64, AllocError>
+    ensures { IfOk result (λ n. n ≡ repeats (λ (l : Load). l.class) loads.now) }
+{
+    let mut ids = IndexSet::with_capacity(alloc, loads.len())?;
+    let mut repeated = 0;
+    for load in loads.as_slice() {
+        note_id(&mut ids, &mut repeated, load.class)?;
+    }
+    Ok(repeated)
+}

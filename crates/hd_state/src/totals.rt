@@ -1,0 +1,104 @@
+//! How many objects have each strength, and how many bytes.
+ghost use Rattle.std.specs.Prelude.{◌≡◌, ◌+◌, ◌<◌, ◌≤◌, ◌^◌, length};
+ghost use Rattle.hd_terms.specs.declared.Strength.{Strength};
+ghost use Rattle.hd_state.specs.Totals.{AreCounted, with_object, total_for};
+
+use hd_graph::Graph;
+use hd_strength::Strengths;
+use hd_terms::Strength;
+
+/// How many objects, and their recorded bytes.
+#[derive(Clone, Copy, Debug, PartialEq, Eq)]
+pub struct Total {
+    pub count: u64,
+    pub bytes: u64,
+}
+
+/// The total of each strength.
+#[derive(Clone, Copy, Debug, PartialEq, Eq)]
+pub struct StrengthTotals {
+    pub strong: Total,
+    pub soft: Total,
+    pub weak: Total,
+    pub finalizable: Total,
+    pub phantom: Total,
+    pub unreachable: Total,
+}
+
+/// No object.
+const NONE: Total = Total { count: 0, bytes: 0 };
+
+impl Total {
+    ghost use Rattle.hd_state.specs.Totals.{plus_object};
+
+    /// The total with one more object of so many bytes.
+    fn plus(self, bytes: u64) -> Total
+        requires count { self.count + 1 < 2 ^ 64 }
+        requires bytes { self.bytes + bytes < 2 ^ 64 }
+        ensures { result ≡ plus_object self bytes }
+    {
+        Total {
+            count: self.count + 1,
+            bytes: self.bytes + bytes,
+        }
+    }
+}
+
+impl StrengthTotals {
+    /// No object of any strength.
+    fn none() -> StrengthTotals
+        ensures { (s : Strength) → total_for result s ≡ record { count = 0; bytes = 0 } }
+    {
+        StrengthTotals {
+            strong: NONE,
+            soft: NONE,
+            weak: NONE,
+            finalizable: NONE,
+            phantom: NONE,
+            unreachable: NONE,
+        }
+    }
+
+    /// The total of a strength.
+    pub fn of(&self, strength: Strength) -> Total
+        ensures { result ≡ total_for self.now strength }
+    {
+        match strength {
+            Strength::Strong => self.strong,
+            Strength::Soft => self.soft,
+            Strength::Weak => self.weak,
+            Strength::Final => self.finalizable,
+            Strength::Phantom => self.phantom,
+            Strength::Unreachable => self.unreachable,
+        }
+    }
+
+    /// Adds an object of a strength and of so many bytes.
+    fn add(&mut self, strength: Strength, bytes: u64)
+        requires count { (total_for self.old strength).count + 1 < 2 ^ 64 }
+        requires bytes { (total_for self.old strength).bytes + bytes < 2 ^ 64 }
+        ensures { self.new ≡ with_object self.old strength bytes }
+    {
+        let total = self.of(strength).plus(bytes);
+        match strength {
+            Strength::Strong => self.strong = total,
+            Strength::Soft => self.soft = total,
+            Strength::Weak => self.weak = total,
+            Strength::Final => self.finalizable = total,
+            Strength::Phantom => self.phantom = total,
+            Strength::Unreachable => self.unreachable = total,
+        }
+    }
+}
+
+/// The totals of all objects, in one pass.
+pub(crate) fn count_totals(graph: &Graph, strengths: &Strengths) -> StrengthTotals
+    requires { length strengths.now ≡ length graph.now.objects }
+    ensures { AreCounted graph.now strengths.now (length graph.now.objects) result }
+{
+    let mut totals = StrengthTotals::none();
+    for o in 0..graph.objects() {
+        totals.add(strengths.strength(o), graph.bytes_of(o));
+    }
+    totals
+}

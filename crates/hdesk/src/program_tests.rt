@@ -1,0 +1,208 @@
+//! The whole program over words and files, with its exit statuses and texts.
+use crate::program::{BAD_DUMP, DONE, FAILED, USAGE, program};
+use crate::run::RunFault;
+use crate::sample::SAMPLE;
+use crate::serve::ServeFault;
+use crate::stat::stat_bytes;
+use std::alloc::{AllocError, Global};
+use std::fs;
+use std::io::{self, Write};
+use std::test::Fail;
+
+/// What `stat` prints of the sample.
+const SAMPLE_STAT: &str = "objects 2\nroots 1\nedges 1\nunresolved 1\nrepeated 0 0 0\nopaque 0\n\
+    STRONG 2 12\nSOFT 0 0\nWEAK 0 0\nFINAL 0 0\nPHANTOM 0 0\nUNREACHABLE 0 0\n";
+
+/// The words as the program takes them.
+fn owned(alloc: Global, words: &[&str]) -> Result<Vec<String>, AllocError> {
+    let mut list = Vec::new(alloc);
+    for word in words {
+        list.push(String::from_str(alloc, word)?)?;
+    }
+    Ok(list)
+}
+
+/// Whether the program ends so over these words and lines: its status, what it writes, and what it tells.
+fn ends(
+    rt: &HostRuntime,
+    words: &[&str],
+    status: u8,
+    written: &[u8],
+    told: &[u8],
+) -> Result<bool, AllocError> {
+    let words = owned(rt.alloc(), words)?;
+    let mut input: &[u8] = b"strength 0x2\nquit\n";
+    let mut output = Vec::new(rt.alloc());
+    let mut faults = Vec::new(rt.alloc());
+    let ended = program(rt, words.as_slice(), &mut input, &mut output, &mut faults);
+    Ok(ended == status && output.as_slice() == written && faults.as_slice() == told)
+}
+
+/// What the program tells of words that it doesn't take; nothing where it takes them, or writes.
+fn usage_of(rt: &HostRuntime, words: &[&str]) -> Result<Vec<u8>, AllocError> {
+    let words = owned(rt.alloc(), words)?;
+    let mut input: &[u8] = b"quit\n";
+    let mut output = Vec::new(rt.alloc());
+    let mut faults = Vec::new(rt.alloc());
+    let ended = program(rt, words.as_slice(), &mut input, &mut output, &mut faults);
+    if ended != USAGE || !output.is_empty() || input.len() != 5 {
+        faults.clear();
+    }
+    Ok(faults)
+}
+
+#[test]
+fn usage_faults(rt: HostRuntime) -> Result<(), Fail> {
+    let rows: [&[&str]; 9] = [
+        &["--help"],
+        &["nothing"],
+        &["run"],
+        &["stat"],
+        &["stat", "x", "y"],
+        &["stat", "x", "--workers", "0"],
+        &["run", "x", "--workers", "17"],
+        &["run", "x", "--workers", "four"],
+        &["run", "x", "--worker", "4"],
+    ];
+    for words in rows {
+        assert!(rt; !usage_of(&rt, words)?.is_empty());
+    }
+    let help = usage_of(&rt, &["--help"])?;
+    assert!(rt; help.as_slice().starts_with(b"A verified workbench"));
+    Ok(())
+}
+
+#[test]
+fn unreadable_files(rt: HostRuntime) -> Result<(), Fail> {
+    assert!(rt;
+        ends(
+            &rt,
+            &["stat", "/no/such/file"],
+            FAILED,
+            b"",
+            b"hdesk: cannot read /no/such/file\n"
+        )?
+    );
+    assert!(rt;
+        ends(
+            &rt,
+            &["run", "/no/such/file"],
+            FAILED,
+            b"",
+            b"hdesk: cannot read /no/such/file\n"
+        )?
+    );
+    assert!(rt; ends(&rt, &["run", "/"], FAILED, b"", b"hdesk: cannot read /\n")?);
+    assert!(rt;
+        ends(
+            &rt,
+            &["stat", "/dev/null"],
+            FAILED,
+            b"",
+            b"hdesk: cannot read /dev/null\n"
+        )?
+    );
+    Ok(())
+}
+
+/// Writes a file of these bytes, and checks how `run` and `stat` end over it.
+fn over(
+    rt: &HostRuntime,
+    path: &str,
+    bytes: &[u8],
+    run: (u8, &[u8], &[u8]),
+    stat: (u8, &[u8], &[u8]),
+) -> io::Result<bool> {
+    fs::write(rt, path, bytes)?;
+    let ran = ends(rt, &["run", path, "--workers", "16"], run.0, run.1, run.2)?;
+    let told = ends(rt, &["stat", path], stat.0, stat.1, stat.2)?;
+    fs::remove_file(rt, path)?;
+    Ok(ran && told)
+}
+
+#[test]
+fn programs_over_files(rt: HostRuntime) -> io::Result<()> {
+    let path = "/tmp/hdesk-program-test.hprof";
+    let run: (u8, &[u8], &[u8]) = (DONE, b"ok 1\nSTRONG\nok 0\n", b"");
+    let stat: (u8, &[u8], &[u8]) = (DONE, SAMPLE_STAT.as_bytes(), b"");
+    assert!(rt; over(&rt, path, &SAMPLE, run, stat)?);
+    let cut: (u8, &[u8], &[u8]) = (BAD_DUMP, b"", b"hdesk: Truncated at 0\n");
+    assert!(rt; over(&rt, path, &SAMPLE[..30], cut, cut)?);
+    assert!(rt; over(&rt, path, b"", cut, cut)?);
+    let cut: (u8, &[u8], &[u8]) = (BAD_DUMP, b"", b"hdesk: Truncated at 31\n");
+    assert!(rt; over(&rt, path, &SAMPLE[..90], cut, cut)?);
+    Ok(())
+}
+
+#[test]
+fn file_too_large(rt: HostRuntime) -> io::Result<()> {
+    let path = "/tmp/hdesk-too-large-test.hprof";
+    let file = fs::create(&rt, path)?;
+    file.set_len(2_147_483_648)?;
+    drop(file);
+    let large: &[u8] = b"hdesk: TooLarge at 0\n";
+    assert!(rt; ends(&rt, &["stat", path], BAD_DUMP, b"", large)?);
+    assert!(rt; ends(&rt, &["run", path], BAD_DUMP, b"", large)?);
+    fs::remove_file(&rt, path)?;
+    Ok(())
+}
+
+/// Whether `stat` over these bytes writes this.
+fn stats(rt: &HostRuntime, bytes: &[u8], expected: &str) -> bool {
+    let mut written = Vec::new(rt.alloc());
+    let ended = stat_bytes(rt, bytes, 1, &mut written);
+    ended.is_ok() && written.as_slice() == expected.as_bytes()
+}
+
+#[test]
+fn stat_of_dumps(rt: HostRuntime) -> Result<(), Fail> {
+    let nothing = "objects 0\nroots 0\nedges 0\nunresolved 0\nrepeated 0 0 0\nopaque 0\n\
+        STRONG 0 0\nSOFT 0 0\nWEAK 0 0\nFINAL 0 0\nPHANTOM 0 0\nUNREACHABLE 0 0\n";
+    assert!(rt; stats(&rt, &SAMPLE[..31], nothing));
+    assert!(rt; stats(&rt, &SAMPLE, SAMPLE_STAT));
+    let texts_and_loads = [
+        0x01, 0, 0, 0, 0, 0, 0, 0, 5, 0, 0, 1, 1, 0x41, 0x01, 0, 0, 0, 0, 0, 0, 0, 5, 0, 0, 1, 1,
+        0x42, 0x02, 0, 0, 0, 0, 0, 0, 0, 16, 0, 0, 0, 1, 0, 0, 0, 0x11, 0, 0, 0, 0, 0, 0, 1, 1,
+        0x02, 0, 0, 0, 0, 0, 0, 0, 16, 0, 0, 0, 1, 0, 0, 0, 0x11, 0, 0, 0, 0, 0, 0, 1, 1,
+    ];
+    let mut file = Vec::from_slice(rt.alloc(), &SAMPLE[..31])?;
+    file.extend_from_slice(&texts_and_loads)?;
+    let repeated = "objects 0\nroots 0\nedges 0\nunresolved 0\nrepeated 0 1 1\nopaque 0\n\
+        STRONG 0 0\nSOFT 0 0\nWEAK 0 0\nFINAL 0 0\nPHANTOM 0 0\nUNREACHABLE 0 0\n";
+    assert!(rt; stats(&rt, file.as_slice(), repeated));
+    Ok(())
+}
+
+/// A writer that takes so many bytes and then fails.
+#[derive(Drop)]
+struct Narrow {
+    taken: Vec<u8>,
+    room: usize,
+}
+
+impl Write for Narrow {
+    fn write(&mut self, buf: &[u8]) -> io::Result<usize> {
+        let count = buf.len().min(self.room);
+        if count == 0 {
+            return Err(io::Error::from(io::ErrorKind::Other));
+        }
+        self.taken.extend_from_slice(&buf[..count])?;
+        self.room -= count;
+        Ok(count)
+    }
+
+    fn flush(&mut self) -> io::Result<()> {
+        Ok(())
+    }
+}
+
+#[test]
+fn stat_that_cannot_write(rt: HostRuntime) {
+    let mut output = Narrow {
+        taken: Vec::new(rt.alloc()),
+        room: 14,
+    };
+    let ended = stat_bytes(&rt, &SAMPLE, 1, &mut output);
+    assert_eq!(rt; ended, Err(RunFault::Serve(ServeFault::Write)));
+    assert_eq!(rt; output.taken.as_slice(), b"objects 2\nroot".as_slice());
+}
