@@ -11,3 +11,4 @@ pub mod Bodies
 pub mod Noted
 pub mod Building
 pub mod Counting
+pub mod IdHash

@@ -9,6 +9,7 @@ ghost use Rattle.hd_subs.specs.Reading.{AppendsSegment, IsSegmentFaultOrMemory};
 ghost use Rattle.hd_subs.specs.Views.{sub_view, item_view};
 
 use crate::graph::{Graph, Repeats, RootRow};
+use crate::id_hasher::IdHasher;
 use crate::noted::{note_id, repeated_loads, repeated_strings};
 use crate::references::References;
 use hd_records::{Segments, read_records};
@@ -20,7 +21,7 @@ use std::alloc::{AllocError, Global};
 /// The numbers of the objects, and the roots.
 #[derive(Drop)]
 struct Numbered {
-    ids: IndexSet<u64>,
+    ids: IndexSet<u64, IdHasher>,
     roots: Vec<RootRow>,
     /// How many sub-records of objects have the ID of an earlier one.
     repeated: u64,
@@ -57,7 +58,7 @@ fn read_bodies(
 
 /// Numbers an array, if its ID is new, or counts it as repeated, or keeps a root. An array with ID 0 is a fault.
 fn number_one(
-    ids: &mut IndexSet<u64>,
+    ids: &mut IndexSet<u64, IdHasher>,
     roots: &mut Vec<RootRow>,
     repeated: &mut u64,
     sub: Sub,
@@ -87,7 +88,7 @@ fn number(alloc: Global, list: &Subs) -> Result<Numbered, ReadFault>
     ensures ok { IfOk result (λ n. IsNumbered list.now n.ids.keys n.roots.items n.repeated) }
     ensures err { IfErr result (λ f. IsNullFaultOrMemory list.now f) }
 {
-    let mut ids = IndexSet::with_capacity(alloc, list.len())?;
+    let mut ids = IndexSet::with_capacity_and_hasher(alloc, list.len(), IdHasher::new())?;
     let mut roots = Vec::new(alloc);
     let mut repeated = 0;
     for i in 0..list.len() {

@@ -4,6 +4,7 @@
 mod build;
 mod counts;
 mod graph;
+mod id_hasher;
 mod noted;
 mod references;
 

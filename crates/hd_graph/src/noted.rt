@@ -5,13 +5,14 @@ ghost use Rattle.hd_terms.specs.declared.Text.{Text};
 ghost use Rattle.hd_terms.specs.Objects.{repeats};
 ghost use Rattle.hd_graph.specs.Noted.{NotesId};
 
+use crate::id_hasher::IdHasher;
 use hd_records::{Loads, Texts};
 use indexmap::IndexSet;
 use std::alloc::{AllocError, Global};
 
 /// Notes an ID, and counts it if it was noted before.
 pub(crate) fn note_id(
-    ids: &mut IndexSet<u64>,
+    ids: &mut IndexSet<u64, IdHasher>,
     repeated: &mut u64,
     id: u64,
 ) -> Result<(), AllocError>
@@ -28,7 +29,7 @@ pub(crate) fn note_id(
 pub(crate) fn repeated_strings(alloc: Global, strings: &Texts) -> Result<u64, AllocError>
     ensures { IfOk result (λ n. n ≡ repeats (λ (t : Text). t.id) strings.now) }
 {
-    let mut ids = IndexSet::with_capacity(alloc, strings.len())?;
+    let mut ids = IndexSet::with_capacity_and_hasher(alloc, strings.len(), IdHasher::new())?;
     let mut repeated = 0;
     for text in strings.as_slice() {
         note_id(&mut ids, &mut repeated, text.id)?;
@@ -40,7 +41,7 @@ pub(crate) fn repeated_strings(alloc: Global, strings: &Texts) -> Result<u64, Al
 pub(crate) fn repeated_loads(alloc: Global, loads: &Loads) -> Result<u64, AllocError>
     ensures { IfOk result (λ n. n ≡ repeats (λ (l : Load). l.class) loads.now) }
 {
-    let mut ids = IndexSet::with_capacity(alloc, loads.len())?;
+    let mut ids = IndexSet::with_capacity_and_hasher(alloc, loads.len(), IdHasher::new())?;
     let mut repeated = 0;
     for load in loads.as_slice() {
         note_id(&mut ids, &mut repeated, load.class)?;

@@ -5,6 +5,7 @@ ghost use Rattle.hd_graph.specs.Cuts.{last_from};
 ghost use Rattle.hd_graph.specs.Table.{row_at};
 ghost use Rattle.hd_graph.specs.Codes.{IsCode, IsLonger, id_of_code, target_of_code};
 
+use crate::id_hasher::IdHasher;
 use indexmap::IndexSet;
 use std::alloc::{AllocError, Global};
 use std::marker::Model;
@@ -16,7 +17,7 @@ const NULL: u32 = 0xffff_ffff;
 /// of the objects is the object's; `NULL` is null; any other is the place of an ID that is no object's.
 #[derive(Drop)]
 pub(crate) struct References {
-    ids: IndexSet<u64>,
+    ids: IndexSet<u64, IdHasher>,
     starts: Vec<u32>,
     items: Vec<u32>,
     absent: Vec<u64>,
@@ -35,7 +36,7 @@ impl Model for References {
 }
 
 /// The number of an ID: its object's, `NULL` for 0, or that of the next absent ID, which is then kept.
-fn code_of(ids: &IndexSet<u64>, absent: &mut Vec<u64>, id: u64) -> Result<u32, AllocError>
+fn code_of(ids: &IndexSet<u64, IdHasher>, absent: &mut Vec<u64>, id: u64) -> Result<u32, AllocError>
     requires no_null { All (λ id. 0 < id) ids.now.keys }
     requires room { length ids.now.keys + length absent.old.items < 2 ^ 32 - 1 }
     ensures code { IfOk result (λ code. IsCode ids.now.keys absent.new.items code × (id_of_code ids.now.keys absent.new.items code ≡ id)) }
@@ -73,7 +74,7 @@ fn read_code(ids: &[u64], absent: &[u64], code: u32) -> (u64, Option<u32>)
 
 impl References {
     /// No rows yet, over the objects of these IDs, in the order of their numbers.
-    pub(crate) fn new(alloc: Global, ids: IndexSet<u64>) -> Result<References, AllocError>
+    pub(crate) fn new(alloc: Global, ids: IndexSet<u64, IdHasher>) -> Result<References, AllocError>
         requires few { length ids.keys < 2 ^ 31 }
         requires no_null { All (λ id. 0 < id) ids.keys }
         requires distinct { IsDistinct nat_eq ids.keys }
