@@ -143,7 +143,7 @@ generate() {
     local dump=$1 asked=$2 id_size=$3
     complain "generating $asked bytes with $id_size-byte identifiers"
     rm -f "$dump"
-    id=$("$room/generate" "$dump" "$asked" "$id_size" "$seed" 2>"$room/counts") || {
+    id=$("$room/generate" "$dump" "$asked" "$id_size" "$seed" present 2>"$room/counts") || {
         complain "the generator refused: $(tail -n 3 "$room/counts" | tr '\n' ' ')"
         return 1
     }

@@ -7,16 +7,17 @@ use Rattle.std.proofs.lemmas.List.Sums.{sum_by-append}
 use Rattle.std.proofs.Math.Seq.{drop-append_seam}
 use Rattle.hd_terms.specs.declared.IdSize.{IdSize}
 use Rattle.hd_terms.specs.declared.Span.{Span}
-use Rattle.hd_terms.specs.SubRecords.{SubRecord, RootUnknown, ObjectArray, IsSubRecord, AreSubRecords, sub_record_text, Sub, subs_at, dump_subs_at, item_at}
+use Rattle.hd_terms.specs.SubRecords.{SubRecord, RootOf, ClassDump, ObjectArray, PrimitiveArray, IsSubRecord, AreSubRecords, sub_record_text, Sub, subs_at, dump_subs_at, item_at}
 use Rattle.hd_terms.specs.Dump.{Object, Root}
 use Rattle.hd_terms.specs.Objects.{object_of}
 use Rattle.hd_terms.specs.Roots.{root_of, roots_of}
-use Rattle.hd_graph.specs.Arrays.{row_object, row_objects}
-use Rattle.hd_graph.specs.ArrayRows.{array_of, item_weight, weight, IsItemWithin, roots_in}
+use Rattle.hd_graph.specs.Shapes.{row_object, row_objects}
+use Rattle.hd_graph.specs.ArrayRows.{ObjectEntry, entry_of, item_weight, weight, IsItemWithin, roots_in}
 use Rattle.hd_graph.specs.Bodies.{AreBodies, body_at}
-use Rattle.hd_graph.proofs.RowLemmas.{id_of_array, row_of_array}
+use Rattle.hd_graph.proofs.RowLemmas.{id_of_entry, row_of_entry, shape_of_entry}
 use Rattle.hd_graph.proofs.SpanLemmas.{span_total}
-use Rattle.hd_graph.proofs.LocatedLemmas.{object_of_array, array-object, array-within, array-weight}
+use Rattle.hd_graph.proofs.ClassLemmas.{class-object, class-within, class-heavy}
+use Rattle.hd_graph.proofs.LocatedLemmas.{object_of_entry, array-object, array-within, array-weight, primitive-within, primitive-weight}
 
 module _ (bytes : List ℕ) (size : IdSize) where
   -- where the next sub-record begins
@@ -29,24 +30,42 @@ module _ (bytes : List ℕ) (size : IdSize) where
   here at s ss rest whole = whole ∙ append_assoc (sub_record_text s) (flat_map sub_record_text ss) rest
 
   objects_at : (at : ℕ) (ss : List SubRecord) (rest : List ℕ) → drop at bytes ≡ flat_map sub_record_text ss ++ rest → AllByRecursion (IsSubRecord size) ss
-      → map (object_of_array size) (filter_map (array_of bytes size) (subs_at size at ss)) ≡ filter_map (object_of size) ss
+      → map object_of_entry (filter_map (entry_of bytes size) (subs_at size at ss)) ≡ filter_map (object_of size) ss
   objects_at at [] rest whole each = refl
-  objects_at at (RootUnknown id ∷ ss) rest whole each = objects_at (at + length (sub_record_text (RootUnknown id))) ss rest (next at (RootUnknown id) ss rest whole) each.1
+  objects_at at (RootOf kind id more ∷ ss) rest whole each = objects_at (at + length (sub_record_text (RootOf kind id more))) ss rest (next at (RootOf kind id more) ss rest whole) each.1
   objects_at at (ObjectArray id serial count class elements ∷ ss) rest whole each =
       let s = ObjectArray id serial count class elements in
       let x = array-object bytes size at id serial count class elements (flat_map sub_record_text ss ++ rest) each.0 (here at s ss rest whole) in
       let more = objects_at (at + length (sub_record_text s)) ss rest (next at s ss rest whole) each.1 in
       ap (cons_option (Some _)) more ∙ ap (λ (o : Option Object). cons_option o (filter_map (object_of size) ss)) x
+  objects_at at (ClassDump head constants statics fields ∷ ss) rest whole each =
+      let s = ClassDump head constants statics fields in
+      let x = class-object bytes size at head constants statics fields (flat_map sub_record_text ss ++ rest) each.0 (here at s ss rest whole) in
+      let more = objects_at (at + length (sub_record_text s)) ss rest (next at s ss rest whole) each.1 in
+      ap (cons_option (Some _)) more ∙ ap (λ (o : Option Object). cons_option o (filter_map (object_of size) ss)) x
+  objects_at at (PrimitiveArray id serial count element elements ∷ ss) rest whole each =
+      let s = PrimitiveArray id serial count element elements in
+      ap (cons_option (Some _)) (objects_at (at + length (sub_record_text s)) ss rest (next at s ss rest whole) each.1)
 
   within_at : (at : ℕ) (ss : List SubRecord) (rest : List ℕ) → drop at bytes ≡ flat_map sub_record_text ss ++ rest → AllByRecursion (IsSubRecord size) ss
-      → All (λ (s : Sub). IsItemWithin (length bytes) s.item) (subs_at size at ss)
-  within_at at [] rest whole each = All-nil (λ (s : Sub). IsItemWithin (length bytes) s.item)
-  within_at at (RootUnknown id ∷ ss) rest whole each =
-      All-cons (λ (s : Sub). IsItemWithin (length bytes) s.item) _ _ tt (within_at (at + length (sub_record_text (RootUnknown id))) ss rest (next at (RootUnknown id) ss rest whole) each.1)
+      → All (λ (s : Sub). IsItemWithin size (length bytes) s.item) (subs_at size at ss)
+  within_at at [] rest whole each = All-nil (λ (s : Sub). IsItemWithin size (length bytes) s.item)
+  within_at at (RootOf kind id more ∷ ss) rest whole each =
+      All-cons (λ (s : Sub). IsItemWithin size (length bytes) s.item) _ _ tt (within_at (at + length (sub_record_text (RootOf kind id more))) ss rest (next at (RootOf kind id more) ss rest whole) each.1)
   within_at at (ObjectArray id serial count class elements ∷ ss) rest whole each =
       let s = ObjectArray id serial count class elements in
-      All-cons (λ (s : Sub). IsItemWithin (length bytes) s.item) _ _
+      All-cons (λ (s : Sub). IsItemWithin size (length bytes) s.item) _ _
       (array-within bytes size at id serial count class elements (flat_map sub_record_text ss ++ rest) each.0 (here at s ss rest whole))
+      (within_at (at + length (sub_record_text s)) ss rest (next at s ss rest whole) each.1)
+  within_at at (ClassDump head constants statics fields ∷ ss) rest whole each =
+      let s = ClassDump head constants statics fields in
+      All-cons (λ (s : Sub). IsItemWithin size (length bytes) s.item) _ _
+      (class-within bytes size at head constants statics fields (flat_map sub_record_text ss ++ rest) each.0 (here at s ss rest whole))
+      (within_at (at + length (sub_record_text s)) ss rest (next at s ss rest whole) each.1)
+  within_at at (PrimitiveArray id serial count element elements ∷ ss) rest whole each =
+      let s = PrimitiveArray id serial count element elements in
+      All-cons (λ (s : Sub). IsItemWithin size (length bytes) s.item) _ _
+      (primitive-within bytes size at id serial count element elements (flat_map sub_record_text ss ++ rest) each.0 (here at s ss rest whole))
       (within_at (at + length (sub_record_text s)) ss rest (next at s ss rest whole) each.1)
 
   pub weight-cons : (s : Sub) (list : List Sub) → weight (s ∷ list) ≡ item_weight s.item + weight list
@@ -55,8 +74,8 @@ module _ (bytes : List ℕ) (size : IdSize) where
   weight_at : (at : ℕ) (ss : List SubRecord) (rest : List ℕ) → drop at bytes ≡ flat_map sub_record_text ss ++ rest → AllByRecursion (IsSubRecord size) ss
       → weight (subs_at size at ss) ≤ length (flat_map sub_record_text ss)
   weight_at at [] rest whole each = omega arith
-  weight_at at (RootUnknown id ∷ ss) rest whole each =
-      let s = RootUnknown id in
+  weight_at at (RootOf kind id more ∷ ss) rest whole each =
+      let s = RootOf kind id more in
       let more = weight_at (at + length (sub_record_text s)) ss rest (next at s ss rest whole) each.1 in
       omega (arith, weight-cons (record { offset = at; item = item_at size at s }) (subs_at size (at + length (sub_record_text s)) ss), more, length-append (sub_record_text s) (flat_map sub_record_text ss))
   weight_at at (ObjectArray id serial count class elements ∷ ss) rest whole each =
@@ -64,10 +83,22 @@ module _ (bytes : List ℕ) (size : IdSize) where
       let more = weight_at (at + length (sub_record_text s)) ss rest (next at s ss rest whole) each.1 in
       let first = array-weight bytes size at id serial count class elements (flat_map sub_record_text ss ++ rest) each.0 (here at s ss rest whole) in
       omega (arith, weight-cons (record { offset = at; item = item_at size at s }) (subs_at size (at + length (sub_record_text s)) ss), more, first, length-append (sub_record_text s) (flat_map sub_record_text ss))
+  weight_at at (ClassDump head constants statics fields ∷ ss) rest whole each =
+      let s = ClassDump head constants statics fields in
+      let more = weight_at (at + length (sub_record_text s)) ss rest (next at s ss rest whole) each.1 in
+      let first = class-heavy bytes size at head constants statics fields (flat_map sub_record_text ss ++ rest) each.0 (here at s ss rest whole) in
+      omega (arith, weight-cons (record { offset = at; item = item_at size at s }) (subs_at size (at + length (sub_record_text s)) ss), more, first, length-append (sub_record_text s) (flat_map sub_record_text ss))
+  weight_at at (PrimitiveArray id serial count element elements ∷ ss) rest whole each =
+      let s = PrimitiveArray id serial count element elements in
+      let more = weight_at (at + length (sub_record_text s)) ss rest (next at s ss rest whole) each.1 in
+      let first = primitive-weight bytes size at id serial count element elements (flat_map sub_record_text ss ++ rest) each.0 (here at s ss rest whole) in
+      omega (arith, weight-cons (record { offset = at; item = item_at size at s }) (subs_at size (at + length (sub_record_text s)) ss), more, first, length-append (sub_record_text s) (flat_map sub_record_text ss))
 
   roots_at : (at : ℕ) (ss : List SubRecord) → roots_in (subs_at size at ss) ≡ roots_of size ss
   roots_at at [] = refl
-  roots_at at (RootUnknown id ∷ ss) = ap (cons_option (Some _)) (roots_at (at + length (sub_record_text (RootUnknown id))) ss)
+  roots_at at (RootOf kind id more ∷ ss) = ap (cons_option (Some _)) (roots_at (at + length (sub_record_text (RootOf kind id more))) ss)
+  roots_at at (ClassDump head constants statics fields ∷ ss) = roots_at (at + length (sub_record_text (ClassDump head constants statics fields))) ss
+  roots_at at (PrimitiveArray id serial count element elements ∷ ss) = roots_at (at + length (sub_record_text (PrimitiveArray id serial count element elements))) ss
   roots_at at (ObjectArray id serial count class elements ∷ ss) = roots_at (at + length (sub_record_text (ObjectArray id serial count class elements))) ss
 
   -- the bytes of a span, and those after it
@@ -78,14 +109,14 @@ module _ (bytes : List ℕ) (size : IdSize) where
   all_of segments = flat_map (λ (ss : List SubRecord). ss) segments
 
   pub objects_in : (spans : List Span) (segments : List (List SubRecord)) → AreBodies size bytes spans segments
-      → map (object_of_array size) (filter_map (array_of bytes size) (dump_subs_at size spans segments)) ≡ filter_map (object_of size) (all_of segments)
+      → map object_of_entry (filter_map (entry_of bytes size) (dump_subs_at size spans segments)) ≡ filter_map (object_of size) (all_of segments)
   objects_in [] [] all = refl
   objects_in [] (s ∷ segments) all = absurd all
   objects_in (p ∷ spans) [] all = absurd all
   objects_in (p ∷ spans) (s ∷ segments) all =
-      ap (map (object_of_array size)) (filter_map-append (array_of bytes size) (subs_at size p.start s) (dump_subs_at size spans segments))
-      ∙ map-append (object_of_array size) (filter_map (array_of bytes size) (subs_at size p.start s)) (filter_map (array_of bytes size) (dump_subs_at size spans segments))
-      ∙ ap (λ (xs : List Object). xs ++ map (object_of_array size) (filter_map (array_of bytes size) (dump_subs_at size spans segments))) (objects_at p.start s _ (from_span p s all.0) all.0.each)
+      ap (map object_of_entry) (filter_map-append (entry_of bytes size) (subs_at size p.start s) (dump_subs_at size spans segments))
+      ∙ map-append object_of_entry (filter_map (entry_of bytes size) (subs_at size p.start s)) (filter_map (entry_of bytes size) (dump_subs_at size spans segments))
+      ∙ ap (λ (xs : List Object). xs ++ map object_of_entry (filter_map (entry_of bytes size) (dump_subs_at size spans segments))) (objects_at p.start s _ (from_span p s all.0) all.0.each)
       ∙ ap (λ (xs : List Object). filter_map (object_of size) s ++ xs) (objects_in spans segments all.1)
       ∙ sym (filter_map-append (object_of size) s (all_of segments))
 
@@ -99,12 +130,12 @@ module _ (bytes : List ℕ) (size : IdSize) where
       ∙ ap (λ (xs : List Root). roots_of size s ++ xs) (roots_all spans segments all.1)
       ∙ sym (filter_map-append (root_of size) s (all_of segments))
 
-  pub within_all : (spans : List Span) (segments : List (List SubRecord)) → AreBodies size bytes spans segments → All (λ (s : Sub). IsItemWithin (length bytes) s.item) (dump_subs_at size spans segments)
-  within_all [] [] all = All-nil (λ (s : Sub). IsItemWithin (length bytes) s.item)
+  pub within_all : (spans : List Span) (segments : List (List SubRecord)) → AreBodies size bytes spans segments → All (λ (s : Sub). IsItemWithin size (length bytes) s.item) (dump_subs_at size spans segments)
+  within_all [] [] all = All-nil (λ (s : Sub). IsItemWithin size (length bytes) s.item)
   within_all [] (s ∷ segments) all = absurd all
   within_all (p ∷ spans) [] all = absurd all
   within_all (p ∷ spans) (s ∷ segments) all =
-      All-append (λ (s : Sub). IsItemWithin (length bytes) s.item) (subs_at size p.start s) (dump_subs_at size spans segments) (within_at p.start s _ (from_span p s all.0) all.0.each) (within_all spans segments all.1)
+      All-append (λ (s : Sub). IsItemWithin size (length bytes) s.item) (subs_at size p.start s) (dump_subs_at size spans segments) (within_at p.start s _ (from_span p s all.0) all.0.each) (within_all spans segments all.1)
 
   total-cons : (p : Span) (spans : List Span) → span_total (p ∷ spans) ≡ p.len + span_total spans
   total-cons p spans = omega (arith, sum_by-append (λ (s : Span). s.len) (p ∷ []) spans)
@@ -118,7 +149,7 @@ module _ (bytes : List ℕ) (size : IdSize) where
       let long : length (flat_map sub_record_text s) ≤ p.len = omega (arith, ap (λ (xs : List ℕ). length xs) all.0.whole, length-take p.len (drop p.start bytes)) in
       omega (arith, first, long, weight_all spans segments all.1, total-cons p spans, sum_by-append (λ (x : Sub). item_weight x.item) (subs_at size p.start s) (dump_subs_at size spans segments))
 
--- objects of IDs and rows that come in pairs
-pub row_objects-pairs : (size : IdSize) (xs : List (ℕ × List ℕ)) → row_objects size (map id_of_array xs) (map row_of_array xs) ≡ map (object_of_array size) xs
-row_objects-pairs size [] = refl
-row_objects-pairs size (x ∷ xs) = ap (λ (ys : List Object). row_object size x.0 x.1 ∷ ys) (row_objects-pairs size xs)
+-- objects of IDs, rows and shapes that come together
+pub row_objects-entries : (xs : List ObjectEntry) → row_objects (map shape_of_entry xs) (map id_of_entry xs) (map row_of_entry xs) ≡ map object_of_entry xs
+row_objects-entries [] = refl
+row_objects-entries (x ∷ xs) = ap (λ (ys : List Object). row_object x.2 x.0 x.1 ∷ ys) (row_objects-entries xs)

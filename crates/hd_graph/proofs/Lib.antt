@@ -1,6 +1,13 @@
 pub mod CutLemmas
 pub mod CodeLemmas
 pub mod TableLemmas
+pub mod RowSlots
+pub mod ShapeLemmas
+pub mod KeptLemmas
+pub mod RisingLemmas
+pub mod ClassLemmas
+pub mod ValueLemmas
+pub mod AddedLemmas
 pub mod ArrayLemmas
 pub mod FirstLemmas
 pub mod NumberLemmas

@@ -1,7 +1,7 @@
 -- What the list of sub-records says of the sub-records of the definition, by their places in the file.
-use Rattle.std.proofs.Common.{◌≡◌, ◌∙◌, ℕ, ◌+◌, ◌-◌, ◌*◌, ◌/◌, ◌≤◌, List, [], ◌∷◌, ◌++◌, length, map, drop, Some, None, refl, sym, ap, arith, append_assoc, length-append}
+use Rattle.std.proofs.Common.{◌≡◌, ◌∙◌, ℕ, ◌+◌, ◌*◌, ◌/◌, ◌≤◌, List, [], ◌∷◌, ◌++◌, length, map, drop, Some, None, refl, sym, ap, arith, append_assoc, length-append, mul_comm}
 use Rattle.std.specs.List.{AllByRecursion, concat}
-use Rattle.std.proofs.lemmas.List.{length-map, length-drop, drop-drop}
+use Rattle.std.proofs.lemmas.List.{length-drop, drop-drop}
 use Rattle.std.proofs.Math.Seq.{drop-append_seam}
 use Rattle.byteorder.specs.Endian.{big_number}
 use Rattle.byteorder.specs.Numbers.{big_from-append}
@@ -12,17 +12,19 @@ use Rattle.hd_terms.specs.declared.Slot.TheVariants as slots
 use Rattle.hd_terms.specs.declared.Group.{Group}
 use Rattle.hd_terms.specs.declared.Group.TheVariants as groups
 use Rattle.hd_terms.specs.Records.{id_len}
-use Rattle.hd_terms.specs.SubRecords.{ObjectArray, IsSubRecord, sub_record_text}
+use Rattle.hd_terms.specs.SubRecords.{ObjectArray, PrimitiveArray, IsSubRecord, sub_record_text}
+use Rattle.hd_terms.specs.Types.{element_len}
 use Rattle.hd_terms.specs.Dump.{Object, SlotEntry}
 use Rattle.hd_terms.specs.Slots.{strong_slot, element_slots}
 use Rattle.hd_terms.specs.Objects.{object_of}
-use Rattle.hd_graph.specs.Arrays.{row_object, row_slots}
-use Rattle.hd_graph.specs.ArrayRows.{array_row, ids_in, id_count}
+use Rattle.hd_graph.specs.Arrays.{row_slots}
+use Rattle.hd_graph.specs.Shapes.{ObjectArray, row_object}
+use Rattle.hd_graph.specs.ArrayRows.{ObjectEntry, array_row, ids_in, id_count}
 use Rattle.hd_graph.proofs.CutLemmas.{last_from-push}
 
--- the array of an ID and a row
-abbrev pub object_of_array : IdSize → ℕ × List ℕ → Object
-object_of_array size a = row_object size a.0 a.1
+-- the object of an ID, a row and a shape
+abbrev pub object_of_entry : ObjectEntry → Object
+object_of_entry a = row_object a.2 a.0 a.1
 
 -- IDs that stand one after another are read as those of the elements
 pub ids-of-elements : (n : ℕ) (elements : List (List ℕ)) (rest : List ℕ) → AllByRecursion (λ element. length element ≡ n) elements
@@ -51,6 +53,10 @@ row_slots-elements size i (e ∷ f ∷ elements) class = ap (λ (ss : List SlotE
 count_of_bytes : (size : IdSize) (n : ℕ) → id_len size * n / id_len size ≡ n
 count_of_bytes sizes.Four n = omega arith
 count_of_bytes sizes.Eight n = omega arith
+
+bytes-turned : (size : IdSize) (n : ℕ) → id_len size * n ≡ n * id_len size
+bytes-turned sizes.Four n = omega arith
+bytes-turned sizes.Eight n = omega arith
 
 count-le : (size : IdSize) (n : ℕ) → n ≤ id_len size * n
 count-le sizes.Four n = omega arith
@@ -88,16 +94,13 @@ module _ (bytes : List ℕ) (size : IdSize) where
         ∙ ap (λ (xs : List ℕ). ids_in (id_len size) (length elements) xs ++ class_id ∷ []) from_elements
         ∙ ap (λ (xs : List ℕ). xs ++ class_id ∷ []) (ids-of-elements (id_len size) elements rest is.4.each)
 
-    length-row : length (map (big_number (id_len size)) elements ++ class_id ∷ []) - 1 ≡ big_number 4 count
-    length-row = omega (arith, length-append (map (big_number (id_len size)) elements) (class_id ∷ []), length-map elements (big_number (id_len size)), is.4.many)
-
-    pub array-object : Some (object_of_array size (big_number (id_len size) id, array_row bytes size class_id span)) ≡ object_of size (ObjectArray id serial count class elements)
+    pub array-object : Some (object_of_entry (big_number (id_len size) id, array_row bytes size class_id span, ObjectArray span.len)) ≡ object_of size (ObjectArray id serial count class elements)
     array-object =
         let row = map (big_number (id_len size)) elements ++ class_id ∷ [] in
         let x : Group → ℕ → List SlotEntry → Object = λ g b ss. record { id = big_number (id_len size) id; group = g; bytes = b; slots = ss; referent = None } in
-        ap (λ (r : List ℕ). Some (row_object size (big_number (id_len size) id) r)) row_is
-        ∙ ap (λ (c : ℕ). Some (x (groups.Class c) ((length row - 1) * id_len size) (row_slots 0 row))) (last_from-push 0 (map (big_number (id_len size)) elements) class_id)
-        ∙ ap (λ (n : ℕ). Some (x (groups.Class class_id) (n * id_len size) (row_slots 0 row))) length-row
+        ap (λ (r : List ℕ). Some (row_object (ObjectArray span.len) (big_number (id_len size) id) r)) row_is
+        ∙ ap (λ (c : ℕ). Some (x (groups.Class c) (id_len size * big_number 4 count) (row_slots 0 row))) (last_from-push 0 (map (big_number (id_len size)) elements) class_id)
+        ∙ ap (λ (n : ℕ). Some (x (groups.Class class_id) n (row_slots 0 row))) (bytes-turned size (big_number 4 count))
         ∙ ap (λ (ss : List SlotEntry). Some (x (groups.Class class_id) (big_number 4 count * id_len size) ss)) (row_slots-elements size 0 elements class_id)
 
     text-long : length (sub_record_text (ObjectArray id serial count class elements)) ≡ 9 + 2 * id_len size + id_len size * big_number 4 count
@@ -114,3 +117,16 @@ module _ (bytes : List ℕ) (size : IdSize) where
 
     pub array-weight : 1 + span.len ≤ length (sub_record_text (ObjectArray id serial count class elements))
     array-weight = omega (arith, text-long)
+
+  -- a primitive array at a place
+  module _ (at : ℕ) (id serial count : List ℕ) (element : ℕ) (elements : List ℕ) (rest : List ℕ) (is : IsSubRecord size (PrimitiveArray id serial count element elements))
+      (whole : drop at bytes ≡ sub_record_text (PrimitiveArray id serial count element elements) ++ rest) where
+    elements-long : length elements ≡ big_number 4 count * element_len element
+    elements-long = is.4 ∙ mul_comm (element_len element) (big_number 4 count)
+
+    pub primitive-weight : 1 + big_number 4 count * element_len element ≤ length (sub_record_text (PrimitiveArray id serial count element elements))
+    primitive-weight = omega (arith, elements-long, length-append (0x23 ∷ id ++ serial ++ count) (element ∷ elements))
+
+    pub primitive-within : big_number 4 count * element_len element ≤ length bytes
+    primitive-within =
+        omega (arith, primitive-weight, length-drop at bytes, ap (λ (xs : List ℕ). length xs) whole, length-append (sub_record_text (PrimitiveArray id serial count element elements)) rest)

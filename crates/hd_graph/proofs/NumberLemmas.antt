@@ -13,7 +13,7 @@ use Rattle.hd_terms.specs.SubRecords as subs
 use Rattle.hd_terms.specs.Objects.{is_null_object, repeats}
 use Rattle.hd_graph.specs.declared.graph.RootRow.{RootRow}
 use Rattle.hd_graph.specs.GraphInside.{root_of_row}
-use Rattle.hd_graph.specs.ArrayRows.{array_id, roots_in}
+use Rattle.hd_graph.specs.ArrayRows.{object_id, roots_in}
 use Rattle.hd_graph.specs.Firsts.{firsts}
 use Rattle.hd_graph.specs.Building.{IsNumbered}
 use Rattle.hd_graph.specs.Noted.{NotesId}
@@ -35,7 +35,7 @@ pub root-push : (front : List Sub) (ids : List ℕ) (roots : List RootRow) (repe
     → IsNumbered (front ++ (record { offset = at; item = subs.Root row.kind row.id }) ∷ []) ids (roots ++ row ∷ []) repeated
 root-push front ids roots repeated h at row =
     let s : Sub = record { offset = at; item = subs.Root row.kind row.id } in
-    let arrays : filter_map array_id (front ++ s ∷ []) ≡ filter_map array_id front = filter_map-append array_id front (s ∷ []) ∙ append-nil (filter_map array_id front) in
+    let arrays : filter_map object_id (front ++ s ∷ []) ≡ filter_map object_id front = filter_map-append object_id front (s ∷ []) ∙ append-nil (filter_map object_id front) in
     record {
       ids_are = h.ids_are ∙ ap (λ (xs : List ℕ). firsts same xs) (sym arrays);
       known = λ id. h.known id ∙ ap (list_any (λ k. eqb id k)) (sym arrays);
@@ -60,11 +60,11 @@ module _ (ids : List ℕ) (id : ℕ) where
   case-distinct true e d = d
   case-distinct false e d = IsDistinct-push nat_eq_equiv ids id d e
 
-pub array-push : (front : List Sub) (ids : List ℕ) (roots : List RootRow) (repeated : ℕ) (h : IsNumbered front ids roots repeated) (s : Sub) (id : ℕ) (ids' : List ℕ) (repeated' : ℕ) → NotesId id ids repeated ids' repeated' → array_id s ≡ Some id → is_null_object s ≡ false → roots_in (s ∷ []) ≡ [] → 0 < id
+pub array-push : (front : List Sub) (ids : List ℕ) (roots : List RootRow) (repeated : ℕ) (h : IsNumbered front ids roots repeated) (s : Sub) (id : ℕ) (ids' : List ℕ) (repeated' : ℕ) → NotesId id ids repeated ids' repeated' → object_id s ≡ Some id → is_null_object s ≡ false → roots_in (s ∷ []) ≡ [] → 0 < id
     → IsNumbered (front ++ s ∷ []) ids' roots repeated'
 array-push front ids roots repeated h s id ids' repeated' notes is other no_root pos =
-    let old = filter_map array_id front in
-    let arrays : filter_map array_id (front ++ s ∷ []) ≡ old ++ id ∷ [] = filter_map-append array_id front (s ∷ []) ∙ ap (λ (o : Option ℕ). old ++ cons_option o []) is in
+    let old = filter_map object_id front in
+    let arrays : filter_map object_id (front ++ s ∷ []) ≡ old ++ id ∷ [] = filter_map-append object_id front (s ∷ []) ∙ ap (λ (o : Option ℕ). old ++ cons_option o []) is in
     let b = list_any (λ k. eqb id k) ids in
     let noted = noted-push same old id ids repeated ids' repeated' (record { known = h.known; count = h.repeated_is }) notes in
     record {
@@ -96,4 +96,4 @@ found-first list i s is none null =
 -- no more are repeated than there are sub-records
 pub repeated-le : (list : List Sub) (i : ℕ) (ids : List ℕ) (roots : List RootRow) (repeated : ℕ) → IsNumbered (take i list) ids roots repeated → repeated ≤ i
 repeated-le list i ids roots repeated h =
-    omega (arith, h.repeated_is, repeats-le same (filter_map array_id (take i list)), filter_map-le array_id (take i list), length-take i list)
+    omega (arith, h.repeated_is, repeats-le same (filter_map object_id (take i list)), filter_map-le object_id (take i list), length-take i list)

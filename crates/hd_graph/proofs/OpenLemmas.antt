@@ -8,7 +8,7 @@ use Rattle.hd_terms.specs.declared.Text.{Text}
 use Rattle.hd_terms.specs.declared.Load.{Load}
 use Rattle.hd_terms.specs.declared.errors.ReadFault.{ReadFault}
 use Rattle.hd_terms.specs.Records.{Record, header_len, segment_spans, is_segment, texts}
-use Rattle.hd_terms.specs.SubRecords.{SubRecord, Sub, Item, ObjArray, AreSubRecords, AreDumpSubRecords, dump_subs_at}
+use Rattle.hd_terms.specs.SubRecords.{SubRecord, Sub, Item, ObjArray, PrimArray, AreSubRecords, AreDumpSubRecords, dump_subs_at}
 use Rattle.hd_terms.specs.SubRecords as subs
 use Rattle.hd_terms.specs.declared.IdSize.TheVariants as sizes
 use Rattle.hd_terms.specs.Roots.{roots_of}
@@ -19,17 +19,18 @@ use Rattle.hd_records.specs.Reading.{ReadsRecords, IsRecordsFaultOrMemory}
 use Rattle.hd_graph.specs.declared.graph.RootRow.{RootRow}
 use Rattle.hd_graph.specs.GraphInside.{root_of_row}
 use Rattle.hd_graph.specs.Table.{Table}
+use Rattle.hd_graph.specs.Shapes.{ObjectShape}
 use Rattle.hd_graph.specs.Firsts.{firsts}
-use Rattle.hd_graph.specs.Arrays.{IsSmallRow, row_objects}
-use Rattle.hd_graph.specs.ArrayRows.{array_id, array_of, arrays_of, weight, item_weight, AreWithin, root_of_item, roots_in}
+use Rattle.hd_graph.specs.Shapes.{IsSmall, AreColumns, row_objects, HasShape}
+use Rattle.hd_graph.specs.ArrayRows.{ObjectEntry, object_id, entry_of, entries_of, weight, item_weight, AreWithin, root_of_item, roots_in}
 use Rattle.hd_graph.specs.Bodies.{AreBodies, ReadsBodies, IsBodiesFault, body_at, IsSpanWithin}
-use Rattle.hd_graph.specs.Building.{IsNumbered, HasRowsOf, IsBodiesFaultOrMemory, IsNullFaultOrMemory, IsReadFaultOrMemory}
+use Rattle.hd_graph.specs.Building.{Columns, IsNumbered, HasRowsOf, IsBodiesFaultOrMemory, IsNullFaultOrMemory, IsReadFaultOrMemory}
 use Rattle.hd_graph.proofs.FirstLemmas.{firsts-map, first_of_each-firsts, firsts-le, filter_map-le}
-use Rattle.hd_graph.proofs.RowLemmas.{id_of_array, row_of_array, ids-of-arrays}
+use Rattle.hd_graph.proofs.RowLemmas.{id_of_entry, row_of_entry, shape_of_entry, ids-of-entries}
 use Rattle.hd_graph.proofs.SpanLemmas.{IsBodyAt, span_total, bodies_at, total-le, all_within, bodies_of_records}
-use Rattle.hd_graph.proofs.LocatedLemmas.{object_of_array}
-use Rattle.hd_graph.proofs.DumpLemmas.{all_of, objects_in, roots_all, within_all, weight_all, weight-cons, row_objects-pairs}
-use Rattle.hd_graph.proofs.SmallLemmas.{rows-small}
+use Rattle.hd_graph.proofs.LocatedLemmas.{object_of_entry}
+use Rattle.hd_graph.proofs.DumpLemmas.{all_of, objects_in, roots_all, within_all, weight_all, weight-cons, row_objects-entries}
+use Rattle.hd_graph.proofs.SmallLemmas.{shapes-small, shapes-fit}
 use Rattle.hd_graph.proofs.RepeatLemmas.{repeats-map}
 
 abbrev same : ℕ → ℕ
@@ -37,10 +38,12 @@ same id = id
 
 item-heavy : (i : Item) → 1 ≤ item_weight i
 item-heavy (subs.Root kind id) = omega arith
+item-heavy (subs.Class c) = omega arith
 item-heavy (ObjArray id class elements) = omega arith
+item-heavy (PrimArray id element count) = omega arith
 
 -- each sub-record weighs something
-length-le-weight : (list : List Sub) → length list ≤ weight list
+pub length-le-weight : (list : List Sub) → length list ≤ weight list
 length-le-weight [] = omega arith
 length-le-weight (s ∷ list) = omega (arith, length-le-weight list, item-heavy s.item, weight-cons [] sizes.Four s list)
 
@@ -95,7 +98,7 @@ module _ (bytes : List ℕ) (size : IdSize) (strings : List Text) (classes : Lis
     list_of_records : list ≡ dump_subs_at size (segment_spans header_len r.records) b.segments
     list_of_records = b.list_is ∙ ap (λ (ss : List Span). dump_subs_at size ss b.segments) r.spans
 
-    pub list-within : AreWithin bytes list
+    pub list-within : AreWithin size bytes list
     list-within = rw b.list_is (record {
       each = within_all bytes size spans b.segments b.whole;
       few =
@@ -113,40 +116,54 @@ module _ (bytes : List ℕ) (size : IdSize) (strings : List Text) (classes : Lis
       short = length-le-weight list
 
       pub few-ids : length ids < 2 ^ 31
-      few-ids = omega (arith, ap (λ (xs : List ℕ). length xs) n.ids_are, firsts-le same [] (filter_map array_id list), filter_map-le array_id list, short, list-within.few)
+      few-ids = omega (arith, ap (λ (xs : List ℕ). length xs) n.ids_are, firsts-le same [] (filter_map object_id list), filter_map-le object_id list, short, list-within.few)
 
       pub few-roots : length roots < 2 ^ 32
       few-roots = omega (arith, ap (λ (xs : List Root). length xs) n.roots_are, length-map roots root_of_row, filter_map-le (λ (s : Sub). root_of_item s.item) list, short, list-within.few)
 
-      module _ (t : Table) (h : HasRowsOf bytes size list t) where
-        abbrev arrays : List (ℕ × List ℕ)
-        arrays = arrays_of bytes size list
+      module _ (c : Columns) (h : HasRowsOf bytes size list c) where
+        abbrev t : Table
+        t = c.table
 
-        ids_of_arrays : t.ids ≡ map id_of_array arrays
-        ids_of_arrays = h.ids_are ∙ ap (λ (xs : List ℕ). firsts same xs) (ids-of-arrays bytes size list) ∙ firsts-map same id_of_array (filter_map (array_of bytes size) list)
+        abbrev entries : List ObjectEntry
+        entries = entries_of bytes size list
 
-        pub as-many-rows : length t.rows ≡ length t.ids
-        as-many-rows = ap (λ (xs : List (List ℕ)). length xs) h.rows_are ∙ length-map arrays row_of_array ∙ sym (length-map arrays id_of_array) ∙ ap (λ (xs : List ℕ). length xs) (sym ids_of_arrays)
+        ids_of_entries : t.ids ≡ map id_of_entry entries
+        ids_of_entries = h.ids_are ∙ ap (λ (xs : List ℕ). firsts same xs) (ids-of-entries bytes size list) ∙ firsts-map same id_of_entry (filter_map (entry_of bytes size) list)
 
-        pub small-rows : All (IsSmallRow size) t.rows
-        small-rows = rw h.rows_are (rows-small bytes size r.header.fits list list-within)
+        as-many-rows : length t.rows ≡ length t.ids
+        as-many-rows = ap (λ (xs : List (List ℕ)). length xs) h.rows_are ∙ length-map entries row_of_entry ∙ sym (length-map entries id_of_entry) ∙ ap (λ (xs : List ℕ). length xs) (sym ids_of_entries)
 
-        objects_are : row_objects size t.ids t.rows ≡ objects_of size (all_of bytes size b.segments)
+        as-many-shapes : length c.shapes ≡ length t.ids
+        as-many-shapes = ap (λ (xs : List ObjectShape). length xs) h.shapes_are ∙ length-map entries shape_of_entry ∙ sym (length-map entries id_of_entry) ∙ ap (λ (xs : List ℕ). length xs) (sym ids_of_entries)
+
+        pub whole-columns : AreColumns c.shapes t.ids t.rows
+        whole-columns = record {
+          rows = as-many-rows;
+          shapes = as-many-shapes;
+          fit = subst (λ (ss : List ObjectShape). AllZip HasShape ss t.rows) (sym h.shapes_are) (subst (λ (rs : List (List ℕ)). AllZip HasShape (map shape_of_entry entries) rs) (sym h.rows_are) (shapes-fit bytes size list));
+        }
+
+        pub small-shapes : All IsSmall c.shapes
+        small-shapes = rw h.shapes_are (shapes-small bytes size r.header.fits list list-within)
+
+        objects_are : row_objects c.shapes t.ids t.rows ≡ objects_of size (all_of bytes size b.segments)
         objects_are =
-            ap (λ (xs : List ℕ). row_objects size xs t.rows) ids_of_arrays ∙ ap (λ (xs : List (List ℕ)). row_objects size (map id_of_array arrays) xs) h.rows_are
-            ∙ row_objects-pairs size arrays
-            ∙ sym (firsts-map (λ (x : Object). x.id) (object_of_array size) (filter_map (array_of bytes size) list))
-            ∙ ap (λ (xs : List Object). firsts (λ (x : Object). x.id) xs) (ap (λ (l : List Sub). map (object_of_array size) (filter_map (array_of bytes size) l)) b.list_is ∙ objects_in bytes size spans b.segments b.whole)
+            ap (λ (xs : List ℕ). row_objects c.shapes xs t.rows) ids_of_entries ∙ ap (λ (xs : List (List ℕ)). row_objects c.shapes (map id_of_entry entries) xs) h.rows_are
+            ∙ ap (λ (ss : List ObjectShape). row_objects ss (map id_of_entry entries) (map row_of_entry entries)) h.shapes_are
+            ∙ row_objects-entries entries
+            ∙ sym (firsts-map (λ (x : Object). x.id) object_of_entry (filter_map (entry_of bytes size) list))
+            ∙ ap (λ (xs : List Object). firsts (λ (x : Object). x.id) xs) (ap (λ (l : List Sub). map object_of_entry (filter_map (entry_of bytes size) l)) b.list_is ∙ objects_in bytes size spans b.segments b.whole)
             ∙ sym (first_of_each-firsts (filter_map (object_of size) (all_of bytes size b.segments)))
 
         roots_are : map root_of_row roots ≡ roots_of size (all_of bytes size b.segments)
         roots_are = n.roots_are ∙ ap roots_in b.list_is ∙ roots_all bytes size spans b.segments b.whole
 
-        arrays_again : repeated ≡ repeats (λ (x : Object). x.id) (filter_map (object_of size) (all_of bytes size b.segments))
-        arrays_again =
-            n.repeated_is ∙ ap (repeats same) (ids-of-arrays bytes size list) ∙ repeats-map same id_of_array (filter_map (array_of bytes size) list)
-            ∙ sym (repeats-map (λ (x : Object). x.id) (object_of_array size) (filter_map (array_of bytes size) list))
-            ∙ ap (repeats (λ (x : Object). x.id)) (ap (λ (l : List Sub). map (object_of_array size) (filter_map (array_of bytes size) l)) b.list_is ∙ objects_in bytes size spans b.segments b.whole)
+        objects_again : repeated ≡ repeats (λ (x : Object). x.id) (filter_map (object_of size) (all_of bytes size b.segments))
+        objects_again =
+            n.repeated_is ∙ ap (repeats same) (ids-of-entries bytes size list) ∙ repeats-map same id_of_entry (filter_map (entry_of bytes size) list)
+            ∙ sym (repeats-map (λ (x : Object). x.id) object_of_entry (filter_map (entry_of bytes size) list))
+            ∙ ap (repeats (λ (x : Object). x.id)) (ap (λ (l : List Sub). map object_of_entry (filter_map (entry_of bytes size) l)) b.list_is ∙ objects_in bytes size spans b.segments b.whole)
 
         -- what is repeated
         module _ (texts_again loads_again : ℕ) (texts_are : texts_again ≡ repeats (λ (x : Text). x.id) strings) (loads_are : loads_again ≡ repeats (λ (x : Load). x.class) classes) where
@@ -155,12 +172,12 @@ module _ (bytes : List ℕ) (size : IdSize) (strings : List Text) (classes : Lis
 
           again_is : again ≡ repeated_of size r.records (all_of bytes size b.segments)
           again_is =
-              ap (λ (m : ℕ). record { objects = m; strings = texts_again; loads = loads_again }) arrays_again
+              ap (λ (m : ℕ). record { objects = m; strings = texts_again; loads = loads_again }) objects_again
               ∙ ap (λ (m : ℕ). record { objects = repeats (λ (x : Object). x.id) (filter_map (object_of size) (all_of bytes size b.segments)); strings = m; loads = loads_again }) (texts_are ∙ ap (repeats (λ (x : Text). x.id)) r.strings_are)
               ∙ ap (λ (m : ℕ). record { objects = repeats (λ (x : Object). x.id) (filter_map (object_of size) (all_of bytes size b.segments)); strings = repeats (λ (x : Text). x.id) (texts size r.records); loads = m })
               (loads_are ∙ ap (repeats (λ (x : Load). x.class)) r.loads_are)
 
-          pub opened : IsDumpOf bytes (record { objects = row_objects size t.ids t.rows; roots = map root_of_row roots; repeated = again; opaque = 0 })
+          pub opened : IsDumpOf bytes (record { objects = row_objects c.shapes t.ids t.rows; roots = map root_of_row roots; repeated = again; opaque = 0 })
           opened = record {
             size = size;
             records = r.records;

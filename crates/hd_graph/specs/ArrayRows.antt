@@ -1,14 +1,18 @@
--- The rows of object arrays, read from the file by their sub-records' spans.
--- Source: HPROF binary format, OBJECT ARRAY DUMP.
-use Rattle.std.specs.Prelude.{ℕ, zero, suc, ◌+◌, ◌/◌, ◌≤◌, List, [], ◌∷◌, ◌++◌, length, drop, sum_by, All, Option, Some, None}
+-- The rows and shapes of objects, read from the file by their sub-records' spans.
+-- Source: HPROF binary format, CLASS DUMP, OBJECT ARRAY DUMP and PRIMITIVE ARRAY DUMP.
+use Rattle.std.specs.Prelude.{◌≡◌, ℕ, zero, suc, ◌+◌, ◌*◌, ◌/◌, ◌≤◌, if◌then◌else◌, map, List, [], ◌∷◌, ◌++◌, length, drop, sum_by, All, Option, Some, None}
 use Rattle.std.specs.List.{filter_map}
 use Rattle.byteorder.specs.Endian.{big_number}
 use Rattle.hd_terms.specs.declared.IdSize.{IdSize}
 use Rattle.hd_terms.specs.declared.Span.{Span}
 use Rattle.hd_terms.specs.Records.{id_len}
-use Rattle.hd_terms.specs.SubRecords.{Item, ObjArray, Sub}
+use Rattle.hd_terms.specs.SubRecords.{ConstantItem, StaticItem, ClassItem, Item, ObjArray, PrimArray, Sub}
 use Rattle.hd_terms.specs.SubRecords as subs
+use Rattle.hd_terms.specs.Types.{element_len, is_id_type, value_len}
 use Rattle.hd_terms.specs.Dump.{Root}
+use Rattle.hd_terms.specs.declared.Slot.{Slot}
+use Rattle.hd_terms.specs.declared.Slot.TheVariants as slots
+use Rattle.hd_graph.specs.Shapes.{ObjectShape, ObjectArray, PrimitiveArray, ClassObject}
 use Rattle.hd_graph.specs.Firsts.{firsts}
 
 -- so many IDs that stand one after another
@@ -24,52 +28,113 @@ id_count size span = span.len / id_len size
 abbrev pub array_row : List ℕ → IdSize → ℕ → Span → List ℕ
 array_row bytes size class elements = ids_in (id_len size) (id_count size elements) (drop elements.start bytes) ++ class ∷ []
 
--- an array's ID and row
-abbrev pub array_of_item : List ℕ → IdSize → Item → Option (ℕ × List ℕ)
-array_of_item bytes size (subs.Root kind id) = None
-array_of_item bytes size (ObjArray id class elements) = Some (id, array_row bytes size class elements)
+-- the types and values of statics, and of constants
+abbrev pub values_of_statics : List StaticItem → List (ℕ × Span)
+values_of_statics statics = map (λ (s : StaticItem). (s.code, s.value)) statics
 
-abbrev pub array_of : List ℕ → IdSize → Sub → Option (ℕ × List ℕ)
-array_of bytes size s = array_of_item bytes size s.item
+abbrev pub values_of_constants : List ConstantItem → List (ℕ × Span)
+values_of_constants constants = map (λ (c : ConstantItem). (c.code, c.value)) constants
+
+-- the IDs among values
+abbrev pub value_ids : List ℕ → IdSize → List (ℕ × Span) → List ℕ
+value_ids bytes size [] = []
+value_ids bytes size (v ∷ vs) = if is_id_type v.0 then big_number (id_len size) (drop v.1.start bytes) ∷ value_ids bytes size vs else value_ids bytes size vs
+
+-- the slots of those values, numbered from a number on
+abbrev pub value_names : (ℕ → Slot) → ℕ → List (ℕ × Span) → List Slot
+value_names slot i [] = []
+value_names slot i (v ∷ vs) = if is_id_type v.0 then slot i ∷ value_names slot (i + 1) vs else value_names slot (i + 1) vs
+
+-- the row of a class: the IDs in its statics and constants, then those of its super class, loader, signers and domain
+abbrev pub class_row : List ℕ → IdSize → ClassItem → List ℕ
+class_row bytes size c =
+    value_ids bytes size (values_of_statics c.statics) ++ value_ids bytes size (values_of_constants c.constants) ++ c.super ∷ c.loader ∷ c.signers ∷ c.domain ∷ []
+
+-- the names of its slots
+abbrev pub class_names : ClassItem → List Slot
+class_names c =
+    value_names (λ i. slots.Static i) 0 (values_of_statics c.statics)
+    ++ value_names (λ i. slots.Const i) 0 (values_of_constants c.constants)
+    ++ slots.Super ∷ slots.Loader ∷ slots.Signers ∷ slots.Domain ∷ []
+
+-- the bytes of its statics' values
+abbrev pub static_bytes : List StaticItem → ℕ
+static_bytes statics = sum_by (λ (s : StaticItem). s.value.len) statics
+
+-- an object by its ID, its row and its shape
+abbrev pub ObjectEntry : Type 0
+ObjectEntry = ℕ × List ℕ × ObjectShape
+
+-- the object of a sub-record. A primitive array has an empty row
+abbrev pub entry_of_item : List ℕ → IdSize → Item → Option ObjectEntry
+entry_of_item bytes size (subs.Root kind id) = None
+entry_of_item bytes size (subs.Class c) = Some (c.id, class_row bytes size c, ClassObject (static_bytes c.statics) (class_names c))
+entry_of_item bytes size (ObjArray id class elements) = Some (id, array_row bytes size class elements, ObjectArray elements.len)
+entry_of_item bytes size (PrimArray id element count) = Some (id, [], PrimitiveArray element (count * element_len element))
+
+abbrev pub entry_of : List ℕ → IdSize → Sub → Option ObjectEntry
+entry_of bytes size s = entry_of_item bytes size s.item
 
 -- the arrays of sub-records, the first of each ID
-abbrev pub arrays_of : List ℕ → IdSize → List Sub → List (ℕ × List ℕ)
-arrays_of bytes size list = firsts (λ (a : ℕ × List ℕ). a.0) (filter_map (array_of bytes size) list)
+abbrev pub entries_of : List ℕ → IdSize → List Sub → List ObjectEntry
+entries_of bytes size list = firsts (λ (a : ObjectEntry). a.0) (filter_map (entry_of bytes size) list)
 
 -- the ID of an array
-abbrev pub array_id_of_item : Item → Option ℕ
-array_id_of_item (subs.Root kind id) = None
-array_id_of_item (ObjArray id class elements) = Some id
+abbrev pub id_of_item : Item → Option ℕ
+id_of_item (subs.Root kind id) = None
+id_of_item (subs.Class c) = Some c.id
+id_of_item (ObjArray id class elements) = Some id
+id_of_item (PrimArray id element count) = Some id
 
-abbrev pub array_id : Sub → Option ℕ
-array_id s = array_id_of_item s.item
+abbrev pub object_id : Sub → Option ℕ
+object_id s = id_of_item s.item
 
 -- the IDs of the arrays of sub-records, each once
-abbrev pub array_ids : List Sub → List ℕ
-array_ids list = firsts (λ (id : ℕ). id) (filter_map array_id list)
+abbrev pub object_ids : List Sub → List ℕ
+object_ids list = firsts (λ (id : ℕ). id) (filter_map object_id list)
 
 -- the root of a root sub-record
 abbrev pub root_of_item : Item → Option Root
 root_of_item (subs.Root kind id) = Some (record { kind = kind; id = id })
+root_of_item (subs.Class c) = None
 root_of_item (ObjArray id class elements) = None
+root_of_item (PrimArray id element count) = None
 
 abbrev pub roots_in : List Sub → List Root
 roots_in list = filter_map (λ (s : Sub). root_of_item s.item) list
 
--- at most how many slots and objects a sub-record makes
+abbrev pub class_weight : ClassItem → ℕ
+class_weight c = 5 + length c.statics + length c.constants + static_bytes c.statics
+
+-- at most how many slots, objects and recorded bytes a sub-record makes
 abbrev pub item_weight : Item → ℕ
 item_weight (subs.Root kind id) = 1
+item_weight (subs.Class c) = class_weight c
 item_weight (ObjArray id class elements) = 1 + elements.len
+item_weight (PrimArray id element count) = 1 + count * element_len element
 
 abbrev pub weight : List Sub → ℕ
 weight list = sum_by (λ (s : Sub). item_weight s.item) list
 
--- the elements of an array lie in the file
-abbrev pub IsItemWithin : ℕ → Item → Type 0
-IsItemWithin size (subs.Root kind id) = Unit {0}
-IsItemWithin size (ObjArray id class elements) = elements.start + elements.len ≤ size
+-- a value lies in a file of so many bytes, and has those of its type
+pub record IsValueWithin (size : IdSize) (n : ℕ) (v : ℕ × Span) : Type 0 where
+  pub within : v.1.start + v.1.len ≤ n
+  pub typed : v.1.len ≡ value_len size v.0
+
+-- so do the statics and constants of a class, and there are no more bytes of statics than in the file
+pub record IsClassWithin (size : IdSize) (n : ℕ) (c : ClassItem) : Type 0 where
+  pub statics : All (IsValueWithin size n) (values_of_statics c.statics)
+  pub constants : All (IsValueWithin size n) (values_of_constants c.constants)
+  pub bytes : static_bytes c.statics ≤ n
+
+-- what an object has lies in a file of so many bytes
+abbrev pub IsItemWithin : IdSize → ℕ → Item → Type 0
+IsItemWithin size n (subs.Root kind id) = Unit {0}
+IsItemWithin size n (subs.Class c) = IsClassWithin size n c
+IsItemWithin size n (ObjArray id class elements) = elements.start + elements.len ≤ n
+IsItemWithin size n (PrimArray id element count) = count * element_len element ≤ n
 
 -- sub-records whose elements lie in the file, and that are few enough for numbers of four bytes
-pub record AreWithin (bytes : List ℕ) (list : List Sub) : Type 0 where
-  pub each : All (λ (s : Sub). IsItemWithin (length bytes) s.item) list
+pub record AreWithin (size : IdSize) (bytes : List ℕ) (list : List Sub) : Type 0 where
+  pub each : All (λ (s : Sub). IsItemWithin size (length bytes) s.item) list
   pub few : weight list ≤ 2147483647

@@ -1,14 +1,9 @@
--- An object array from its row of IDs: its elements, and then its class.
-use Rattle.std.specs.Prelude.{ℕ, ◌+◌, ◌-◌, ◌*◌, ◌≤◌, nat_lt, if◌then◌else◌, List, [], ◌∷◌, length, map, Option, Some, None}
-use Rattle.std.specs.List.{zip}
-use Rattle.hd_terms.specs.declared.IdSize.{IdSize}
-use Rattle.hd_terms.specs.declared.Group.TheVariants as groups
+-- The slots of an object array from its row of IDs: its elements, and then its class.
+use Rattle.std.specs.Prelude.{ℕ, ◌+◌, ◌-◌, nat_lt, if◌then◌else◌, List, [], ◌∷◌, Option, Some, None}
 use Rattle.hd_terms.specs.declared.Slot.{Slot}
 use Rattle.hd_terms.specs.declared.Slot.TheVariants as slots
-use Rattle.hd_terms.specs.Records.{id_len, largest_file}
-use Rattle.hd_terms.specs.Dump.{SlotEntry, Object}
+use Rattle.hd_terms.specs.Dump.{SlotEntry}
 use Rattle.hd_terms.specs.Slots.{strong_slot}
-use Rattle.hd_graph.specs.Cuts.{last_from}
 
 -- the slots of a row: the last ID is the class's, those before it the elements', numbered from a number on
 abbrev pub row_slots : ℕ → List ℕ → List SlotEntry
@@ -27,21 +22,3 @@ row_place n slots.Super = None
 row_place n slots.Loader = None
 row_place n slots.Signers = None
 row_place n slots.Domain = None
-
--- the elements of a row are no more bytes than a file has
-abbrev pub IsSmallRow : IdSize → List ℕ → Type 0
-IsSmallRow size row = (length row - 1) * id_len size ≤ largest_file
-
--- the array of an ID and a row
-abbrev pub row_object : IdSize → ℕ → List ℕ → Object
-row_object size id row = record {
-  id = id;
-  group = groups.Class (last_from 0 row);
-  bytes = (length row - 1) * id_len size;
-  slots = row_slots 0 row;
-  referent = None;
-}
-
--- the arrays of IDs and their rows
-abbrev pub row_objects : IdSize → List ℕ → List (List ℕ) → List Object
-row_objects size ids rows = map (λ (p : ℕ × List ℕ). row_object size p.0 p.1) (zip ids rows)

@@ -1,10 +1,10 @@
 -- The dump that a graph stands for.
-use Rattle.std.specs.Prelude.{◌≡◌, ◌<◌, ◌^◌, length, map, All}
+use Rattle.std.specs.Prelude.{◌<◌, ◌^◌, length, map, All}
 use Rattle.hd_terms.specs.Dump.{Dump, Repeated, Root}
 use Rattle.hd_graph.specs.declared.graph.Graph.TheInside.{Inside}
 use Rattle.hd_graph.specs.declared.graph.RootRow.{RootRow}
 use Rattle.hd_graph.specs.declared.graph.Repeats.{Repeats}
-use Rattle.hd_graph.specs.Arrays.{IsSmallRow, row_objects}
+use Rattle.hd_graph.specs.Shapes.{IsSmall, row_objects, AreColumns}
 
 -- a root as it is kept
 abbrev pub root_of_row : RootRow → Root
@@ -14,19 +14,19 @@ root_of_row r = record { kind = r.kind; id = r.id }
 abbrev pub repeated_in : Repeats → Repeated
 repeated_in r = record { objects = r.objects; strings = r.strings; loads = r.loads }
 
--- a row for each object, the roots, and what is repeated. No instance is read so far, and so none is opaque
+-- a row and a shape for each object, the roots, and what is repeated. No instance is read so far, and so none is opaque
 abbrev pub dump_of_graph : Inside → Dump
 dump_of_graph a = record {
-  objects = row_objects a.id_size a.references.ids a.references.rows;
+  objects = row_objects a.shapes a.references.ids a.references.rows;
   roots = map root_of_row a.roots.items;
   repeated = repeated_in a.repeats;
   opaque = 0;
 }
 
--- what holds of what is kept: a row for each object, no more elements than a file has bytes for, and numbers of four
--- bytes suffice
+-- what holds of what is kept: a row and a shape for each object, no more recorded bytes than a file has, and numbers of
+-- four bytes suffice
 pub record IsGraph (a : Inside) : Type 0 where
-  pub rows : length a.references.rows ≡ length a.references.ids
-  pub small : All (IsSmallRow a.id_size) a.references.rows
+  pub columns : AreColumns a.shapes a.references.ids a.references.rows
+  pub small : All IsSmall a.shapes
   pub few : length a.references.ids < 2 ^ 31
   pub few_roots : length a.roots.items < 2 ^ 32

@@ -4,6 +4,8 @@ pub mod Cuts
 pub mod Parts
 pub mod Inside
 pub mod Arrays
+pub mod Shapes
+pub mod KeptShapes
 pub mod GraphInside
 pub mod Firsts
 pub mod ArrayRows

@@ -1,20 +1,24 @@
 //! Making the graph of a dump, in passes over its sub-records.
 ghost use Rattle.std.specs.Prelude.{◌≡◌, ◌+◌, ◌*◌, ◌≤◌, ◌<◌, ◌-◌, ◌^◌, [], ◌∷◌, ◌++◌, length, map, All, IfOk, IfErr, OnOk};
 ghost use Rattle.hd_terms.specs.Records.{id_len};
+ghost use Rattle.hd_terms.specs.Types.{element_len};
 ghost use Rattle.hd_terms.specs.Objects.{IsDumpOf};
 ghost use Rattle.hd_graph.specs.Bodies.{ReadsBodies, IsSpanWithin, body_at};
-ghost use Rattle.hd_graph.specs.ArrayRows.{AreWithin, IsItemWithin, array_ids, array_row, id_count, ids_in, item_weight};
-ghost use Rattle.hd_graph.specs.Building.{IsBodiesFaultOrMemory, IsNullFaultOrMemory, IsNullAtOrMemory, IsReadFaultOrMemory, IsNumbered, NumbersOneMore, HasNoRows, HasRowsOf, FillsItem};
+ghost use Rattle.hd_graph.specs.ArrayRows.{AreWithin, IsItemWithin, object_ids, array_row, id_count, ids_in, item_weight};
+ghost use Rattle.hd_graph.specs.Building.{IsBodiesFaultOrMemory, IsNullFaultOrMemory, IsNullAtOrMemory, IsNullIdOrMemory, IsReadFaultOrMemory, IsNumbered, NumbersOneMore, HasNoRows, HasRowsOf, FillsItem, columns};
+ghost use Rattle.hd_graph.specs.Noted.{NotesId};
 ghost use Rattle.hd_subs.specs.Reading.{AppendsSegment, IsSegmentFaultOrMemory};
 ghost use Rattle.hd_subs.specs.Views.{sub_view, item_view};
 
+use crate::class_rows::push_class;
 use crate::graph::{Graph, Repeats, RootRow};
 use crate::id_hasher::IdHasher;
 use crate::noted::{note_id, repeated_loads, repeated_strings};
 use crate::references::References;
+use crate::shape::Shapes;
 use hd_records::{Segments, read_records};
 use hd_subs::{Item, Sub, Subs, read_segment_into};
-use hd_terms::{Cause, IdSize, ReadFault, Span};
+use hd_terms::{Cause, IdSize, ReadFault, Span, element_len};
 use indexmap::IndexSet;
 use std::alloc::{AllocError, Global};
 
@@ -56,33 +60,48 @@ fn read_bodies(
     Ok(list)
 }
 
-/// Numbers an array, if its ID is new, or counts it as repeated, or keeps a root. An array with ID 0 is a fault.
+/// Numbers an object by its ID, if that is new, and counts it as repeated if it isn't. The ID 0 is a fault.
+fn number_object(
+    ids: &mut IndexSet<u64, IdHasher>,
+    repeated: &mut u64,
+    id: u64,
+    offset: u64,
+) -> Result<(), ReadFault>
+    requires { repeated.old + 1 < 2 ^ 64 }
+    ensures ok { OnOk result ((0 < id) × NotesId id ids.old.keys repeated.old ids.new.keys repeated.new) }
+    ensures err { IfErr result (λ f. IsNullIdOrMemory id offset f) }
+{
+    if id == 0 {
+        return Err(ReadFault {
+            cause: Cause::NullObject,
+            offset,
+        });
+    }
+    note_id(ids, repeated, id)?;
+    Ok(())
+}
+
+/// Numbers an object, if its ID is new, or counts it as repeated, or keeps a root. An object with ID 0 is a fault.
 fn number_one(
     ids: &mut IndexSet<u64, IdHasher>,
     roots: &mut Vec<RootRow>,
     repeated: &mut u64,
-    sub: Sub,
+    sub: Sub<'_>,
 ) -> Result<(), ReadFault>
     requires { repeated.old + 1 < 2 ^ 64 }
-    ensures ok { OnOk result (NumbersOneMore (sub_view sub) ids.old.keys roots.old.items repeated.old ids.new.keys roots.new.items repeated.new) }
-    ensures err { IfErr result (λ f. IsNullAtOrMemory (sub_view sub) f) }
+    ensures ok { OnOk result (NumbersOneMore (sub_view sub.entry) ids.old.keys roots.old.items repeated.old ids.new.keys roots.new.items repeated.new) }
+    ensures err { IfErr result (λ f. IsNullAtOrMemory (sub_view sub.entry) f) }
 {
     match sub.item {
         Item::Root(kind, id) => roots.push(RootRow { kind, id })?,
-        Item::ObjArray { id, .. } => {
-            if id == 0 {
-                return Err(ReadFault {
-                    cause: Cause::NullObject,
-                    offset: sub.offset,
-                });
-            }
-            note_id(ids, repeated, id)?;
-        }
+        Item::Class(class) => number_object(ids, repeated, class.id, sub.offset)?,
+        Item::ObjArray { id, .. } => number_object(ids, repeated, id, sub.offset)?,
+        Item::PrimArray { id, .. } => number_object(ids, repeated, id, sub.offset)?,
     }
     Ok(())
 }
 
-/// Numbers the arrays by their IDs, each ID once, counts those that are repeated, and collects the roots. An array
+/// Numbers the objects by their IDs, each ID once, counts those that are repeated, and collects the roots. An object
 /// with ID 0 is a fault.
 fn number(alloc: Global, list: &Subs) -> Result<Numbered, ReadFault>
     ensures ok { IfOk result (λ n. IsNumbered list.now n.ids.keys n.roots.items n.repeated) }
@@ -151,46 +170,74 @@ fn push_array(
     Ok(())
 }
 
-/// Adds the row of an array, if its object comes next.
+/// The recorded bytes of a primitive array of so many elements of a type.
+fn bytes_of_elements(element: u8, count: u32) -> u32
+    requires { count * element_len element < 2 ^ 32 }
+    ensures { result ≡ count * element_len element }
+{
+    count * u32::from(element_len(element))
+}
+
+/// Adds the row and the shape of an object, if it comes next.
 fn fill_one(
+    alloc: Global,
     references: &mut References,
+    shapes: &mut Shapes,
     id_size: IdSize,
     bytes: &[u8],
-    item: Item,
+    item: Item<'_>,
 ) -> Result<(), AllocError>
-    requires within { IsItemWithin (length bytes.now) (item_view item) }
+    requires within { IsItemWithin id_size (length bytes.now) (item_view item) }
     requires room { length references.old.ids + references.old.count + item_weight (item_view item) < 2 ^ 32 - 1 }
+    requires few { length shapes.old < 2 ^ 32 - 1 }
     requires filled { references.old.filling ≡ [] }
-    ensures { OnOk result (FillsItem bytes.now id_size (item_view item) references.old references.new) }
+    ensures { OnOk result (FillsItem bytes.now id_size (item_view item.entry) (columns references.old shapes.old) (columns references.new shapes.new)) }
 {
-    if let Item::ObjArray {
-        id,
-        class,
-        elements,
-    } = item
-    {
-        if references.is_next(id) {
-            push_array(references, id_size, bytes, class, elements)?;
+    match item {
+        Item::Root(..) => {}
+        Item::Class(class) => {
+            if references.is_next(class.id) {
+                push_class(alloc, references, shapes, id_size, bytes, class)?;
+            }
+        }
+        Item::ObjArray {
+            id,
+            class,
+            elements,
+        } => {
+            if references.is_next(id) {
+                push_array(references, id_size, bytes, class, elements)?;
+                shapes.push_object_array(elements.len as u32)?;
+            }
+        }
+        Item::PrimArray { id, element, count } => {
+            if references.is_next(id) {
+                references.end_row()?;
+                let bytes = bytes_of_elements(element, count);
+                shapes.push_primitive_array(element, bytes)?;
+            }
         }
     }
     Ok(())
 }
 
-/// Adds the row of each object, in the order of their numbers.
+/// Adds the row and the shape of each object, in the order of their numbers.
 fn fill_rows(
+    alloc: Global,
     references: &mut References,
+    shapes: &mut Shapes,
     id_size: IdSize,
     bytes: &[u8],
     list: &Subs,
 ) -> Result<(), AllocError>
-    requires within { AreWithin bytes.now list.now }
-    requires ids { references.old.ids ≡ array_ids list.now }
+    requires within { AreWithin id_size bytes.now list.now }
+    requires ids { references.old.ids ≡ object_ids list.now }
     requires few { length references.old.ids < 2 ^ 31 }
-    requires empty { HasNoRows references.old }
-    ensures { OnOk result (HasRowsOf bytes.now id_size list.now references.new) }
+    requires empty { HasNoRows (columns references.old shapes.old) }
+    ensures { OnOk result (HasRowsOf bytes.now id_size list.now (columns references.new shapes.new)) }
 {
     for i in 0..list.len() {
-        fill_one(references, id_size, bytes, list.get(i).item)?;
+        fill_one(alloc, references, shapes, id_size, bytes, list.get(i).item)?;
     }
     Ok(())
 }
@@ -213,12 +260,20 @@ pub fn open_plain(alloc: Global, bytes: &[u8]) -> Result<Graph, ReadFault>
         roots,
         repeated,
     } = number(alloc, &list)?;
+    let mut shapes = Shapes::with_capacity(alloc, ids.len())?;
     let mut references = References::new(alloc, ids)?;
-    fill_rows(&mut references, records.id_size, bytes, &list)?;
+    fill_rows(
+        alloc,
+        &mut references,
+        &mut shapes,
+        records.id_size,
+        bytes,
+        &list,
+    )?;
     let repeats = Repeats {
         objects: repeated,
         strings,
         loads,
     };
-    Ok(Graph::new(records.id_size, references, roots, repeats))
+    Ok(Graph::new(references, shapes, roots, repeats))
 }

@@ -3,17 +3,21 @@ ghost use Rattle.std.specs.Prelude.{◌≡◌, ◌<◌, ◌^◌, ℕ, length, ma
 ghost use Rattle.hd_terms.specs.Edges.{index_of};
 ghost use Rattle.hd_terms.specs.EditedDump.{same_slot};
 ghost use Rattle.hd_terms.specs.Dump.{SlotEntry, object_at};
+ghost use Rattle.hd_terms.specs.declared.Slot.{Slot};
 ghost use Rattle.hd_graph.specs.Arrays.{row_place};
+ghost use Rattle.hd_graph.specs.Shapes.{shape_bytes, slot_name, shape_place, IsNamedAt, HasFewNames};
+ghost use Rattle.hd_graph.specs.KeptShapes.{shape_view};
 
 use crate::references::References;
-use hd_terms::{EdgeKind, Group, IdSize, RootKind, Slot};
+use crate::shape::{Shape, Shapes};
+use hd_terms::{EdgeKind, Group, RootKind, Slot};
 use std::marker::Model;
 
 /// The objects, references and roots of a dump. Objects are numbered from 0 in file order.
 #[derive(Drop)]
 pub struct Graph {
-    id_size: IdSize,
     references: References,
+    shapes: Shapes,
     roots: Vec<RootRow>,
     repeats: Repeats,
 }
@@ -67,6 +71,73 @@ fn place_in_row(len: u32, slot: Slot) -> Option<u32>
     }
 }
 
+/// Whether two slots are one.
+fn is_same_slot(a: Slot, b: Slot) -> bool
+    ensures { result ≡ same_slot a b }
+{
+    match (a, b) {
+        (Slot::Field(i), Slot::Field(j))
+        | (Slot::Element(i), Slot::Element(j))
+        | (Slot::Static(i), Slot::Static(j))
+        | (Slot::Const(i), Slot::Const(j)) => i == j,
+        (Slot::OfClass, Slot::OfClass)
+        | (Slot::Super, Slot::Super)
+        | (Slot::Loader, Slot::Loader)
+        | (Slot::Signers, Slot::Signers)
+        | (Slot::Domain, Slot::Domain) => true,
+        _ => false,
+    }
+}
+
+/// The place of a slot among names, if it is there.
+fn place_among(names: &[Slot], slot: Slot) -> Option<u32>
+    requires { length names.now < 2 ^ 32 }
+    ensures { result ≡ position (λ (name : Slot). same_slot name slot) names.now }
+{
+    for i in 0..names.len() {
+        if is_same_slot(names[i], slot) {
+            return Some(i as u32);
+        }
+    }
+    None
+}
+
+/// The name of the slot at a place of an object with so many.
+fn slot_at(shape: Shape<'_>, len: u32, i: u32) -> Slot
+    requires place { i < len }
+    requires named { IsNamedAt (shape_view shape) i }
+    ensures { result ≡ slot_name (shape_view shape.entry) len i }
+{
+    match shape {
+        Shape::Class(class) => class.names[i as usize],
+        _ if i == len - 1 => Slot::OfClass,
+        _ => Slot::Element(i),
+    }
+}
+
+/// The place of a slot among those of an object with so many, if it has the slot.
+fn place_in(shape: Shape<'_>, len: u32, slot: Slot) -> Option<u32>
+    requires { HasFewNames (shape_view shape) }
+    ensures { result ≡ shape_place (shape_view shape.entry) len slot }
+{
+    match shape {
+        Shape::ObjectArray { .. } => place_in_row(len, slot),
+        Shape::PrimitiveArray { .. } => place_in_row(len, slot),
+        Shape::Class(class) => place_among(class.names.as_slice(), slot),
+    }
+}
+
+/// The recorded bytes of an object of a shape.
+fn recorded_bytes(shape: Shape<'_>) -> u32
+    ensures { result ≡ shape_bytes (shape_view shape.entry) }
+{
+    match shape {
+        Shape::ObjectArray { bytes } => bytes,
+        Shape::PrimitiveArray { bytes, .. } => bytes,
+        Shape::Class(class) => class.bytes,
+    }
+}
+
 impl Model for Graph {
     ghost use Rattle.hd_terms.specs.Dump.{Dump};
 
@@ -80,25 +151,25 @@ impl Model for Graph {
 }
 
 impl Graph {
-    ghost use Rattle.hd_graph.specs.Arrays.{IsSmallRow, row_objects};
+    ghost use Rattle.hd_graph.specs.Shapes.{IsSmall, AreColumns, row_objects};
     ghost use Rattle.hd_graph.specs.GraphInside.{root_of_row, repeated_in};
 
-    /// The graph of references, a row for each object, and roots, and what was repeated.
+    /// The graph of references and shapes, a row and a shape for each object, and roots, and what was repeated.
     pub(crate) fn new(
-        id_size: IdSize,
         references: References,
+        shapes: Shapes,
         roots: Vec<RootRow>,
         repeats: Repeats,
     ) -> Graph
-        requires rows { length references.rows ≡ length references.ids }
-        requires small { All (IsSmallRow id_size) references.rows }
+        requires columns { AreColumns shapes references.ids references.rows }
+        requires small { All IsSmall shapes }
         requires few { length references.ids < 2 ^ 31 }
         requires few_roots { length roots.items < 2 ^ 32 }
-        ensures { result ≡ record { objects = row_objects id_size references.ids references.rows; roots = map root_of_row roots.items; repeated = repeated_in repeats; opaque = 0 } }
+        ensures { result ≡ record { objects = row_objects shapes references.ids references.rows; roots = map root_of_row roots.items; repeated = repeated_in repeats; opaque = 0 } }
     {
         Graph {
-            id_size,
             references,
+            shapes,
             roots,
             repeats,
         }
@@ -142,23 +213,27 @@ impl Graph {
         self.references.index_of(id)
     }
 
-    /// What an object is counted under: an object array under its array class.
+    /// What an object is counted under: an object array under its array class, a primitive array under the type of its
+    /// elements, a class among the classes.
     pub fn group_of(&self, o: u32) -> Group
         requires { o < length self.now.objects }
         ensures { result ≡ (object_at self.now o).group }
     {
-        Group::Class(self.references.last(o))
+        match self.shapes.get(o) {
+            Shape::ObjectArray { .. } => Group::Class(self.references.last(o)),
+            Shape::PrimitiveArray { element, .. } => Group::Prim(element),
+            Shape::Class(_) => Group::Classes,
+        }
     }
 
-    /// The recorded bytes of an object: of an object array its count times the size of an ID. At most
-    /// 2,147,483,647, as a file has.
+    /// The recorded bytes of an object: of an array its count times the size of an element, which is that of an ID in an
+    /// object array; of a class the sizes of its statics. At most 2,147,483,647, as a file has.
     pub fn bytes_of(&self, o: u32) -> u64
         requires { o < length self.now.objects }
         ensures bytes { result ≡ (object_at self.now o).bytes }
         ensures small { result ≤ 2147483647 }
     {
-        let elements = self.references.row_len(o).saturating_sub(1);
-        u64::from(elements) * self.id_size.bytes() as u64
+        u64::from(recorded_bytes(self.shapes.get(o)))
     }
 
     /// How many slots an object has.
@@ -169,7 +244,9 @@ impl Graph {
         self.references.row_len(o)
     }
 
-    /// The slot at a place of an object: elements first, then the class.
+    /// The slot at a place of an object: of an object array its elements first, then its class; of a class its statics and
+    /// constants that are references, then its super class, loader, signers and protection domain. A primitive array has
+    /// none.
     pub fn slots(&self, o: u32, i: u32) -> SlotRead
         requires object { o < length self.now.objects }
         requires place { i < length (object_at self.now o).slots }
@@ -177,11 +254,7 @@ impl Graph {
         ensures target { result.target ≡ index_of self.now.objects result.id }
     {
         let (id, target) = self.references.get(o, i);
-        let slot = if i == self.references.row_len(o) - 1 {
-            Slot::OfClass
-        } else {
-            Slot::Element(i)
-        };
+        let slot = slot_at(self.shapes.get(o), self.references.row_len(o), i);
         SlotRead {
             slot,
             kind: EdgeKind::Strong,
@@ -196,10 +269,10 @@ impl Graph {
         ensures first { result ≡ position (λ (s : SlotEntry). same_slot s.slot slot) (object_at self.now o).slots }
         ensures only { (i : ℕ) (s : SlotEntry) → slice_get (object_at self.now o).slots i ≡ Some s → same_slot s.slot slot ≡ true → result ≡ Some i }
     {
-        place_in_row(self.references.row_len(o), slot)
+        place_in(self.shapes.get(o), self.references.row_len(o), slot)
     }
 
-    /// The slot that is a reference object's referent, if the object is one. No array is.
+    /// The slot that is a reference object's referent, if the object is one. No array and no class is.
     pub fn referent_of(&self, o: u32) -> Option<Slot>
         requires { o < length self.now.objects }
         ensures { result ≡ (object_at self.now o).referent }

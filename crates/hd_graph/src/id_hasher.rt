@@ -19,7 +19,8 @@ impl IdHasher {
     }
 }
 
-/// The hash of an ID, below 2^32: the upper 8 bits tell objects of a place apart, the others are the place.
+/// The hash of an ID, below 2^32: the scattered number of its block in the lower 28 bits, and above these the place in the
+/// block. So the map looks for all objects of a block at one place, and tells them apart by the upper bits.
 fn mixed(id: u64) -> u64
     ensures { result ≡ id_hash.mixed id }
 {

@@ -2,11 +2,13 @@
 #![tactic(auto)]
 
 mod build;
+mod class_rows;
 mod counts;
 mod graph;
 mod id_hasher;
 mod noted;
 mod references;
+mod shape;
 
 pub use build::open_plain;
 pub use graph::{Graph, RootRead, SlotRead};

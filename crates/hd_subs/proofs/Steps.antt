@@ -5,9 +5,9 @@ use Rattle.std.proofs.lemmas.List.{append-nil, length-append}
 use Rattle.std.proofs.lemmas.List.Concat.{flat_map-append}
 use Rattle.hd_terms.specs.declared.IdSize.{IdSize}
 use Rattle.hd_terms.specs.declared.errors.Cause.{Cause}
-use Rattle.hd_terms.specs.SubRecords.{SubRecord, RootUnknown, ObjectArray, IsSubRecord, sub_record_text, Sub, item_at, subs_at}
+use Rattle.hd_terms.specs.SubRecords.{SubRecord, RootOf, ClassDump, ObjectArray, PrimitiveArray, IsSubRecord, sub_record_text, Sub, item_at, subs_at}
 use Rattle.hd_terms.specs.ReadFaults.{fault, IsStuck, IsSegmentFault}
-use Rattle.hd_subs.specs.Fronts.{BeginsWithSub}
+use Rattle.hd_subs.specs.Fronts.{BeginsWithSub, AppendsSub}
 use Rattle.hd_subs.specs.Reading.{AppendsSegment, HasGrown}
 
 -- what was read, and what is left
@@ -67,9 +67,19 @@ step size base body rest text after old list sub h is f =
           ∙ ap (λ (xs : List Sub). old ++ xs) (sym (subs_at-push size base h.front f.s));
     }
 
+-- the same, of a sub-record that is in the list already
+pub step_appended : (size : IdSize) (base : ℕ) (body rest fields after : List ℕ) (tag other : ℕ) (old list new : List Sub) → IsReadSoFar size base body rest old list → rest ≡ tag ∷ fields → tag ≡ other
+    → AppendsSub size (base + (length body - length rest)) (other ∷ fields) list new after → IsReadSoFar size base body after old new
+step_appended size base body rest fields after tag other old list new h is same a =
+    let s : IsReadSoFar size base body after old (list ++ a.sub ∷ []) =
+    step size base body rest (other ∷ fields) after old list a.sub h (is ∙ ap (λ (t : ℕ). t ∷ fields) same) a.begins in
+    record { front = s.front; whole = s.whole; each = s.each; list_is = a.list_is ∙ s.list_is }
+
 text-some : (s : SubRecord) → 0 < length (sub_record_text s)
-text-some (RootUnknown id) = omega arith
+text-some (RootOf kind id more) = omega arith
+text-some (ClassDump head constants statics fields) = omega arith
 text-some (ObjectArray id serial count class elements) = omega arith
+text-some (PrimitiveArray id serial count element elements) = omega arith
 
 -- what is left then is less
 pub after-lt : (size : IdSize) (at : ℕ) (rest after : List ℕ) (sub : Sub) → BeginsWithSub size at rest sub after → length after < length rest

@@ -1,4 +1,5 @@
 pub mod Views
 pub mod Rows
 pub mod Fronts
+pub mod Parts
 pub mod Reading

@@ -1,18 +1,24 @@
 //! One sub-record, as callers read it.
+use crate::class::ClassDump;
 use hd_terms::{RootKind, Span};
 
 /// What a sub-record holds.
-#[derive(Clone, Copy, Debug, PartialEq, Eq)]
-pub enum Item {
+#[derive(Clone, Copy, Debug)]
+pub enum Item<'a> {
     /// A root of that kind, and the ID that it holds.
     Root(RootKind, u64),
+    /// A class object.
+    Class(&'a ClassDump),
     /// An object array: its ID, the ID of its class, and where in the file the IDs of its elements lie.
     ObjArray { id: u64, class: u64, elements: Span },
+    /// A primitive array: its ID, the type of its elements as HPROF numbers the basic types (4 to 11), and how many
+    /// it has.
+    PrimArray { id: u64, element: u8, count: u32 },
 }
 
 /// A sub-record, and the place of its tag: an offset into the file in bytes.
-#[derive(Clone, Copy, Debug, PartialEq, Eq)]
-pub struct Sub {
+#[derive(Clone, Copy, Debug)]
+pub struct Sub<'a> {
     pub offset: u64,
-    pub item: Item,
+    pub item: Item<'a>,
 }

@@ -1,11 +1,13 @@
 //! A list of sub-records.
-ghost use Rattle.std.specs.Prelude.{◌≡◌, ◌↔◌, ◌<◌, ◌≤◌, [], ◌∷◌, ◌++◌, length, take, slice_get, IsTrue, Some, OnOk, OnErr};
-ghost use Rattle.hd_subs.specs.Views.{sub_view};
-ghost use Rattle.hd_subs.specs.Rows.{row_view};
+ghost use Rattle.std.specs.Prelude.{◌≡◌, ◌↔◌, ◌+◌, ◌^◌, ◌<◌, ◌≤◌, [], ◌∷◌, ◌++◌, length, take, slice_get, IsTrue, Some, OnOk, OnErr};
+ghost use Rattle.hd_terms.specs.SubRecords.{Class};
+ghost use Rattle.hd_subs.specs.Views.{sub_view, class_view};
+ghost use Rattle.hd_subs.specs.Rows.{row_view, IsRowOver};
 
+use crate::class::ClassDump;
 use crate::row::{Kind, Row};
 use crate::sub::{Item, Sub};
-use hd_terms::{RootKind, Span};
+use hd_terms::Span;
 use std::alloc::{AllocError, Global};
 use std::marker::Model;
 
@@ -13,6 +15,7 @@ use std::marker::Model;
 #[derive(Debug, Drop)]
 pub struct Subs {
     rows: Vec<Row>,
+    classes: Vec<ClassDump>,
 }
 
 impl Model for Subs {
@@ -21,17 +24,22 @@ impl Model for Subs {
 
     ghost Value = { List Sub };
 
-    ghost use Rattle.hd_subs.specs.Rows.{row_view};
+    ghost use Rattle.std.specs.Prelude.{length, All};
+    ghost use Rattle.hd_subs.specs.Rows.{row_view, IsRowOver};
 
-    ghost view = { λ s. map row_view s.rows.items };
+    ghost view = { λ s. map (row_view s.classes.items) s.rows.items };
+
+    ghost invariant = { λ s. All (IsRowOver (length s.classes.items)) s.rows.items };
 }
 
-/// What a row says.
-fn sub_of(row: Row) -> Sub
-    ensures { sub_view result ≡ row_view row }
+/// What a row says, over the classes of its list.
+fn sub_of(row: Row, classes: &[ClassDump]) -> Sub<'_>
+    requires { IsRowOver (length classes.now) row }
+    ensures { sub_view result ≡ row_view classes.now row }
 {
     let item = match row.kind {
-        Kind::RootUnknown => Item::Root(RootKind::Unknown, row.id),
+        Kind::Root(kind) => Item::Root(kind, row.id),
+        Kind::Class => Item::Class(&classes[row.class as usize]),
         Kind::ArrayOfFour => Item::ObjArray {
             id: row.id,
             class: row.class,
@@ -48,6 +56,11 @@ fn sub_of(row: Row) -> Sub
                 len: 8 * u64::from(row.count),
             },
         },
+        Kind::PrimArray(element) => Item::PrimArray {
+            id: row.id,
+            element,
+            count: row.count,
+        },
     };
     Sub {
         offset: row.offset,
@@ -62,7 +75,13 @@ impl Subs {
     {
         Subs {
             rows: Vec::new(alloc),
+            classes: Vec::new(alloc),
         }
+    }
+
+    /// Where its memory comes from.
+    pub(crate) fn allocator(&self) -> Global {
+        *self.rows.allocator()
     }
 
     /// How many there are.
@@ -80,19 +99,39 @@ impl Subs {
     }
 
     /// One of them; they are numbered from 0.
-    pub fn get(&self, i: usize) -> Sub
+    pub fn get(&self, i: usize) -> Sub<'_>
         requires { i < length self.now }
         ensures { slice_get self.now i ≡ Some (sub_view result) }
     {
-        sub_of(self.rows[i])
+        sub_of(self.rows[i], self.classes.as_slice())
     }
 
-    /// One more at the end.
+    /// One more at the end, which is no class.
     pub(crate) fn push(&mut self, row: Row) -> Result<(), AllocError>
-        ensures ok { OnOk result (self.new ≡ self.old ++ row_view row ∷ []) }
+        requires { IsRowOver 0 row }
+        ensures ok { OnOk result (self.new ≡ self.old ++ row_view [] row ∷ []) }
         ensures err { OnErr result (self.new ≡ self.old) }
     {
         self.rows.push(row)?;
+        Ok(())
+    }
+
+    /// A class at the end, whose tag lies at a place of the file.
+    pub(crate) fn push_class(&mut self, offset: u64, class: ClassDump) -> Result<(), AllocError>
+        requires { offset + 25 < 2 ^ 64 }
+        ensures ok { OnOk result (self.new ≡ self.old ++ (record { offset = offset; item = Class (class_view class) }) ∷ []) }
+        ensures err { OnErr result (self.new ≡ self.old) }
+    {
+        let row = Row {
+            id: class.id,
+            class: self.classes.len() as u64,
+            offset,
+            count: 0,
+            kind: Kind::Class,
+        };
+        self.rows.reserve(1)?;
+        self.classes.push(class)?;
+        self.rows.push_reserved(row);
         Ok(())
     }
 

@@ -1,5 +1,5 @@
 -- A file has at most one fault, and one that has a dump has none.
-use Rattle.std.proofs.Common.{◌≡◌, ◌≢◌, ◌∙◌, ℕ, ◌+◌, ◌<◌, Bool, true, false, List, [], ◌∷◌, ◌++◌, length, slice_get, Option, Some, None, subst, sym, ap, refl, arith}
+use Rattle.std.proofs.Common.{◌≡◌, ◌≢◌, ◌∙◌, ℕ, ◌+◌, ◌<◌, Bool, true, false, List, [], ◌∷◌, ◌++◌, length, slice_get, Option, Some, None, subst, sym, ap, refl, append_assoc, arith}
 use Rattle.std.specs.List.{flat_map, find, AllZip}
 use Rattle.std.specs.Option.{IsNone}
 use Rattle.std.proofs.lemmas.List.{append-nil}
@@ -10,12 +10,16 @@ use Rattle.hd_terms.specs.declared.errors.Cause.{Cause}
 use Rattle.hd_terms.specs.declared.errors.Cause.TheVariants as causes
 use Rattle.hd_terms.specs.declared.errors.ReadFault.{ReadFault}
 use Rattle.hd_terms.specs.Records.{id_len, id_size_of, header_len, Record, IsFramed, least_body, IsRecord, record_text, HasHeader, AreRecords, segment_spans}
-use Rattle.hd_terms.specs.SubRecords.{SubRecord, RootUnknown, ObjectArray, Sub, sub_record_text, is_known_tag, IsSubRecord, AreSubRecords, AreDumpSubRecords, dump_subs_at}
+use Rattle.hd_terms.specs.declared.RootKind.{RootKind}
+use Rattle.hd_terms.specs.declared.RootKind.TheVariants as roots
+use Rattle.hd_terms.specs.Types.{is_element_type, is_type}
+use Rattle.hd_terms.specs.SubRecords.{SubRecord, RootOf, ClassDump, ObjectArray, PrimitiveArray, Sub, root_tag, sub_record_text, is_known_tag, IsSubRecord, AreSubRecords, AreDumpSubRecords, dump_subs_at}
 use Rattle.hd_terms.specs.Objects.{is_null_object, IsDumpOf}
 use Rattle.hd_terms.specs.Dump.{Dump}
-use Rattle.hd_terms.specs.ReadFaults.{fault, IsRecordsFault, too_large, no_header, other_text, other_id_size, in_a_record, IsStuckRecord, IsRecordFault, IsStuck, unknown, short, IsSegmentFault, IsSubRecordsFault, IsReadFault, in_records, in_sub_records, in_objects}
-use Rattle.hd_terms.proofs.Spellings.{IsEnd, same_texts, whole_has_no_end, cut_off_ends}
-use Rattle.hd_terms.proofs.OneReading.{framed_apart, records_apart, no_record, sub_records_apart, no_sub_record, same_file, same_size, same_bodies}
+use Rattle.hd_terms.specs.ReadFaults.{fault, IsRecordsFault, too_large, no_header, other_text, other_id_size, in_a_record, IsCutOff, IsStuckRecord, IsRecordFault, IsStuck, unknown, short, other_type, IsBeforeType, other_class_type, IsSegmentFault, IsSubRecordsFault, IsReadFault, in_records, in_sub_records, in_objects}
+use Rattle.hd_terms.proofs.Spellings.{same_tag, behind_tag, IsEnd, same_texts, whole_has_no_end, cut_off_ends}
+use Rattle.hd_terms.proofs.Classes.{no_class}
+use Rattle.hd_terms.proofs.OneReading.{framed_apart, records_apart, no_record, root_or_class, root_or_primitive, primitive_fields, primitive_fronts, sub_records_apart, no_sub_record, same_file, same_size, same_bodies}
 
 -- the records
 
@@ -108,33 +112,117 @@ same_records_fault bytes f g (in_a_record size header h) (in_a_record size' head
 
 -- the sub-records
 
+-- the tag of a root is known
+root_known : (kind : RootKind) → is_known_tag (root_tag kind) ≡ true
+root_known roots.Unknown = refl
+root_known roots.JniGlobal = refl
+root_known roots.JniLocal = refl
+root_known roots.JavaFrame = refl
+root_known roots.NativeStack = refl
+root_known roots.StickyClass = refl
+root_known roots.ThreadBlock = refl
+root_known roots.MonitorUsed = refl
+root_known roots.Thread = refl
+
 -- a text's tag is known
 known : (size : IdSize) (s : SubRecord) (tag : ℕ) (more z : List ℕ) → tag ∷ more ≡ sub_record_text s ++ z → is_known_tag tag ≡ true
-known size (RootUnknown id) tag more z e = let same : tag ≡ 0xff = cc in ap is_known_tag same
+known size (RootOf kind id rest) tag more z e = ap is_known_tag (same_tag tag (root_tag kind) _ _ e) ∙ root_known kind
+known size (ClassDump head constants statics fields) tag more z e = let same : tag ≡ 0x20 = cc in ap is_known_tag same
 known size (ObjectArray id serial count class elements) tag more z e = let same : tag ≡ 0x22 = cc in ap is_known_tag same
+known size (PrimitiveArray id serial count element elements) tag more z e = let same : tag ≡ 0x23 = cc in ap is_known_tag same
 
 -- true isn't false
 never_both : (b : Bool) → b ≡ true → b ≡ false → ⊥
 never_both b holds fails = cc
 
+-- the fields of a primitive array, grouped to the right
+fields : (a b c : List ℕ) (element : ℕ) (d : List ℕ) → a ++ b ++ c ++ element ∷ d ≡ a ++ (b ++ (c ++ (element ∷ d)))
+fields a b c element d = simp append_assoc
+
+-- with what follows it behind
+behind : (a b c : List ℕ) (element : ℕ) (d x : List ℕ) → (a ++ b ++ c ++ element ∷ d) ++ x ≡ a ++ b ++ c ++ element ∷ (d ++ x)
+behind a b c element d x = primitive_fields a b c element d x ∙ sym (fields a b c element (d ++ x))
+
+-- no sub-record begins with the fields of a primitive array up to a type that no element has
+no_other_type : (size : IdSize) (s : SubRecord) (id serial count : List ℕ) (element : ℕ) (more z : List ℕ) → IsSubRecord size s
+    → length id ≡ id_len size → length serial ≡ 4 → length count ≡ 4 → is_element_type element ≡ false → 0x23 ∷ id ++ serial ++ count ++ element ∷ more ≡ sub_record_text s ++ z → ⊥
+no_other_type size (RootOf kind id' rest) id serial count element more z is li ls lc other e = root_or_primitive kind (sym (same_tag _ _ _ _ e))
+no_other_type size (ClassDump head constants statics fields) id serial count element more z is li ls lc other e = let differ : ◌≡◌ {A = ℕ} 0x23 0x20 = same_tag _ _ _ _ e in omega arith
+no_other_type size (ObjectArray id' serial' count' class elements) id serial count element more z is li ls lc other e = let differ : ◌≡◌ {A = ℕ} 0x23 0x22 = same_tag _ _ _ _ e in omega arith
+no_other_type size (PrimitiveArray id' serial' count' element' elements) id serial count element more z is li ls lc other e =
+    let same = primitive_fronts id id' serial serial' count count' element element' more (elements ++ z)
+    (sym (fields id serial count element more) ∙ behind_tag _ _ _ _ e ∙ primitive_fields id' serial' count' element' elements z)
+    (li ∙ sym is.0) (ls ∙ sym is.1) (lc ∙ sym is.2) in
+    never_both (is_element_type element) (ap is_element_type same.3 ∙ is.3) other
+
+-- nor with the fields of a class up to a type that there is not
+no_other_class_type : (size : IdSize) (s : SubRecord) (before : List ℕ) (code : ℕ) (more z : List ℕ) → IsSubRecord size s → IsBeforeType size before → is_type code ≡ false → 0x20 ∷ before ++ code ∷ more ≡ sub_record_text s ++ z → ⊥
+no_other_class_type size (RootOf kind id rest) before code more z is front other e = root_or_class kind (sym (same_tag _ _ _ _ e))
+no_other_class_type size (ClassDump head constants statics fields) before code more z is front other e =
+    no_class size before code more head constants statics fields z front other (behind_tag _ _ _ _ e) is.0 is.1 is.2 is.3
+no_other_class_type size (ObjectArray id serial count class elements) before code more z is front other e = let differ : ◌≡◌ {A = ℕ} 0x20 0x22 = same_tag _ _ _ _ e in omega arith
+no_other_class_type size (PrimitiveArray id serial count element elements) before code more z is front other e = let differ : ◌≡◌ {A = ℕ} 0x20 0x23 = same_tag _ _ _ _ e in omega arith
+
 -- no sub-record begins bytes that are stuck
 stuck_ends : (size : IdSize) (rest : List ℕ) (cause : Cause) → IsStuck size rest cause → IsEnd SubRecord sub_record_text (IsSubRecord size) (sub_records_apart size) rest
 stuck_ends size rest cause (unknown tag more e other) = λ s z is same. never_both (is_known_tag tag) (known size s tag more z (sym e ∙ same)) other
 stuck_ends size rest cause (short s is cut) = cut_off_ends SubRecord sub_record_text (IsSubRecord size) (sub_records_apart size) rest s is cut
+stuck_ends size rest cause (other_type id serial count element more li ls lc e other) = λ s z is same. no_other_type size s id serial count element more z is li ls lc other (sym e ∙ same)
+stuck_ends size rest cause (other_class_type before code more front e other) = λ s z is same. no_other_class_type size s before code more z is front other (sym e ∙ same)
 
 -- no bytes aren't stuck
 stuck_some : (size : IdSize) (rest : List ℕ) (cause : Cause) → IsStuck size rest cause → rest ≢ []
 stuck_some size rest cause (unknown tag more e other) none = let both : tag ∷ more ≡ [] = sym e ∙ none in cc
 stuck_some size rest cause (short s is cut) none = cut.some none
+stuck_some size rest cause (other_type id serial count element more li ls lc e other) none = let both : 0x23 ∷ id ++ serial ++ count ++ element ∷ more ≡ [] = sym e ∙ none in cc
+stuck_some size rest cause (other_class_type before code more front e other) none = let both : 0x20 ∷ before ++ code ∷ more ≡ [] = sym e ∙ none in cc
+
+-- bytes whose first one is no tag are no part of a sub-record
+unknown_or_short : (size : IdSize) (rest : List ℕ) (tag : ℕ) (more : List ℕ) (s : SubRecord) → rest ≡ tag ∷ more → is_known_tag tag ≡ false → IsCutOff rest (sub_record_text s) → ⊥
+unknown_or_short size rest tag more s e other cut =
+    never_both (is_known_tag tag) (known size s tag (more ++ cut.missing) [] (ap (λ (xs : List ℕ). xs ++ cut.missing) (sym e) ∙ cut.whole ∙ sym (append-nil (sub_record_text s)))) other
+
+-- nor are the fields of a primitive array up to a type that no element has
+other_type_or_short : (size : IdSize) (rest id serial count : List ℕ) (element : ℕ) (more : List ℕ) (s : SubRecord) → IsSubRecord size s → length id ≡ id_len size → length serial ≡ 4 → length count ≡ 4
+    → rest ≡ 0x23 ∷ id ++ serial ++ count ++ element ∷ more → is_element_type element ≡ false → IsCutOff rest (sub_record_text s) → ⊥
+other_type_or_short size rest id serial count element more s is li ls lc e other cut =
+    no_other_type size s id serial count element (more ++ cut.missing) [] is li ls lc other
+    (ap (λ (xs : List ℕ). 0x23 ∷ xs) (sym (behind id serial count element more cut.missing)) ∙ ap (λ (xs : List ℕ). xs ++ cut.missing) (sym e) ∙ cut.whole ∙ sym (append-nil (sub_record_text s)))
+
+-- nor are the fields of a class up to a type that there is not
+other_class_type_or_short : (size : IdSize) (rest before : List ℕ) (code : ℕ) (more : List ℕ) (s : SubRecord) → IsSubRecord size s → IsBeforeType size before
+    → rest ≡ 0x20 ∷ before ++ code ∷ more → is_type code ≡ false → IsCutOff rest (sub_record_text s) → ⊥
+other_class_type_or_short size rest before code more s is front e other cut =
+    no_other_class_type size s before code (more ++ cut.missing) [] is front other
+    (ap (λ (xs : List ℕ). 0x20 ∷ xs) (sym (append_assoc before (code ∷ more) cut.missing)) ∙ ap (λ (xs : List ℕ). xs ++ cut.missing) (sym e) ∙ cut.whole ∙ sym (append-nil (sub_record_text s)))
+
+-- bytes whose first one is no tag aren't those fields
+unknown_or_other_type : (rest id serial count : List ℕ) (tag element : ℕ) (more more' : List ℕ) → rest ≡ tag ∷ more → is_known_tag tag ≡ false → rest ≡ 0x23 ∷ id ++ serial ++ count ++ element ∷ more' → ⊥
+unknown_or_other_type rest id serial count tag element more more' e other e' =
+    never_both (is_known_tag tag) (ap is_known_tag (same_tag _ _ _ _ (sym e ∙ e'))) other
+
+unknown_or_other_class_type : (rest before : List ℕ) (tag code : ℕ) (more more' : List ℕ) → rest ≡ tag ∷ more → is_known_tag tag ≡ false → rest ≡ 0x20 ∷ before ++ code ∷ more' → ⊥
+unknown_or_other_class_type rest before tag code more more' e other e' =
+    never_both (is_known_tag tag) (ap is_known_tag (same_tag _ _ _ _ (sym e ∙ e'))) other
 
 -- bytes are stuck for one cause
 same_cause : (size : IdSize) (rest : List ℕ) (a b : Cause) → IsStuck size rest a → IsStuck size rest b → a ≡ b
 same_cause size rest a b (unknown tag more e other) (unknown tag' more' e' other') = refl
-same_cause size rest a b (unknown tag more e other) (short s is cut) =
-    absurd (never_both (is_known_tag tag) (known size s tag (more ++ cut.missing) [] (ap (λ (xs : List ℕ). xs ++ cut.missing) (sym e) ∙ cut.whole ∙ sym (append-nil (sub_record_text s)))) other)
-same_cause size rest a b (short s is cut) (unknown tag more e other) =
-    absurd (never_both (is_known_tag tag) (known size s tag (more ++ cut.missing) [] (ap (λ (xs : List ℕ). xs ++ cut.missing) (sym e) ∙ cut.whole ∙ sym (append-nil (sub_record_text s)))) other)
+same_cause size rest a b (unknown tag more e other) (short s is cut) = absurd (unknown_or_short size rest tag more s e other cut)
+same_cause size rest a b (unknown tag more e other) (other_type id serial count element more' li ls lc e' wrong) = absurd (unknown_or_other_type rest id serial count tag element more more' e other e')
+same_cause size rest a b (unknown tag more e other) (other_class_type before code more' front e' wrong) = absurd (unknown_or_other_class_type rest before tag code more more' e other e')
+same_cause size rest a b (short s is cut) (unknown tag more e other) = absurd (unknown_or_short size rest tag more s e other cut)
 same_cause size rest a b (short s is cut) (short s' is' cut') = refl
+same_cause size rest a b (short s is cut) (other_type id serial count element more li ls lc e wrong) = absurd (other_type_or_short size rest id serial count element more s is li ls lc e wrong cut)
+same_cause size rest a b (short s is cut) (other_class_type before code more front e wrong) = absurd (other_class_type_or_short size rest before code more s is front e wrong cut)
+same_cause size rest a b (other_type id serial count element more li ls lc e wrong) (unknown tag more' e' other) = absurd (unknown_or_other_type rest id serial count tag element more' more e' other e)
+same_cause size rest a b (other_type id serial count element more li ls lc e wrong) (short s is cut) = absurd (other_type_or_short size rest id serial count element more s is li ls lc e wrong cut)
+same_cause size rest a b (other_type id serial count element more li ls lc e wrong) (other_type id' serial' count' element' more' li' ls' lc' e' wrong') = refl
+same_cause size rest a b (other_type id serial count element more li ls lc e wrong) (other_class_type before code more' front e' wrong') = refl
+same_cause size rest a b (other_class_type before code more front e wrong) (unknown tag more' e' other) = absurd (unknown_or_other_class_type rest before tag code more' more e' other e)
+same_cause size rest a b (other_class_type before code more front e wrong) (short s is cut) = absurd (other_class_type_or_short size rest before code more s is front e wrong cut)
+same_cause size rest a b (other_class_type before code more front e wrong) (other_type id serial count element more' li ls lc e' wrong') = refl
+same_cause size rest a b (other_class_type before code more front e wrong) (other_class_type before' code' more' front' e' wrong') = refl
 
 -- a body of whole sub-records has no fault
 no_segment_fault : (size : IdSize) (base : ℕ) (body : List ℕ) (ss : List SubRecord) (f : ReadFault) → AreSubRecords size body ss → IsSegmentFault size base body f → ⊥

@@ -1,14 +1,18 @@
 -- A file has one reading: one list of records, one list of sub-records of each segment, one dump.
-use Rattle.std.proofs.Common.{◌≡◌, ◌∙◌, ℕ, List, [], ◌∷◌, ◌++◌, length, subst, sym, ap, refl, append_assoc, arith}
+use Rattle.std.proofs.Common.{◌≡◌, ◌∙◌, ℕ, ◌*◌, Bool, true, false, ◌==◌, ◌||◌, if◌then◌else◌, List, [], ◌∷◌, ◌++◌, length, subst, sym, ap, refl, append_assoc, arith}
 use Rattle.std.specs.List.{flat_map, concat, filter, AllByRecursion, AllZip}
 use Rattle.byteorder.specs.Endian.{big_number}
 use Rattle.hd_terms.specs.declared.IdSize.{IdSize}
 use Rattle.hd_terms.specs.declared.IdSize.TheVariants as sizes
 use Rattle.hd_terms.specs.Records.{id_len, Record, IsFramed, IsRecord, record_text, HasHeader, AreRecords, is_segment}
-use Rattle.hd_terms.specs.SubRecords.{SubRecord, RootUnknown, ObjectArray, sub_record_text, AreElements, IsSubRecord, AreSubRecords, AreDumpSubRecords}
+use Rattle.hd_terms.specs.declared.RootKind.{RootKind}
+use Rattle.hd_terms.specs.declared.RootKind.TheVariants as roots
+use Rattle.hd_terms.specs.SubRecords.{SubRecord, RootOf, ClassDump, ObjectArray, PrimitiveArray, root_tag, root_more, sub_record_text, AreElements, IsSubRecord, AreSubRecords, AreDumpSubRecords}
+use Rattle.hd_terms.specs.Types.{element_len}
 use Rattle.hd_terms.specs.Objects.{dump_of, IsDumpOf}
 use Rattle.hd_terms.specs.Dump.{Dump}
-use Rattle.hd_terms.proofs.Spellings.{same_front, same_whole, IsEnd}
+use Rattle.hd_terms.proofs.Spellings.{same_front, same_tag, behind_tag, same_whole, IsEnd}
+use Rattle.hd_terms.proofs.Classes.{classes_apart}
 
 -- records of the same fields are one
 same_record : (r s : Record) → r.tag ≡ s.tag → r.time ≡ s.time → r.size ≡ s.size → r.body ≡ s.body → r ≡ s
@@ -55,12 +59,73 @@ same_elements n (e ∷ es) (f ∷ fs) x y many he hf same =
 five : (a b c d e x : List ℕ) → (a ++ b ++ c ++ d ++ e) ++ x ≡ a ++ (b ++ (c ++ (d ++ (e ++ x))))
 five a b c d e x = simp append_assoc
 
--- ROOT UNKNOWNs
-roots_apart : (n : ℕ) (id id' x y : List ℕ) → sub_record_text (RootUnknown id) ++ x ≡ sub_record_text (RootUnknown id') ++ y → length id ≡ n → length id' ≡ n → (RootUnknown id ≡ RootUnknown id') × (x ≡ y)
-roots_apart n id id' x y e is it =
-    let rest : id ++ x ≡ id' ++ y = cc in
-    let same = same_front id id' x y (is ∙ sym it) rest in
-    (ap RootUnknown same.0, same.1)
+-- the kind of the root with a tag
+kind_of : ℕ → RootKind
+kind_of tag =
+    if tag == 0x01 then roots.JniGlobal else if tag == 0x02 then roots.JniLocal else if tag == 0x03 then roots.JavaFrame
+    else if tag == 0x04 then roots.NativeStack else if tag == 0x05 then roots.StickyClass else if tag == 0x06 then roots.ThreadBlock
+    else if tag == 0x07 then roots.MonitorUsed else if tag == 0x08 then roots.Thread else roots.Unknown
+
+kind_of_its_tag : (kind : RootKind) → kind_of (root_tag kind) ≡ kind
+unfolding kind_of
+kind_of_its_tag roots.Unknown = refl
+kind_of_its_tag roots.JniGlobal = refl
+kind_of_its_tag roots.JniLocal = refl
+kind_of_its_tag roots.JavaFrame = refl
+kind_of_its_tag roots.NativeStack = refl
+kind_of_its_tag roots.StickyClass = refl
+kind_of_its_tag roots.ThreadBlock = refl
+kind_of_its_tag roots.MonitorUsed = refl
+kind_of_its_tag roots.Thread = refl
+
+-- roots of one tag are of one kind
+same_kind : (a b : RootKind) → root_tag a ≡ root_tag b → a ≡ b
+same_kind a b same = sym (kind_of_its_tag a) ∙ ap kind_of same ∙ kind_of_its_tag b
+
+-- no root has the tag of an object's sub-record
+is_object_tag : ℕ → Bool
+is_object_tag tag = (tag == 0x20) || (tag == 0x22) || (tag == 0x23)
+
+root_is_no_object : (kind : RootKind) → is_object_tag (root_tag kind) ≡ false
+unfolding is_object_tag
+root_is_no_object roots.Unknown = refl
+root_is_no_object roots.JniGlobal = refl
+root_is_no_object roots.JniLocal = refl
+root_is_no_object roots.JavaFrame = refl
+root_is_no_object roots.NativeStack = refl
+root_is_no_object roots.StickyClass = refl
+root_is_no_object roots.ThreadBlock = refl
+root_is_no_object roots.MonitorUsed = refl
+root_is_no_object roots.Thread = refl
+
+object_tags : (is_object_tag 0x20 ≡ true) × (is_object_tag 0x22 ≡ true) × (is_object_tag 0x23 ≡ true)
+unfolding is_object_tag
+object_tags = (refl, refl, refl)
+
+true_not_false : (b : Bool) → b ≡ true → b ≡ false → ⊥
+true_not_false b holds fails = cc
+
+pub root_or_class : (kind : RootKind) → root_tag kind ≡ 0x20 → ⊥
+root_or_class kind same = true_not_false (is_object_tag (root_tag kind)) (ap is_object_tag same ∙ object_tags.0) (root_is_no_object kind)
+
+pub root_or_array : (kind : RootKind) → root_tag kind ≡ 0x22 → ⊥
+root_or_array kind same = true_not_false (is_object_tag (root_tag kind)) (ap is_object_tag same ∙ object_tags.1) (root_is_no_object kind)
+
+pub root_or_primitive : (kind : RootKind) → root_tag kind ≡ 0x23 → ⊥
+root_or_primitive kind same = true_not_false (is_object_tag (root_tag kind)) (ap is_object_tag same ∙ object_tags.2) (root_is_no_object kind)
+
+-- ROOTs of the same fields are one
+same_root : (kind kind' : RootKind) (id id' more more' : List ℕ) → kind ≡ kind' → id ≡ id' → more ≡ more' → RootOf kind id more ≡ RootOf kind' id' more'
+same_root kind kind' id id' more more' a b c = cc
+
+-- ROOTs
+roots_apart : (size : IdSize) (kind kind' : RootKind) (id id' more more' x y : List ℕ) → root_tag kind ≡ root_tag kind' → (id ++ more) ++ x ≡ (id' ++ more') ++ y
+    → length id ≡ length id' → length more ≡ root_more size kind → length more' ≡ root_more size kind' → (RootOf kind id more ≡ RootOf kind' id' more') × (x ≡ y)
+roots_apart size kind kind' id id' more more' x y tag e li lm lm' =
+    let kinds : kind ≡ kind' = same_kind kind kind' tag in
+    let a = same_front id id' (more ++ x) (more' ++ y) li (sym (append_assoc id more x) ∙ e ∙ append_assoc id' more' y) in
+    let b = same_front more more' x y (lm ∙ ap (root_more size) kinds ∙ sym lm') a.1 in
+    (same_root kind kind' id id' more more' kinds a.0 b.0, b.1)
 
 -- OBJECT ARRAY DUMPs of the same fields are one
 same_array : (id id' serial serial' count count' class class' : List ℕ) (elements elements' : List (List ℕ)) → id ≡ id' → serial ≡ serial' → count ≡ count' → class ≡ class' → elements ≡ elements' → ObjectArray id serial count class elements ≡ ObjectArray id' serial' count' class' elements'
@@ -77,27 +142,76 @@ arrays_apart n id id' serial serial' count count' class class' elements elements
     let f = same_elements n elements elements' x y (he.many ∙ ap (big_number 4) c.0 ∙ sym hf.many) he.each hf.each d.1 in
     (same_array id id' serial serial' count count' class class' elements elements' a.0 b.0 c.0 d.0 f.0, f.1)
 
+-- the fields of a PRIMITIVE ARRAY DUMP and what follows them, grouped to the right
+pub primitive_fields : (a b c : List ℕ) (element : ℕ) (d x : List ℕ) → (a ++ b ++ c ++ element ∷ d) ++ x ≡ a ++ (b ++ (c ++ (element ∷ (d ++ x))))
+primitive_fields a b c element d x = simp append_assoc
+
+-- the front of a PRIMITIVE ARRAY DUMP up to the type of its elements, and what follows it
+pub primitive_fronts : (id id' serial serial' count count' : List ℕ) (element element' : ℕ) (x y : List ℕ)
+    → id ++ (serial ++ (count ++ (element ∷ x))) ≡ id' ++ (serial' ++ (count' ++ (element' ∷ y)))
+    → length id ≡ length id' → length serial ≡ length serial' → length count ≡ length count'
+    → (id ≡ id') × (serial ≡ serial') × (count ≡ count') × (element ≡ element') × (x ≡ y)
+primitive_fronts id id' serial serial' count count' element element' x y e li ls lc =
+    let a = same_front id id' (serial ++ (count ++ (element ∷ x))) (serial' ++ (count' ++ (element' ∷ y))) li e in
+    let b = same_front serial serial' (count ++ (element ∷ x)) (count' ++ (element' ∷ y)) ls a.1 in
+    let c = same_front count count' (element ∷ x) (element' ∷ y) lc b.1 in
+    (a.0, b.0, c.0, same_tag element element' x y c.1, behind_tag element element' x y c.1)
+
+-- PRIMITIVE ARRAY DUMPs of the same fields are one
+same_primitive : (id id' serial serial' count count' : List ℕ) (element element' : ℕ) (elements elements' : List ℕ) → id ≡ id' → serial ≡ serial' → count ≡ count' → element ≡ element' → elements ≡ elements' → PrimitiveArray id serial count element elements ≡ PrimitiveArray id' serial' count' element' elements'
+same_primitive id id' serial serial' count count' element element' elements elements' a b c d e = cc
+
+-- PRIMITIVE ARRAY DUMPs
+primitives_apart : (id id' serial serial' count count' : List ℕ) (element element' : ℕ) (elements elements' : List ℕ) (x y : List ℕ) → (id ++ serial ++ count ++ element ∷ elements) ++ x ≡ (id' ++ serial' ++ count' ++ element' ∷ elements') ++ y → length id ≡ length id' → length serial ≡ length serial' → length count ≡ length count' → length elements ≡ element_len element * big_number 4 count → length elements' ≡ element_len element' * big_number 4 count' → (PrimitiveArray id serial count element elements ≡ PrimitiveArray id' serial' count' element' elements') × (x ≡ y)
+primitives_apart id id' serial serial' count count' element element' elements elements' x y e li ls lc le le' =
+    let front = primitive_fronts id id' serial serial' count count' element element' (elements ++ x) (elements' ++ y)
+    (sym (primitive_fields id serial count element elements x) ∙ e ∙ primitive_fields id' serial' count' element' elements' y) li ls lc in
+    let long : length elements ≡ length elements' =
+    le ∙ ap (λ (t : ℕ). element_len t * big_number 4 count) front.3 ∙ ap (λ (c : List ℕ). element_len element' * big_number 4 c) front.2 ∙ sym le' in
+    let rest = same_front elements elements' x y long front.4 in
+    (same_primitive id id' serial serial' count count' element element' elements elements' front.0 front.1 front.2 front.3 rest.0, rest.1)
+
 -- two tags
-tags_differ : (xs ys : List ℕ) → 0xff ∷ xs ≡ 0x22 ∷ ys → ⊥
+tags_differ : (xs ys : List ℕ) → 0x22 ∷ xs ≡ 0x23 ∷ ys → ⊥
 tags_differ xs ys e = cc
 
--- what follows a tag
-behind_tag : (tag : ℕ) (xs ys : List ℕ) → tag ∷ xs ≡ tag ∷ ys → xs ≡ ys
-behind_tag tag xs ys e = cc
+class_or_array : (xs ys : List ℕ) → 0x20 ∷ xs ≡ 0x22 ∷ ys → ⊥
+class_or_array xs ys e = cc
+
+class_or_primitive : (xs ys : List ℕ) → 0x20 ∷ xs ≡ 0x23 ∷ ys → ⊥
+class_or_primitive xs ys e = cc
 
 -- no sub-record's text begins another's
 pub sub_records_apart : (size : IdSize) (s t : SubRecord) (x y : List ℕ) → sub_record_text s ++ x ≡ sub_record_text t ++ y → IsSubRecord size s → IsSubRecord size t → (s ≡ t) × (x ≡ y)
-sub_records_apart size (RootUnknown id) (RootUnknown id') x y e is it = roots_apart (id_len size) id id' x y e is it
-sub_records_apart size (RootUnknown id) (ObjectArray id' serial count class elements) x y e is it = absurd (tags_differ _ _ e)
-sub_records_apart size (ObjectArray id serial count class elements) (RootUnknown id') x y e is it = absurd (tags_differ _ _ (sym e))
+sub_records_apart size (RootOf kind id more) (RootOf kind' id' more') x y e is it =
+    roots_apart size kind kind' id id' more more' x y (same_tag _ _ _ _ e) (behind_tag _ _ _ _ e) (is.0 ∙ sym it.0) is.1 it.1
+sub_records_apart size (RootOf kind id more) (ClassDump head constants statics fields) x y e is it = absurd (root_or_class kind (same_tag _ _ _ _ e))
+sub_records_apart size (RootOf kind id more) (ObjectArray id' serial count class elements) x y e is it = absurd (root_or_array kind (same_tag _ _ _ _ e))
+sub_records_apart size (RootOf kind id more) (PrimitiveArray id' serial count element elements) x y e is it = absurd (root_or_primitive kind (same_tag _ _ _ _ e))
+sub_records_apart size (ClassDump head constants statics fields) (RootOf kind id more) x y e is it = absurd (root_or_class kind (sym (same_tag _ _ _ _ e)))
+sub_records_apart size (ClassDump head constants statics fields) (ClassDump head' constants' statics' fields') x y e is it =
+    classes_apart size head head' constants constants' statics statics' fields fields' x y (behind_tag _ _ _ _ e) is.0 it.0 is.1 it.1 is.2 it.2 is.3 it.3
+sub_records_apart size (ClassDump head constants statics fields) (ObjectArray id serial count class elements) x y e is it = absurd (class_or_array _ _ e)
+sub_records_apart size (ClassDump head constants statics fields) (PrimitiveArray id serial count element elements) x y e is it = absurd (class_or_primitive _ _ e)
+sub_records_apart size (ObjectArray id serial count class elements) (RootOf kind id' more) x y e is it = absurd (root_or_array kind (sym (same_tag _ _ _ _ e)))
+sub_records_apart size (ObjectArray id serial count class elements) (ClassDump head constants statics fields) x y e is it = absurd (class_or_array _ _ (sym e))
 sub_records_apart size (ObjectArray id serial count class elements) (ObjectArray id' serial' count' class' elements') x y e is it =
-    arrays_apart (id_len size) id id' serial serial' count count' class class' elements elements' x y (behind_tag 0x22 _ _ e)
+    arrays_apart (id_len size) id id' serial serial' count count' class class' elements elements' x y (behind_tag _ _ _ _ e)
     (is.0 ∙ sym it.0) (is.1 ∙ sym it.1) (is.2 ∙ sym it.2) (is.3 ∙ sym it.3) is.4 it.4
+sub_records_apart size (ObjectArray id serial count class elements) (PrimitiveArray id' serial' count' element elements') x y e is it = absurd (tags_differ _ _ e)
+sub_records_apart size (PrimitiveArray id serial count element elements) (RootOf kind id' more) x y e is it = absurd (root_or_primitive kind (sym (same_tag _ _ _ _ e)))
+sub_records_apart size (PrimitiveArray id serial count element elements) (ClassDump head constants statics fields) x y e is it = absurd (class_or_primitive _ _ (sym e))
+sub_records_apart size (PrimitiveArray id serial count element elements) (ObjectArray id' serial' count' class elements') x y e is it = absurd (tags_differ _ _ (sym e))
+sub_records_apart size (PrimitiveArray id serial count element elements) (PrimitiveArray id' serial' count' element' elements') x y e is it =
+    primitives_apart id id' serial serial' count count' element element' elements elements' x y (behind_tag _ _ _ _ e)
+    (is.0 ∙ sym it.0) (is.1 ∙ sym it.1) (is.2 ∙ sym it.2) is.4 it.4
 
 -- no sub-record has an empty text
 pub no_sub_record : (size : IdSize) → IsEnd SubRecord sub_record_text (IsSubRecord size) (sub_records_apart size) []
-no_sub_record size (RootUnknown id) z is e = cc
+no_sub_record size (RootOf kind id more) z is e = cc
+no_sub_record size (ClassDump head constants statics fields) z is e = cc
 no_sub_record size (ObjectArray id serial count class elements) z is e = cc
+no_sub_record size (PrimitiveArray id serial count element elements) z is e = cc
 
 -- a file has one list of records
 pub same_records : (size : IdSize) (bytes : List ℕ) (rs ss : List Record) → AreRecords size bytes rs → AreRecords size bytes ss → rs ≡ ss

@@ -16,6 +16,14 @@ same_front (a ∷ s) (b ∷ t) x y long e =
     let whole : s ≡ t = more.0 in
     (cc, more.1)
 
+-- texts that are one have one tag
+pub same_tag : (tag tag' : ℕ) (xs ys : List ℕ) → tag ∷ xs ≡ tag' ∷ ys → tag ≡ tag'
+same_tag tag tag' xs ys e = cc
+
+-- and the same behind it
+pub behind_tag : (tag tag' : ℕ) (xs ys : List ℕ) → tag ∷ xs ≡ tag' ∷ ys → xs ≡ ys
+behind_tag tag tag' xs ys e = cc
+
 -- where a list and another are nothing, the other is nothing
 nothing_behind : (x y : List ℕ) → x ++ y ≡ [] → y ≡ []
 nothing_behind [] y e = e

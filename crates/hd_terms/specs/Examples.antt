@@ -101,6 +101,81 @@ short_record_file = head_of 4 ++ 0x01 ∷ four 0 ++ four 3 ++ 0x00 ∷ 0x00 ∷ 
 abbrev pub short_and_cut_file : List ℕ
 short_and_cut_file = short_record_file ++ 0x01 ∷ []
 
+-- a primitive array of no elements of a type 2
+abbrev pub unknown_type_file : List ℕ
+unknown_type_file = head_of 4 ++ segment_head 14 ++ 0x23 ∷ four 1 ++ four 0 ++ four 0 ++ 0x02 ∷ []
+
+-- a root of each kind, on the IDs 1 to 9, with the ID 0x66 of a JNI reference, the serial numbers 0x77 and the frame numbers 0x88
+abbrev pub root_kinds_file : List ℕ
+root_kinds_file =
+    head_of 4 ++ segment_head 81
+    ++ 0xff ∷ four 1
+    ++ 0x01 ∷ four 2 ++ four 0x66
+    ++ 0x02 ∷ four 3 ++ four 0x77 ++ four 0x88
+    ++ 0x03 ∷ four 4 ++ four 0x77 ++ four 0x88
+    ++ 0x04 ∷ four 5 ++ four 0x77
+    ++ 0x05 ∷ four 6
+    ++ 0x06 ∷ four 7 ++ four 0x77
+    ++ 0x07 ∷ four 8
+    ++ 0x08 ∷ four 9 ++ four 0x77 ++ four 0x77
+
+-- an array of the ints 1 and 2
+abbrev pub primitive_array_file : List ℕ
+primitive_array_file = head_of 4 ++ segment_head 22 ++ 0x23 ∷ four 6 ++ four 0 ++ four 2 ++ 0x0a ∷ four 1 ++ four 2
+
+-- a number below 256 in two bytes
+abbrev pub two : ℕ → List ℕ
+two n = 0x00 ∷ n ∷ []
+
+-- the name 0x2nn of a static or a field
+abbrev pub name : ℕ → List ℕ
+name n = 0x00 ∷ 0x00 ∷ 0x02 ∷ n ∷ []
+
+-- the front of a class up to its constants: 37 bytes
+abbrev pub class_front : List ℕ
+class_front = 0x20 ∷ four 0x11 ++ four 0 ++ four 0 ++ four 5 ++ four 0 ++ four 0 ++ four 0 ++ four 0 ++ four 4
+
+-- one constant, the object 2: 9 bytes
+abbrev pub class_constants : List ℕ
+class_constants = two 1 ++ two 1 ++ 0x02 ∷ four 2
+
+-- two statics, the int 7 and the object 3: 20 bytes
+abbrev pub class_statics : List ℕ
+class_statics = two 2 ++ name 1 ++ 0x0a ∷ four 7 ++ name 2 ++ 0x02 ∷ four 3
+
+-- a class that is held as a sticky class, the arrays that it leads to, and an array of the ints 1 and 2
+abbrev pub class_object_and_primitive_array_file : List ℕ
+class_object_and_primitive_array_file =
+    head_of 4 ++ segment_head 0x92
+    ++ 0x05 ∷ four 0x11
+    ++ class_front ++ class_constants ++ class_statics ++ two 0
+    ++ 0x22 ∷ four 2 ++ four 0 ++ four 0 ++ four 0
+    ++ 0x22 ∷ four 3 ++ four 0 ++ four 0 ++ four 0
+    ++ 0x22 ∷ four 5 ++ four 0 ++ four 0 ++ four 0
+    ++ 0x23 ∷ four 6 ++ four 0 ++ four 2 ++ 0x0a ∷ four 1 ++ four 2
+
+-- that root, and behind it a class whose second static has two of the four bytes of its value
+abbrev pub short_class_file : List ℕ
+short_class_file =
+    head_of 4 ++ segment_head 69 ++ 0x05 ∷ four 0x11 ++ class_front ++ class_constants
+    ++ two 2 ++ name 1 ++ 0x0a ∷ four 7 ++ name 2 ++ 0x02 ∷ 0x00 ∷ 0x00 ∷ []
+
+-- a class whose constant has a type 3
+abbrev pub unknown_constant_file : List ℕ
+unknown_constant_file = head_of 4 ++ segment_head 68 ++ class_front ++ two 1 ++ two 1 ++ 0x03 ∷ four 2 ++ class_statics ++ two 0
+
+-- nothing stands behind that type
+abbrev pub unknown_and_short_file : List ℕ
+unknown_and_short_file = head_of 4 ++ segment_head 42 ++ class_front ++ two 1 ++ two 1 ++ 0x03 ∷ []
+
+-- a class with a static of a type 0, behind one of a type that there is
+abbrev pub unknown_static_file : List ℕ
+unknown_static_file = head_of 4 ++ segment_head 62 ++ class_front ++ class_constants ++ two 2 ++ name 1 ++ 0x0a ∷ four 7 ++ name 2 ++ 0x00 ∷ []
+
+-- a class with a field of a type 12
+abbrev pub unknown_field_file : List ℕ
+unknown_field_file = head_of 4 ++ segment_head 73 ++ class_front ++ class_constants ++ class_statics ++ two 1 ++ name 3 ++ 0x0c ∷ []
+
 -- dumps
 
 -- a slot of kind strong
@@ -161,6 +236,57 @@ empty_dump = record { objects = []; roots = []; repeated = none_repeated; opaque
 -- nothing, but a text and a load are repeated
 abbrev pub repeated_strings_and_loads : Dump
 repeated_strings_and_loads = record { objects = []; roots = []; repeated = record { objects = 0; strings = 1; loads = 1 }; opaque = 0 }
+
+-- a root of each kind, on IDs that are no object's
+abbrev pub root_kinds : Dump
+root_kinds = record {
+  objects = [];
+  roots =
+      (record { kind = roots.Unknown; id = 1 })
+      ∷ (record { kind = roots.JniGlobal; id = 2 })
+      ∷ (record { kind = roots.JniLocal; id = 3 })
+      ∷ (record { kind = roots.JavaFrame; id = 4 })
+      ∷ (record { kind = roots.NativeStack; id = 5 })
+      ∷ (record { kind = roots.StickyClass; id = 6 })
+      ∷ (record { kind = roots.ThreadBlock; id = 7 })
+      ∷ (record { kind = roots.MonitorUsed; id = 8 })
+      ∷ (record { kind = roots.Thread; id = 9 })
+      ∷ [];
+  repeated = none_repeated;
+  opaque = 0;
+}
+
+-- an array of two ints
+abbrev pub primitive_array : Dump
+primitive_array = record {
+  objects = (record { id = 6; group = groups.Prim 10; bytes = 8; slots = []; referent = None }) ∷ [];
+  roots = [];
+  repeated = none_repeated;
+  opaque = 0;
+}
+
+-- a class with its slots, the arrays 2, 3 and 5, and an array of two ints
+abbrev pub class_object_and_primitive_array : Dump
+class_object_and_primitive_array = record {
+  objects =
+      (record {
+        id = 0x11;
+        group = groups.Classes;
+        bytes = 8;
+        slots =
+            strong (slots.Static 1) 3 ∷ strong (slots.Const 0) 2 ∷ strong slots.Super 0 ∷ strong slots.Loader 5 ∷ strong slots.Signers 0
+            ∷ strong slots.Domain 0 ∷ [];
+        referent = None;
+      })
+      ∷ (record { id = 2; group = groups.Class 0; bytes = 0; slots = strong slots.OfClass 0 ∷ []; referent = None })
+      ∷ (record { id = 3; group = groups.Class 0; bytes = 0; slots = strong slots.OfClass 0 ∷ []; referent = None })
+      ∷ (record { id = 5; group = groups.Class 0; bytes = 0; slots = strong slots.OfClass 0 ∷ []; referent = None })
+      ∷ (record { id = 6; group = groups.Prim 10; bytes = 8; slots = []; referent = None })
+      ∷ [];
+  roots = (record { kind = roots.StickyClass; id = 0x11 }) ∷ [];
+  repeated = none_repeated;
+  opaque = 0;
+}
 
 -- root 1  [1: 2 0 9]  [2:]
 abbrev pub two_arrays : Dump

@@ -4,6 +4,7 @@ pub mod Strengths
 pub mod Chains
 pub mod Settled
 pub mod Records
+pub mod Types
 pub mod SubRecords
 pub mod Dump
 pub mod Groups

@@ -1,27 +1,41 @@
 -- The objects of a dump and their numbers, and the dump of a file.
--- Source: HPROF binary format, OBJECT ARRAY DUMP. Where an ID has several records the first stands: this project's choice.
-use Rattle.std.specs.Prelude.{◌≡◌, ℕ, ◌==◌, Bool, false, if◌then◌else◌, List, take, count_by, Option, Some, None, IsNone}
+-- Source: HPROF binary format, CLASS DUMP, OBJECT ARRAY DUMP and PRIMITIVE ARRAY DUMP. Where an ID has several records the first stands: this project's choice.
+use Rattle.std.specs.Prelude.{◌≡◌, ℕ, ◌==◌, Bool, false, if◌then◌else◌, List, [], take, count_by, Option, Some, None, IsNone}
 use Rattle.std.specs.List.{flat_map, filter_map, find, list_any, enumerate_from}
 use Rattle.byteorder.specs.Endian.{big_number}
 use Rattle.hd_terms.specs.declared.IdSize.{IdSize}
 use Rattle.hd_terms.specs.declared.Text.{Text}
 use Rattle.hd_terms.specs.declared.Load.{Load}
 use Rattle.hd_terms.specs.Records.{id_len, Record, HasHeader, AreRecords, header_len, segment_spans, texts, loads}
-use Rattle.hd_terms.specs.SubRecords.{SubRecord, RootUnknown, ObjectArray, Item, ObjArray, Sub, AreDumpSubRecords, dump_subs_at}
+use Rattle.hd_terms.specs.SubRecords.{SubRecord, RootOf, ClassDump, ObjectArray, PrimitiveArray, Item, ObjArray, PrimArray, Sub, AreDumpSubRecords, dump_subs_at}
 use Rattle.hd_terms.specs.SubRecords as subs
-use Rattle.hd_terms.specs.Groups.{array_group, array_bytes}
-use Rattle.hd_terms.specs.Slots.{array_slots}
+use Rattle.hd_terms.specs.Groups.{array_group, array_bytes, class_group, class_bytes, primitive_group, primitive_bytes}
+use Rattle.hd_terms.specs.Slots.{array_slots, class_slots}
 use Rattle.hd_terms.specs.Roots.{roots_of}
 use Rattle.hd_terms.specs.Dump.{Object, Repeated, Dump}
 
 -- the object of an object sub-record
 abbrev pub object_of : IdSize → SubRecord → Option Object
-object_of size (RootUnknown id) = None
+object_of size (RootOf kind id more) = None
+object_of size (ClassDump head constants statics fields) = Some (record {
+  id = big_number (id_len size) head.id;
+  group = class_group;
+  bytes = class_bytes statics.items;
+  slots = class_slots size head constants.items statics.items;
+  referent = None;
+})
 object_of size (ObjectArray id serial count class elements) = Some (record {
   id = big_number (id_len size) id;
   group = array_group size class;
   bytes = array_bytes size count;
   slots = array_slots size class elements;
+  referent = None;
+})
+object_of size (PrimitiveArray id serial count element elements) = Some (record {
+  id = big_number (id_len size) id;
+  group = primitive_group element;
+  bytes = primitive_bytes element count;
+  slots = [];
   referent = None;
 })
 
@@ -60,7 +74,9 @@ dump_of size records subs = record { objects = objects_of size subs; roots = roo
 -- an object sub-record with ID 0, which stands for null
 abbrev pub is_null_item : Item → Bool
 is_null_item (subs.Root kind id) = false
+is_null_item (subs.Class class) = class.id == 0
 is_null_item (ObjArray id class elements) = id == 0
+is_null_item (PrimArray id element count) = id == 0
 
 abbrev pub is_null_object : Sub → Bool
 is_null_object s = is_null_item s.item

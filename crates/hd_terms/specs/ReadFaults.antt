@@ -7,8 +7,9 @@ use Rattle.hd_terms.specs.declared.Span.{Span}
 use Rattle.hd_terms.specs.declared.errors.Cause.{Cause}
 use Rattle.hd_terms.specs.declared.errors.Cause.TheVariants as causes
 use Rattle.hd_terms.specs.declared.errors.ReadFault.{ReadFault}
-use Rattle.hd_terms.specs.Records.{id_size_of, largest_file, header_len, magic, Record, IsFramed, least_body, IsRecord, record_text, HasHeader, AreRecords, is_segment, segment_spans}
-use Rattle.hd_terms.specs.SubRecords.{SubRecord, Sub, IsSubRecord, sub_record_text, is_known_tag, AreSubRecords, AreDumpSubRecords, dump_subs_at}
+use Rattle.hd_terms.specs.Records.{id_len, id_size_of, largest_file, header_len, magic, Record, IsFramed, least_body, IsRecord, record_text, HasHeader, AreRecords, is_segment, segment_spans}
+use Rattle.hd_terms.specs.SubRecords.{SubRecord, ClassHead, ClassValue, ClassField, Counted, IsClassHead, IsClassValue, IsClassField, IsCounted, IsBegun, class_head_text, counted_text, value_text, field_text, Sub, IsSubRecord, sub_record_text, is_known_tag, AreSubRecords, AreDumpSubRecords, dump_subs_at}
+use Rattle.hd_terms.specs.Types.{is_element_type, is_type}
 use Rattle.hd_terms.specs.Objects.{is_null_object}
 
 -- a fault of a cause at a place
@@ -47,10 +48,28 @@ pub data IsRecordsFault (bytes : List ℕ) : ReadFault → Type 0 where
       → IsRecordsFault bytes (fault causes.BadIdSize 19)
   in_a_record : {f : ReadFault} (size : IdSize) → HasHeader size bytes → IsRecordFault size bytes f → IsRecordsFault bytes f
 
+-- what stands in a CLASS DUMP between its tag and the type of a constant, a static or a field: all that comes before, read
+-- without fault, and then what names it
+pub data IsBeforeType (size : IdSize) : List ℕ → Type 0 where
+  of_constant : (head : ClassHead) (constants : Counted ClassValue) (key : List ℕ) → IsClassHead size head → IsBegun (IsClassValue size 2) constants → length key ≡ 2
+      → IsBeforeType size (class_head_text head ++ counted_text value_text constants ++ key)
+  of_static : (head : ClassHead) (constants statics : Counted ClassValue) (key : List ℕ) → IsClassHead size head → IsCounted (IsClassValue size 2) constants
+      → IsBegun (IsClassValue size (id_len size)) statics → length key ≡ id_len size
+      → IsBeforeType size (class_head_text head ++ counted_text value_text constants ++ counted_text value_text statics ++ key)
+  of_field : (head : ClassHead) (constants statics : Counted ClassValue) (fields : Counted ClassField) (key : List ℕ) → IsClassHead size head → IsCounted (IsClassValue size 2) constants
+      → IsCounted (IsClassValue size (id_len size)) statics → IsBegun (IsClassField size) fields → length key ≡ id_len size
+      → IsBeforeType size (class_head_text head ++ counted_text value_text constants ++ counted_text value_text statics ++ counted_text field_text fields ++ key)
+
 -- why no sub-record can be read from the front of what is left of a body
 pub data IsStuck (size : IdSize) (rest : List ℕ) : Cause → Type 0 where
   unknown : (tag : ℕ) (more : List ℕ) → rest ≡ tag ∷ more → is_known_tag tag ≡ false → IsStuck size rest causes.UnknownSub
   short : (s : SubRecord) → IsSubRecord size s → IsCutOff rest (sub_record_text s) → IsStuck size rest causes.ShortSub
+  -- the fields of a primitive array up to its type, which no element has
+  other_type : (id serial count : List ℕ) (element : ℕ) (more : List ℕ) → length id ≡ id_len size → length serial ≡ 4 → length count ≡ 4
+      → rest ≡ 0x23 ∷ id ++ serial ++ count ++ element ∷ more → is_element_type element ≡ false → IsStuck size rest causes.UnknownType
+  -- the fields of a class up to a type that there is not
+  other_class_type : (before : List ℕ) (code : ℕ) (more : List ℕ) → IsBeforeType size before → rest ≡ 0x20 ∷ before ++ code ∷ more → is_type code ≡ false
+      → IsStuck size rest causes.UnknownType
 
 -- the fault of a body that begins at a place: whole sub-records, and then bytes from which none can be read
 pub record IsSegmentFault (size : IdSize) (base : ℕ) (body : List ℕ) (f : ReadFault) : Type 0 where

@@ -1,13 +1,15 @@
 -- Slots of objects, each from its sub-record alone.
--- Source: HPROF binary format, OBJECT ARRAY DUMP, for the references of an array. That its class counts as one, and the
--- order of the slots, are this project's choice.
-use Rattle.std.specs.Prelude.{ℕ, ◌+◌, List, [], ◌∷◌, ◌++◌}
+-- Source: HPROF binary format, OBJECT ARRAY DUMP and CLASS DUMP, for the references of an array and of a class. That an
+-- array's class counts as one, and the order of the slots, are this project's choice.
+use Rattle.std.specs.Prelude.{ℕ, ◌+◌, if◌then◌else◌, List, [], ◌∷◌, ◌++◌}
 use Rattle.byteorder.specs.Endian.{big_number}
 use Rattle.hd_terms.specs.declared.IdSize.{IdSize}
 use Rattle.hd_terms.specs.declared.Slot.{Slot}
 use Rattle.hd_terms.specs.declared.Slot.TheVariants as slots
 use Rattle.hd_terms.specs.declared.EdgeKind.TheVariants as kinds
 use Rattle.hd_terms.specs.Records.{id_len}
+use Rattle.hd_terms.specs.Types.{is_id_type}
+use Rattle.hd_terms.specs.SubRecords.{ClassHead, ClassValue}
 use Rattle.hd_terms.specs.Dump.{SlotEntry}
 
 -- a plain reference in a slot
@@ -22,3 +24,21 @@ element_slots size i (element ∷ elements) = strong_slot (slots.Element i) (big
 -- the slots of an object array: its elements, then its class
 abbrev pub array_slots : IdSize → List ℕ → List (List ℕ) → List SlotEntry
 array_slots size class elements = element_slots size 0 elements ++ strong_slot slots.OfClass (big_number (id_len size) class) ∷ []
+
+-- the slots of constants or statics, numbered from a number on: those whose type is that of an ID. The others take a number
+-- too
+abbrev pub value_slots : IdSize → (ℕ → Slot) → ℕ → List ClassValue → List SlotEntry
+value_slots size slot i [] = []
+value_slots size slot i (v ∷ vs) =
+    if is_id_type v.code then strong_slot (slot i) (big_number (id_len size) v.value) ∷ value_slots size slot (i + 1) vs else value_slots size slot (i + 1) vs
+
+-- the slots of a class: its statics, its constants, its super class, its loader, its signers and its protection domain
+abbrev pub class_slots : IdSize → ClassHead → List ClassValue → List ClassValue → List SlotEntry
+class_slots size head constants statics =
+    value_slots size (λ i. slots.Static i) 0 statics
+    ++ value_slots size (λ i. slots.Const i) 0 constants
+    ++ strong_slot slots.Super (big_number (id_len size) head.super)
+    ∷ strong_slot slots.Loader (big_number (id_len size) head.loader)
+    ∷ strong_slot slots.Signers (big_number (id_len size) head.signers)
+    ∷ strong_slot slots.Domain (big_number (id_len size) head.domain)
+    ∷ []

@@ -45,6 +45,22 @@ pub fn file_examples()
     ensures short_and_cut { IsReadFault examples.short_and_cut_file (fault causes.ShortRecord 31) }
     ensures counts { counts_of examples.two_arrays ≡ record { objects = 2; roots = 1; edges = 1; unresolved = 1; repeated_objects = 0; repeated_strings = 0; repeated_loads = 0; opaque = 0 } }
     ensures two_mistakes { IsReadFault examples.two_mistakes_file (fault causes.Truncated 41) }
+    ensures unknown_type { IsReadFault examples.unknown_type_file (fault causes.UnknownType 40) }
+    ensures root_kinds { IsDumpOf examples.root_kinds_file examples.root_kinds }
+    ensures primitive_array { IsDumpOf examples.primitive_array_file examples.primitive_array }
+{}
+
+/// What class dumps are read as, their faults, and what a class leads to.
+pub fn class_examples()
+    ensures class_object_and_primitive_array { IsDumpOf examples.class_object_and_primitive_array_file examples.class_object_and_primitive_array }
+    ensures counts { counts_of examples.class_object_and_primitive_array ≡ record { objects = 5; roots = 1; edges = 3; unresolved = 0; repeated_objects = 0; repeated_strings = 0; repeated_loads = 0; opaque = 0 } }
+    ensures class_edges { edges examples.class_object_and_primitive_array ≡ examples.strong_edge 0 (slots.Static 1) 2
+        ∷ examples.strong_edge 0 (slots.Const 0) 1 ∷ examples.strong_edge 0 slots.Loader 3 ∷ [] }
+    ensures short_class { IsReadFault examples.short_class_file (fault causes.ShortSub 45) }
+    ensures unknown_constant { IsReadFault examples.unknown_constant_file (fault causes.UnknownType 40) }
+    ensures unknown_and_short { IsReadFault examples.unknown_and_short_file (fault causes.UnknownType 40) }
+    ensures unknown_static { IsReadFault examples.unknown_static_file (fault causes.UnknownType 40) }
+    ensures unknown_field { IsReadFault examples.unknown_field_file (fault causes.UnknownType 40) }
 {}
 
 /// Edges, and the strengths of objects by their numbers, under logs.

@@ -8,6 +8,7 @@
 mod errors;
 mod examples;
 mod laws;
+mod types;
 
 ghost use Rattle.std.specs.Prelude.{◌≡◌, ◌≤◌, length};
 ghost use Rattle.byteorder.specs.Endian.{big_number};
@@ -17,9 +18,11 @@ ghost use Rattle.hd_terms.specs.Records.{id_len};
 use byteorder::{BigEndian, ByteOrder};
 pub use errors::{Cause, LogFault, NoMemory, ReadFault, Refusal};
 pub use examples::{
-    edit_examples, file_examples, heap_examples, line_examples, log_examples, reply_examples,
+    class_examples, edit_examples, file_examples, heap_examples, line_examples, log_examples,
+    reply_examples,
 };
 pub use laws::{lawful_logs, one_reading, one_strength, settled_supports_give_strengths};
+pub use types::{element_len, is_id_type};
 
 /// How well an object can be reached, the worst first.
 ///

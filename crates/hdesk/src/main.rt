@@ -2,6 +2,8 @@
 #![tactic(auto)]
 
 mod arguments;
+#[cfg(test)]
+mod class_tests;
 mod command;
 mod edit;
 mod file;

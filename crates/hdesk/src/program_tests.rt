@@ -122,7 +122,7 @@ fn over(
 
 #[test]
 fn programs_over_files(rt: HostRuntime) -> io::Result<()> {
-    let path = "/tmp/hdesk-program-test.hprof";
+    let path = "program-test.hprof";
     let run: (u8, &[u8], &[u8]) = (DONE, b"ok 1\nSTRONG\nok 0\n", b"");
     let stat: (u8, &[u8], &[u8]) = (DONE, SAMPLE_STAT.as_bytes(), b"");
     assert!(rt; over(&rt, path, &SAMPLE, run, stat)?);
@@ -136,7 +136,7 @@ fn programs_over_files(rt: HostRuntime) -> io::Result<()> {
 
 #[test]
 fn file_too_large(rt: HostRuntime) -> io::Result<()> {
-    let path = "/tmp/hdesk-too-large-test.hprof";
+    let path = "too-large-test.hprof";
     let file = fs::create(&rt, path)?;
     file.set_len(2_147_483_648)?;
     drop(file);

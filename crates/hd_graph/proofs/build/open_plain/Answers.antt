@@ -1,5 +1,6 @@
 use Rattle.std.proofs.lemmas.Result.{err_from_is_err_and}
-use Rattle.hd_graph.proofs.OpenLemmas.{spans-within, bodies-fault, list-within, null-fault, few-ids, few-roots, as-many-rows, small-rows, opened, records-fault}
+use Rattle.hd_graph.specs.Building.{columns}
+use Rattle.hd_graph.proofs.OpenLemmas.{spans-within, bodies-fault, list-within, null-fault, few-ids, few-roots, whole-columns, small-shapes, opened, records-fault}
 use Rattle.hd_graph.proofs.build.open_plain.Goals as goal
 
 pub returns-in_err-records-clause-err : goal.returns-in_err-records-clause-err
@@ -26,14 +27,14 @@ new-requires-clause-few c = few-ids c.args.bytes.now c.in_ok-records.records.id_
 pub fill_rows-requires-clause-within : goal.fill_rows-requires-clause-within
 fill_rows-requires-clause-within c = list-within c.args.bytes.now c.in_ok-records.records.id_size _ _ c.in_ok-records.records.segments c.in_ok-records.ensures.ok c.in_ok-list.list c.in_ok-list.ensures.ok
 
-pub new-requires-2-clause-rows : goal.new-requires-2-clause-rows
-new-requires-2-clause-rows c = as-many-rows c.args.bytes.now c.in_ok-records.records.id_size _ _ c.in_ok-records.records.segments c.in_ok-records.ensures.ok c.in_ok-list.list c.in_ok-list.ensures.ok _ _ _ c.in_ok-ids.ensures.ok c.fill_rows.new.references c.in_ok-fill_rows.ensures
+pub new-requires-2-clause-columns : goal.new-requires-2-clause-columns
+new-requires-2-clause-columns c = whole-columns c.args.bytes.now c.in_ok-records.records.id_size _ _ c.in_ok-records.records.segments c.in_ok-records.ensures.ok c.in_ok-list.list c.in_ok-list.ensures.ok _ _ _ c.in_ok-ids.ensures.ok (columns c.fill_rows.new.references c.fill_rows.new.shapes) c.in_ok-fill_rows.ensures
 
 pub new-requires-2-clause-small : goal.new-requires-2-clause-small
-new-requires-2-clause-small c = small-rows c.args.bytes.now c.in_ok-records.records.id_size _ _ c.in_ok-records.records.segments c.in_ok-records.ensures.ok c.in_ok-list.list c.in_ok-list.ensures.ok _ _ _ c.in_ok-ids.ensures.ok c.fill_rows.new.references c.in_ok-fill_rows.ensures
+new-requires-2-clause-small c = small-shapes c.args.bytes.now c.in_ok-records.records.id_size _ _ c.in_ok-records.records.segments c.in_ok-records.ensures.ok c.in_ok-list.list c.in_ok-list.ensures.ok _ _ _ c.in_ok-ids.ensures.ok (columns c.fill_rows.new.references c.fill_rows.new.shapes) c.in_ok-fill_rows.ensures
 
 pub new-requires-2-clause-few_roots : goal.new-requires-2-clause-few_roots
 new-requires-2-clause-few_roots c = few-roots c.args.bytes.now c.in_ok-records.records.id_size _ _ c.in_ok-records.records.segments c.in_ok-records.ensures.ok c.in_ok-list.list c.in_ok-list.ensures.ok _ _ _ c.in_ok-ids.ensures.ok
 
 pub returns-clause-ok : goal.returns-clause-ok
-returns-clause-ok c = rw c.new-2.ensures (opened c.args.bytes.now c.in_ok-records.records.id_size _ _ c.in_ok-records.records.segments c.in_ok-records.ensures.ok c.in_ok-list.list c.in_ok-list.ensures.ok _ _ _ c.in_ok-ids.ensures.ok c.fill_rows.new.references c.in_ok-fill_rows.ensures _ _ c.in_ok-strings.ensures c.in_ok-loads.ensures)
+returns-clause-ok c = rw c.new-2.ensures (opened c.args.bytes.now c.in_ok-records.records.id_size _ _ c.in_ok-records.records.segments c.in_ok-records.ensures.ok c.in_ok-list.list c.in_ok-list.ensures.ok _ _ _ c.in_ok-ids.ensures.ok (columns c.fill_rows.new.references c.fill_rows.new.shapes) c.in_ok-fill_rows.ensures _ _ c.in_ok-strings.ensures c.in_ok-loads.ensures)

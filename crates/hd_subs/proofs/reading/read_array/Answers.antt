@@ -10,16 +10,14 @@ returns-then-fields-id_len c = short_array c.args.id_size c.args.fields.now (ome
 
 pub returns-then-fields-len : goal.returns-then-fields-len
 returns-then-fields-len c =
-    let count : c.read_u32-count.result ≡ count_in (id_len c.args.id_size) c.args.fields.now =
-    c.read_u32-count.ensures ∙ rw (take_rest c.args.fields.now (c.bytes-id_len.result + 4), c.bytes-id_len.ensures) refl in
+    let count : c.read_count-count.result ≡ count_in (id_len c.args.id_size) c.args.fields.now = rw (← c.bytes-id_len.ensures) c.read_count-count.ensures in
     short_array c.args.id_size c.args.fields.now (rw (← count, ← c.bytes-id_len.ensures) c.if-fields-len.true)
 
 pub returns : goal.returns
 returns c =
-    let count : c.read_u32-count.result ≡ count_in (id_len c.args.id_size) c.args.fields.now =
-    c.read_u32-count.ensures ∙ rw (take_rest c.args.fields.now (c.bytes-id_len.result + 4), c.bytes-id_len.ensures) refl in
+    let count : c.read_count-count.result ≡ count_in (id_len c.args.id_size) c.args.fields.now = rw (← c.bytes-id_len.ensures) c.read_count-count.ensures in
     let class : c.read-2.result ≡ big_number (id_len c.args.id_size) (drop (id_len c.args.id_size + 8) c.args.fields.now) =
     c.read-2.ensures ∙ rw (take_rest c.args.fields.now (c.bytes-id_len.result + 8), c.bytes-id_len.ensures) refl in
-    let len : 2 * id_len c.args.id_size + 8 + id_len c.args.id_size * c.read_u32-count.result ≤ length c.args.fields.now = rw (← c.bytes-id_len.ensures) c.if-fields-len.false in
-    rw (take_rest c.args.fields.now (2 * c.bytes-id_len.result + 8 + c.bytes-id_len.result * c.read_u32-count.result), c.bytes-id_len.ensures, c.kind_of_array.ensures)
-    (begins_array c.args.id_size c.args.offset c.args.fields.now c.read.result c.read-2.result c.read_u32-count.result len c.read.ensures class count)
+    let len : 2 * id_len c.args.id_size + 8 + id_len c.args.id_size * c.read_count-count.result ≤ length c.args.fields.now = rw (← c.bytes-id_len.ensures) c.if-fields-len.false in
+    rw (take_rest c.args.fields.now (2 * c.bytes-id_len.result + 8 + c.bytes-id_len.result * c.read_count-count.result), c.bytes-id_len.ensures, c.kind_of_array.ensures)
+    (begins_array c.args.id_size c.args.offset c.args.fields.now c.read.result c.read-2.result c.read_count-count.result len c.read.ensures class count)

@@ -2,9 +2,10 @@ use Rattle.std.proofs.Common.{◌≡◌, ◌≢◌, ◌∙◌, ℕ, suc, ◌+◌
 use Rattle.std.proofs.lemmas.List.{length-take, length-drop, length-append, take-append-drop}
 use Rattle.std.specs.List.{flat_map}
 use Rattle.hd_terms.specs.declared.IdSize.TheVariants as sizes
+use Rattle.hd_terms.specs.declared.RootKind.TheVariants as roots
 use Rattle.hd_terms.specs.declared.errors.Cause.TheVariants as causes
 use Rattle.hd_terms.specs.Records.{Record, IsFramed, IsRecord, record_text}
-use Rattle.hd_terms.specs.SubRecords.{SubRecord, RootUnknown, ObjectArray, ObjArray, sub_record_text}
+use Rattle.hd_terms.specs.SubRecords.{SubRecord, RootOf, ObjectArray, PrimitiveArray, ObjArray, sub_record_text}
 use Rattle.hd_terms.specs.ReadFaults.{IsReadFault, fault, no_header, other_text, other_id_size, in_a_record, IsStuckRecord, IsStuck, in_records, in_sub_records, in_objects}
 use Rattle.hd_terms.specs.Examples.{head_of, four}
 use Rattle.hd_terms.specs.Examples as examples
@@ -46,7 +47,7 @@ returns-clause-empty_dump c = record {
 -- the sub-records of two_arrays
 abbrev two_arrays_subs : List SubRecord
 two_arrays_subs =
-    RootUnknown (four 1) ∷ ObjectArray (four 1) (four 0) (four 3) (four 0) (four 2 ∷ four 0 ∷ four 9 ∷ [])
+    RootOf roots.Unknown (four 1) [] ∷ ObjectArray (four 1) (four 0) (four 3) (four 0) (four 2 ∷ four 0 ∷ four 9 ∷ [])
     ∷ ObjectArray (four 2) (four 0) (four 0) (four 0) [] ∷ []
 
 pub returns-clause-two_arrays : goal.returns-clause-two_arrays
@@ -61,7 +62,7 @@ returns-clause-two_arrays c = record {
       record {
         whole = refl;
         each = (
-          refl,
+          (refl, refl),
           ((refl, refl, refl, refl, record { many = refl; each = (refl, (refl, (refl, tt))) }), ((refl, refl, refl, refl, record { many = refl; each = tt }), tt)),
         );
       },
@@ -131,7 +132,7 @@ returns-clause-short_sub_record c =
         rest = 0xff ∷ 0 ∷ 0 ∷ 0 ∷ [];
         whole = refl;
         each = tt;
-        stuck = IsStuck.short (RootUnknown (four 0)) refl (record { some = some _ _; missing = 0 ∷ []; lacks = some _ _; whole = refl });
+        stuck = IsStuck.short (RootOf roots.Unknown (four 0) []) (refl, refl) (record { some = some _ _; missing = 0 ∷ []; lacks = some _ _; whole = refl });
         place = refl;
       };
     })
@@ -243,7 +244,7 @@ returns-clause-skipped_record c = record {
       record {
         whole = refl;
         each = (
-          refl,
+          (refl, refl),
           ((refl, refl, refl, refl, record { many = refl; each = (refl, (refl, (refl, tt))) }), ((refl, refl, refl, refl, record { many = refl; each = tt }), tt)),
         );
       },
@@ -318,3 +319,86 @@ returns-clause-prefixes_of_the_record c n low high =
     let left : drop ((n - 32) + 1) text ≢ [] = λ e. (let none : length text - ((n - 32) + 1) ≡ 0 = sym (length-drop ((n - 32) + 1) text) ∙ ap length e in omega arith) in
     subst (λ (xs : List ℕ). IsReadFault xs (fault causes.Truncated 31)) (sym (ap (λ (k : ℕ). take k examples.two_arrays_file) same ∙ cut))
     (front_of_a_record (n - 32) text (drop ((n - 32) + 1) text) one_record long (omega arith) (record { time = refl; size = refl; body = refl }) (take-append-drop ((n - 32) + 1) text) left)
+
+-- a primitive array of no elements of a type 2
+abbrev other_elements : List ℕ
+other_elements = 0x23 ∷ four 1 ++ four 0 ++ four 0 ++ 0x02 ∷ []
+
+pub returns-clause-unknown_type : goal.returns-clause-unknown_type
+returns-clause-unknown_type c =
+    in_sub_records sizes.Four (segment 14 other_elements ∷ [])
+    (record { fits = lit≤ tt; long = lit≤ tt; magic = refl; id_size = refl })
+    (record { whole = refl; each = (record { framed = record { time = refl; size = refl; body = refl }; fields = lit≤ tt }, tt) })
+    (record {
+      whole = [];
+      r = segment 14 other_elements;
+      after = [];
+      segments = [];
+      span = record { start = 40; len = 14 };
+      first = refl;
+      before = tt;
+      at = refl;
+      faulty = record {
+        front = [];
+        rest = other_elements;
+        whole = refl;
+        each = tt;
+        stuck = IsStuck.other_type (four 1) (four 0) (four 0) 2 [] refl refl refl refl refl;
+        place = refl;
+      };
+    })
+
+-- the sub-records of root_kinds
+abbrev root_kinds_subs : List SubRecord
+root_kinds_subs =
+    RootOf roots.Unknown (four 1) []
+    ∷ RootOf roots.JniGlobal (four 2) (four 0x66)
+    ∷ RootOf roots.JniLocal (four 3) (four 0x77 ++ four 0x88)
+    ∷ RootOf roots.JavaFrame (four 4) (four 0x77 ++ four 0x88)
+    ∷ RootOf roots.NativeStack (four 5) (four 0x77)
+    ∷ RootOf roots.StickyClass (four 6) []
+    ∷ RootOf roots.ThreadBlock (four 7) (four 0x77)
+    ∷ RootOf roots.MonitorUsed (four 8) []
+    ∷ RootOf roots.Thread (four 9) (four 0x77 ++ four 0x77)
+    ∷ []
+
+pub returns-clause-root_kinds : goal.returns-clause-root_kinds
+returns-clause-root_kinds c = record {
+  size = sizes.Four;
+  records = segment 81 (flat_map sub_record_text root_kinds_subs) ∷ [];
+  segments = root_kinds_subs ∷ [];
+  reads = record {
+    header = record { fits = lit≤ tt; long = lit≤ tt; magic = refl; id_size = refl };
+    whole = record { whole = refl; each = (record { framed = record { time = refl; size = refl; body = refl }; fields = lit≤ tt }, tt) };
+    bodies = (
+      record {
+        whole = refl;
+        each = (
+          (refl, refl),
+          ((refl, refl), ((refl, refl), ((refl, refl), ((refl, refl), ((refl, refl), ((refl, refl), ((refl, refl), ((refl, refl), tt)))))))),
+        );
+      },
+      tt,
+    );
+    no_null = refl;
+  };
+  is = refl;
+}
+
+-- the sub-record of primitive_array
+abbrev primitive_array_sub : SubRecord
+primitive_array_sub = PrimitiveArray (four 6) (four 0) (four 2) 0x0a (four 1 ++ four 2)
+
+pub returns-clause-primitive_array : goal.returns-clause-primitive_array
+returns-clause-primitive_array c = record {
+  size = sizes.Four;
+  records = segment 22 (sub_record_text primitive_array_sub) ∷ [];
+  segments = (primitive_array_sub ∷ []) ∷ [];
+  reads = record {
+    header = record { fits = lit≤ tt; long = lit≤ tt; magic = refl; id_size = refl };
+    whole = record { whole = refl; each = (record { framed = record { time = refl; size = refl; body = refl }; fields = lit≤ tt }, tt) };
+    bodies = (record { whole = refl; each = ((refl, refl, refl, refl, refl), tt) }, tt);
+    no_null = refl;
+  };
+  is = refl;
+}

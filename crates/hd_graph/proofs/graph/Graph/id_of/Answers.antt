@@ -1,19 +1,19 @@
 use Rattle.std.proofs.Common.{◌∙◌, ℕ, ◌<◌, List, length, get_or, ap, sym, arith}
 use Rattle.hd_terms.specs.Dump.{Object, Dump, object_at}
-use Rattle.hd_graph.specs.Arrays.{row_objects}
-use Rattle.hd_graph.proofs.ArrayLemmas.{length-row_objects, row_objects-at}
+use Rattle.hd_graph.specs.Shapes.{row_objects}
+use Rattle.hd_graph.proofs.ArrayLemmas.{length-row_objects, row_objects-at, any_shape}
 use Rattle.hd_graph.proofs.graph.Graph.id_of.Goals as goal
 
 pub bounds-ids-o : goal.bounds-ids-o
 bounds-ids-o c =
     let a = c.self.inside in
-    let lt : c.args.o < length (row_objects a.id_size a.references.ids a.references.rows) = rw (← c.self.view_is) at c.requires in
-    rw c.ids.ensures (omega (arith, length-row_objects a.id_size a.references.ids a.references.rows c.self.invariant.rows))
+    let lt : c.args.o < length (row_objects a.shapes a.references.ids a.references.rows) = rw (← c.self.view_is) at c.requires in
+    rw c.ids.ensures (omega (arith, length-row_objects a.shapes a.references.ids a.references.rows c.self.invariant.columns))
 
 pub returns : goal.returns
 returns c =
     let a = c.self.inside in
-    let lt : c.args.o < length (row_objects a.id_size a.references.ids a.references.rows) = rw (← c.self.view_is) at c.requires in
+    let lt : c.args.o < length (row_objects a.shapes a.references.ids a.references.rows) = rw (← c.self.view_is) at c.requires in
     ap (λ (ids : List ℕ). get_or ids c.args.o 0) c.ids.ensures
-    ∙ sym (ap (λ (x : Object). x.id) (row_objects-at a.id_size a.references.ids a.references.rows c.self.invariant.rows c.args.o (omega (arith, length-row_objects a.id_size a.references.ids a.references.rows c.self.invariant.rows))))
+    ∙ sym (ap (λ (x : Object). x.id) (row_objects-at a.shapes a.references.ids a.references.rows c.self.invariant.columns any_shape c.args.o (omega (arith, length-row_objects a.shapes a.references.ids a.references.rows c.self.invariant.columns))))
     ∙ ap (λ (dump : Dump). (object_at dump c.args.o).id) c.self.view_is

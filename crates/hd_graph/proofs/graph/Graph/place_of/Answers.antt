@@ -1,34 +1,64 @@
-use Rattle.std.proofs.Common.{◌≡◌, ◌∙◌, ℕ, ◌<◌, List, length, ap, sym, arith, Some}
+use Rattle.std.proofs.Common.{◌≡◌, ◌∙◌, ℕ, ◌<◌, ◌^◌, List, length, get_or, Some, ap, sym, subst, arith}
 use Rattle.std.specs.List.{position, slice_get}
-use Rattle.hd_terms.specs.Dump.{SlotEntry, Dump, object_at}
+use Rattle.hd_terms.specs.Dump.{Dump, object_at, SlotEntry}
 use Rattle.hd_terms.specs.EditedDump.{same_slot}
 use Rattle.hd_graph.specs.Table.{row_at}
-use Rattle.hd_graph.specs.Arrays.{row_slots, row_place, row_objects}
-use Rattle.hd_graph.proofs.ArrayLemmas.{length-row_objects, slots-at, first-place, place-of-slot}
+use Rattle.hd_graph.specs.Shapes.{ObjectShape, HasShape, HasFewNames, shape_place, shape_slots, row_objects}
+use Rattle.hd_graph.specs.KeptShapes.{shape_view}
+use Rattle.std.proofs.lemmas.Option.{get_or_from_slice_get}
+use Rattle.hd_graph.proofs.ArrayLemmas.{length-row_objects, slots-at, fit-at, any_shape}
+use Rattle.hd_graph.proofs.ShapeLemmas.{few-names, first-place-of, place-of}
 use Rattle.hd_graph.proofs.graph.Graph.place_of.Goals as goal
+
+pub get-requires : goal.get-requires
+get-requires c =
+    let a = c.self.inside in
+    let lt : c.args.o < length (row_objects a.shapes a.references.ids a.references.rows) = rw (← c.self.view_is) at c.requires in
+    let few = length-row_objects a.shapes a.references.ids a.references.rows c.self.invariant.columns in
+    omega (arith, few, c.self.invariant.columns.shapes)
 
 pub row_len-requires : goal.row_len-requires
 row_len-requires c =
     let a = c.self.inside in
-    let lt : c.args.o < length (row_objects a.id_size a.references.ids a.references.rows) = rw (← c.self.view_is) at c.requires in
-    omega (arith, length-row_objects a.id_size a.references.ids a.references.rows c.self.invariant.rows, c.self.invariant.rows)
+    let lt : c.args.o < length (row_objects a.shapes a.references.ids a.references.rows) = rw (← c.self.view_is) at c.requires in
+    let few = length-row_objects a.shapes a.references.ids a.references.rows c.self.invariant.columns in
+    omega (arith, few, c.self.invariant.columns.rows)
 
--- the slots are those of the object's row
-slots_are : (c : goal.After-place_in_row) → (object_at c.args.self.now c.args.o).slots ≡ row_slots 0 (row_at c.self.inside.references c.args.o)
-slots_are c =
+pub place_in-requires : goal.place_in-requires
+place_in-requires c =
     let a = c.self.inside in
-    let lt : c.args.o < length (row_objects a.id_size a.references.ids a.references.rows) = rw (← c.self.view_is) at c.requires in
-    ap (λ (dump : Dump). (object_at dump c.args.o).slots) (sym c.self.view_is) ∙ slots-at a.id_size a.references.ids a.references.rows c.self.invariant.rows c.args.o lt
-
--- the answer is the slot's place in that row
-answer_is : (c : goal.After-place_in_row) → c.place_in_row.result ≡ row_place (length (row_at c.self.inside.references c.args.o)) c.args.slot
-answer_is c = c.place_in_row.ensures ∙ ap (λ (n : ℕ). row_place n c.args.slot) c.row_len.ensures
+    let lt : c.args.o < length (row_objects a.shapes a.references.ids a.references.rows) = rw (← c.self.view_is) at c.requires in
+    let few = length-row_objects a.shapes a.references.ids a.references.rows c.self.invariant.columns in
+    let is : get_or a.shapes c.args.o any_shape ≡ shape_view c.get.result = get_or_from_slice_get a.shapes c.args.o (shape_view c.get.result) any_shape c.get.ensures in
+    let fit : HasShape (get_or a.shapes c.args.o any_shape) (row_at a.references c.args.o) = fit-at a.shapes a.references.rows c.self.invariant.columns.fit any_shape c.args.o (omega (arith, few, c.self.invariant.columns.rows)) in
+    let short : length (row_at a.references c.args.o) < 2 ^ 32 = omega (arith, c.row_len.ensures, c.row_len.type_inv) in
+    subst HasFewNames is (few-names (get_or a.shapes c.args.o any_shape) (row_at a.references c.args.o) fit short)
 
 pub returns-clause-first : goal.returns-clause-first
 returns-clause-first c =
-    answer_is c ∙ first-place (row_at c.self.inside.references c.args.o) c.args.slot ∙ ap (λ (ss : List SlotEntry). position (λ (s : SlotEntry). same_slot s.slot c.args.slot) ss) (sym (slots_are c))
+    let a = c.self.inside in
+    let lt : c.args.o < length (row_objects a.shapes a.references.ids a.references.rows) = rw (← c.self.view_is) at c.requires in
+    let few = length-row_objects a.shapes a.references.ids a.references.rows c.self.invariant.columns in
+    let is : get_or a.shapes c.args.o any_shape ≡ shape_view c.get.result = get_or_from_slice_get a.shapes c.args.o (shape_view c.get.result) any_shape c.get.ensures in
+    let fit : HasShape (get_or a.shapes c.args.o any_shape) (row_at a.references c.args.o) = fit-at a.shapes a.references.rows c.self.invariant.columns.fit any_shape c.args.o (omega (arith, few, c.self.invariant.columns.rows)) in
+    c.place_in.ensures
+    ∙ ap (λ (n : ℕ). shape_place (shape_view c.get.result) n c.args.slot) c.row_len.ensures
+    ∙ ap (λ (s : ObjectShape). shape_place s (length (row_at a.references c.args.o)) c.args.slot) (sym is)
+    ∙ first-place-of (get_or a.shapes c.args.o any_shape) (row_at a.references c.args.o) c.args.slot fit
+    ∙ ap (λ (ss : List SlotEntry). position (λ (s : SlotEntry). same_slot s.slot c.args.slot) ss) (sym (slots-at a.shapes a.references.ids a.references.rows c.self.invariant.columns any_shape c.args.o lt))
+    ∙ ap (λ (dump : Dump). position (λ (s : SlotEntry). same_slot s.slot c.args.slot) (object_at dump c.args.o).slots) c.self.view_is
 
 pub returns-clause-only : goal.returns-clause-only
 returns-clause-only c = λ i s at same.
-    let here : slice_get (row_slots 0 (row_at c.self.inside.references c.args.o)) i ≡ Some s = ap (λ (ss : List SlotEntry). slice_get ss i) (sym (slots_are c)) ∙ at in
-    answer_is c ∙ place-of-slot (row_at c.self.inside.references c.args.o) c.args.slot i s here same
+    let a = c.self.inside in
+    let lt : c.args.o < length (row_objects a.shapes a.references.ids a.references.rows) = rw (← c.self.view_is) at c.requires in
+    let few = length-row_objects a.shapes a.references.ids a.references.rows c.self.invariant.columns in
+    let is : get_or a.shapes c.args.o any_shape ≡ shape_view c.get.result = get_or_from_slice_get a.shapes c.args.o (shape_view c.get.result) any_shape c.get.ensures in
+    let fit : HasShape (get_or a.shapes c.args.o any_shape) (row_at a.references c.args.o) = fit-at a.shapes a.references.rows c.self.invariant.columns.fit any_shape c.args.o (omega (arith, few, c.self.invariant.columns.rows)) in
+    let here : slice_get (shape_slots (get_or a.shapes c.args.o any_shape) (row_at a.references c.args.o)) i ≡ Some s =
+    ap (λ (ss : List SlotEntry). slice_get ss i) (sym (slots-at a.shapes a.references.ids a.references.rows c.self.invariant.columns any_shape c.args.o lt))
+    ∙ ap (λ (dump : Dump). slice_get (object_at dump c.args.o).slots i) c.self.view_is ∙ at in
+    c.place_in.ensures
+    ∙ ap (λ (n : ℕ). shape_place (shape_view c.get.result) n c.args.slot) c.row_len.ensures
+    ∙ ap (λ (x : ObjectShape). shape_place x (length (row_at a.references c.args.o)) c.args.slot) (sym is)
+    ∙ place-of (get_or a.shapes c.args.o any_shape) (row_at a.references c.args.o) c.args.slot i s fit here same

@@ -1,12 +1,12 @@
 use Rattle.std.proofs.Common.{◌∙◌, ◌<◌, length, ap, sym, arith}
 use Rattle.hd_terms.specs.Dump.{Object, Dump, object_at}
-use Rattle.hd_graph.specs.Arrays.{row_objects}
-use Rattle.hd_graph.proofs.ArrayLemmas.{length-row_objects, row_objects-at}
+use Rattle.hd_graph.specs.Shapes.{row_objects}
+use Rattle.hd_graph.proofs.ArrayLemmas.{length-row_objects, row_objects-at, any_shape}
 use Rattle.hd_graph.proofs.graph.Graph.referent_of.Goals as goal
 
 pub returns : goal.returns
 returns c =
     let a = c.self.inside in
-    let lt : c.args.o < length (row_objects a.id_size a.references.ids a.references.rows) = rw (← c.self.view_is) at c.requires in
-    sym (ap (λ (x : Object). x.referent) (row_objects-at a.id_size a.references.ids a.references.rows c.self.invariant.rows c.args.o (omega (arith, length-row_objects a.id_size a.references.ids a.references.rows c.self.invariant.rows))))
+    let lt : c.args.o < length (row_objects a.shapes a.references.ids a.references.rows) = rw (← c.self.view_is) at c.requires in
+    sym (ap (λ (x : Object). x.referent) (row_objects-at a.shapes a.references.ids a.references.rows c.self.invariant.columns any_shape c.args.o (omega (arith, length-row_objects a.shapes a.references.ids a.references.rows c.self.invariant.columns))))
     ∙ ap (λ (dump : Dump). (object_at dump c.args.o).referent) c.self.view_is

@@ -1,79 +1,86 @@
-use Rattle.std.proofs.Common.{◌≡◌, ◌∙◌, ℕ, suc, ◌<◌, List, length, get_or, ap, sym, arith, Some}
+use Rattle.std.proofs.Common.{◌≡◌, ◌∙◌, ℕ, ◌<◌, List, length, get_or, Some, ap, sym, subst, arith}
 use Rattle.std.specs.List.{slice_get}
-use Rattle.hd_terms.specs.Dump.{SlotEntry, Dump, no_object, object_at}
+use Rattle.hd_terms.specs.Dump.{Dump, object_at, no_object, SlotEntry}
 use Rattle.hd_terms.specs.Edges.{index_of}
-use Rattle.hd_graph.specs.Table.{row_at}
-use Rattle.hd_graph.specs.Arrays.{row_objects}
-use Rattle.hd_graph.proofs.ArrayLemmas.{length-row_objects, index_of-row_objects, length-row_slots, row_slots-class, row_slots-element, slots-at}
 use Rattle.hd_terms.specs.Slots.{strong_slot}
-use Rattle.hd_terms.specs.declared.Slot.TheVariants as slots
+use Rattle.hd_graph.specs.Table.{row_at}
+use Rattle.hd_graph.specs.Shapes.{ObjectShape, HasShape, IsNamedAt, slot_name, row_objects}
+use Rattle.hd_graph.specs.KeptShapes.{shape_view}
+use Rattle.std.proofs.lemmas.Option.{get_or_from_slice_get}
+use Rattle.hd_graph.proofs.ArrayLemmas.{length-row_objects, index_of-row_objects, slots-at, length-slots-at, fit-at, any_shape}
+use Rattle.hd_graph.proofs.ShapeLemmas.{slot-at, named-there}
 use Rattle.hd_graph.proofs.graph.Graph.slots.Goals as goal
 
 pub get-id-requires-clause-row : goal.get-id-requires-clause-row
 get-id-requires-clause-row c =
     let a = c.self.inside in
-    let lt : c.args.o < length (row_objects a.id_size a.references.ids a.references.rows) = rw (← c.self.view_is) at c.requires.object in
-    omega (arith, length-row_objects a.id_size a.references.ids a.references.rows c.self.invariant.rows, c.self.invariant.rows)
+    let lt : c.args.o < length (row_objects a.shapes a.references.ids a.references.rows) = rw (← c.self.view_is) at c.requires.object in
+    let few = length-row_objects a.shapes a.references.ids a.references.rows c.self.invariant.columns in
+    omega (arith, few, c.self.invariant.columns.rows)
 
 pub get-id-requires-clause-place : goal.get-id-requires-clause-place
 get-id-requires-clause-place c =
     let a = c.self.inside in
-    let lt : c.args.o < length (row_objects a.id_size a.references.ids a.references.rows) = rw (← c.self.view_is) at c.requires.object in
-    let place : c.args.i < length (get_or (row_objects a.id_size a.references.ids a.references.rows) c.args.o no_object).slots = rw (← c.self.view_is) at c.requires.place in
-    let shown = rw (slots-at a.id_size a.references.ids a.references.rows c.self.invariant.rows c.args.o lt) at place in
-    omega (arith, shown, length-row_slots 0 (row_at a.references c.args.o))
+    let lt : c.args.o < length (row_objects a.shapes a.references.ids a.references.rows) = rw (← c.self.view_is) at c.requires.object in
+    let few = length-row_objects a.shapes a.references.ids a.references.rows c.self.invariant.columns in
+    let place : c.args.i < length (get_or (row_objects a.shapes a.references.ids a.references.rows) c.args.o no_object).slots = rw (← c.self.view_is) at c.requires.place in
+    let within : c.args.i < length (row_at a.references c.args.o) = omega (arith, length-slots-at a.shapes a.references.ids a.references.rows c.self.invariant.columns c.args.o lt) in
+    within
+
+pub get-requires : goal.get-requires
+get-requires c =
+    let a = c.self.inside in
+    let lt : c.args.o < length (row_objects a.shapes a.references.ids a.references.rows) = rw (← c.self.view_is) at c.requires.object in
+    let few = length-row_objects a.shapes a.references.ids a.references.rows c.self.invariant.columns in
+    omega (arith, few, c.self.invariant.columns.shapes)
 
 pub row_len-requires : goal.row_len-requires
 row_len-requires c =
     let a = c.self.inside in
-    let lt : c.args.o < length (row_objects a.id_size a.references.ids a.references.rows) = rw (← c.self.view_is) at c.requires.object in
-    omega (arith, length-row_objects a.id_size a.references.ids a.references.rows c.self.invariant.rows, c.self.invariant.rows)
+    let lt : c.args.o < length (row_objects a.shapes a.references.ids a.references.rows) = rw (← c.self.view_is) at c.requires.object in
+    let few = length-row_objects a.shapes a.references.ids a.references.rows c.self.invariant.columns in
+    omega (arith, few, c.self.invariant.columns.rows)
 
-pub overflow_sub-row_len : goal.overflow_sub-row_len
-overflow_sub-row_len c =
+pub slot_at-slot-requires-clause-place : goal.slot_at-slot-requires-clause-place
+slot_at-slot-requires-clause-place c =
     let a = c.self.inside in
-    let lt : c.args.o < length (row_objects a.id_size a.references.ids a.references.rows) = rw (← c.self.view_is) at c.requires.object in
-    let place : c.args.i < length (get_or (row_objects a.id_size a.references.ids a.references.rows) c.args.o no_object).slots = rw (← c.self.view_is) at c.requires.place in
-    let shown = rw (slots-at a.id_size a.references.ids a.references.rows c.self.invariant.rows c.args.o lt) at place in
-    omega (arith, shown, length-row_slots 0 (row_at a.references c.args.o))
+    let lt : c.args.o < length (row_objects a.shapes a.references.ids a.references.rows) = rw (← c.self.view_is) at c.requires.object in
+    let few = length-row_objects a.shapes a.references.ids a.references.rows c.self.invariant.columns in
+    let place : c.args.i < length (get_or (row_objects a.shapes a.references.ids a.references.rows) c.args.o no_object).slots = rw (← c.self.view_is) at c.requires.place in
+    let within : c.args.i < length (row_at a.references c.args.o) = omega (arith, length-slots-at a.shapes a.references.ids a.references.rows c.self.invariant.columns c.args.o lt) in
+    omega (arith, within, c.row_len.ensures)
 
-pub returns-then-i-row_len-clause-entry : goal.returns-then-i-row_len-clause-entry
-returns-then-i-row_len-clause-entry c =
+pub slot_at-slot-requires-clause-named : goal.slot_at-slot-requires-clause-named
+slot_at-slot-requires-clause-named c =
     let a = c.self.inside in
-    let lt : c.args.o < length (row_objects a.id_size a.references.ids a.references.rows) = rw (← c.self.view_is) at c.requires.object in
-    let place : c.args.i < length (get_or (row_objects a.id_size a.references.ids a.references.rows) c.args.o no_object).slots = rw (← c.self.view_is) at c.requires.place in
-    let shown = rw (slots-at a.id_size a.references.ids a.references.rows c.self.invariant.rows c.args.o lt) at place in
-    let row = row_at a.references c.args.o in
-    let last : suc c.args.i ≡ length row = omega (arith, shown, length-row_slots 0 row) in
+    let lt : c.args.o < length (row_objects a.shapes a.references.ids a.references.rows) = rw (← c.self.view_is) at c.requires.object in
+    let few = length-row_objects a.shapes a.references.ids a.references.rows c.self.invariant.columns in
+    let place : c.args.i < length (get_or (row_objects a.shapes a.references.ids a.references.rows) c.args.o no_object).slots = rw (← c.self.view_is) at c.requires.place in
+    let within : c.args.i < length (row_at a.references c.args.o) = omega (arith, length-slots-at a.shapes a.references.ids a.references.rows c.self.invariant.columns c.args.o lt) in
+    let is : get_or a.shapes c.args.o any_shape ≡ shape_view c.get.result = get_or_from_slice_get a.shapes c.args.o (shape_view c.get.result) any_shape c.get.ensures in
+    let fit : HasShape (get_or a.shapes c.args.o any_shape) (row_at a.references c.args.o) = fit-at a.shapes a.references.rows c.self.invariant.columns.fit any_shape c.args.o (omega (arith, few, c.self.invariant.columns.rows)) in
+    subst (λ (s : ObjectShape). IsNamedAt s c.args.i) is (named-there (get_or a.shapes c.args.o any_shape) (row_at a.references c.args.o) c.args.i fit within)
+
+pub returns-clause-entry : goal.returns-clause-entry
+returns-clause-entry c =
+    let a = c.self.inside in
+    let lt : c.args.o < length (row_objects a.shapes a.references.ids a.references.rows) = rw (← c.self.view_is) at c.requires.object in
+    let few = length-row_objects a.shapes a.references.ids a.references.rows c.self.invariant.columns in
+    let place : c.args.i < length (get_or (row_objects a.shapes a.references.ids a.references.rows) c.args.o no_object).slots = rw (← c.self.view_is) at c.requires.place in
+    let within : c.args.i < length (row_at a.references c.args.o) = omega (arith, length-slots-at a.shapes a.references.ids a.references.rows c.self.invariant.columns c.args.o lt) in
+    let is : get_or a.shapes c.args.o any_shape ≡ shape_view c.get.result = get_or_from_slice_get a.shapes c.args.o (shape_view c.get.result) any_shape c.get.ensures in
+    let fit : HasShape (get_or a.shapes c.args.o any_shape) (row_at a.references c.args.o) = fit-at a.shapes a.references.rows c.self.invariant.columns.fit any_shape c.args.o (omega (arith, few, c.self.invariant.columns.rows)) in
     ap (λ (dump : Dump). slice_get (object_at dump c.args.o).slots c.args.i) (sym c.self.view_is)
-    ∙ ap (λ (xs : List SlotEntry). slice_get xs c.args.i) (slots-at a.id_size a.references.ids a.references.rows c.self.invariant.rows c.args.o lt)
-    ∙ row_slots-class 0 row c.args.i last
-    ∙ ap (λ (id : ℕ). Some (strong_slot slots.OfClass id)) (sym c.get-id.ensures.id)
+    ∙ ap (λ (ss : List SlotEntry). slice_get ss c.args.i) (slots-at a.shapes a.references.ids a.references.rows c.self.invariant.columns any_shape c.args.o lt)
+    ∙ slot-at (get_or a.shapes c.args.o any_shape) (row_at a.references c.args.o) c.args.i fit within
+    ∙ ap (λ (s : ObjectShape). Some (strong_slot (slot_name s (length (row_at a.references c.args.o)) c.args.i) (get_or (row_at a.references c.args.o) c.args.i 0))) is
+    ∙ ap (λ (n : ℕ). Some (strong_slot (slot_name (shape_view c.get.result) n c.args.i) (get_or (row_at a.references c.args.o) c.args.i 0))) (sym c.row_len.ensures)
+    ∙ ap (λ slot. Some (strong_slot slot (get_or (row_at a.references c.args.o) c.args.i 0))) (sym c.slot_at-slot.ensures)
+    ∙ ap (λ (id : ℕ). Some (strong_slot c.slot_at-slot.result id)) (sym c.get-id.ensures.id)
 
-pub returns-then-i-row_len-clause-target : goal.returns-then-i-row_len-clause-target
-returns-then-i-row_len-clause-target c =
+pub returns-clause-target : goal.returns-clause-target
+returns-clause-target c =
     let a = c.self.inside in
     c.get-id.ensures.target
-    ∙ sym (index_of-row_objects a.id_size c.get-id.result.0 a.references.ids a.references.rows c.self.invariant.rows)
-    ∙ ap (λ (dump : Dump). index_of dump.objects c.get-id.result.0) c.self.view_is
-
-pub returns-else-i-row_len-clause-entry : goal.returns-else-i-row_len-clause-entry
-returns-else-i-row_len-clause-entry c =
-    let a = c.self.inside in
-    let lt : c.args.o < length (row_objects a.id_size a.references.ids a.references.rows) = rw (← c.self.view_is) at c.requires.object in
-    let place : c.args.i < length (get_or (row_objects a.id_size a.references.ids a.references.rows) c.args.o no_object).slots = rw (← c.self.view_is) at c.requires.place in
-    let shown = rw (slots-at a.id_size a.references.ids a.references.rows c.self.invariant.rows c.args.o lt) at place in
-    let row = row_at a.references c.args.o in
-    let before : suc c.args.i < length row = omega (arith, shown, length-row_slots 0 row) in
-    ap (λ (dump : Dump). slice_get (object_at dump c.args.o).slots c.args.i) (sym c.self.view_is)
-    ∙ ap (λ (xs : List SlotEntry). slice_get xs c.args.i) (slots-at a.id_size a.references.ids a.references.rows c.self.invariant.rows c.args.o lt)
-    ∙ row_slots-element 0 row c.args.i before
-    ∙ ap (λ (n : ℕ). Some (strong_slot (slots.Element n) (get_or row c.args.i 0))) (omega arith)
-    ∙ ap (λ (id : ℕ). Some (strong_slot (slots.Element c.args.i) id)) (sym c.get-id.ensures.id)
-
-pub returns-else-i-row_len-clause-target : goal.returns-else-i-row_len-clause-target
-returns-else-i-row_len-clause-target c =
-    let a = c.self.inside in
-    c.get-id.ensures.target
-    ∙ sym (index_of-row_objects a.id_size c.get-id.result.0 a.references.ids a.references.rows c.self.invariant.rows)
+    ∙ sym (index_of-row_objects a.shapes c.get-id.result.0 a.references.ids a.references.rows c.self.invariant.columns)
     ∙ ap (λ (dump : Dump). index_of dump.objects c.get-id.result.0) c.self.view_is

@@ -1,6 +1,6 @@
 use Rattle.std.proofs.Common.{◌∙◌, ◌-◌, sym, arith}
 use Rattle.hd_graph.specs.Table.{row_at}
-use Rattle.hd_graph.proofs.ArrayLemmas.{last-at, last-none}
+use Rattle.hd_graph.proofs.RowSlots.{last-at, last-none}
 use Rattle.hd_graph.proofs.references.References.last.Goals as goal
 
 pub returns-in-0 : goal.returns-in-0

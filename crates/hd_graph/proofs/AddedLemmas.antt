@@ -1,0 +1,74 @@
+-- A class object's row and shape, once its IDs and names were added.
+use Rattle.std.proofs.Common.{◌≡◌, ◌∙◌, ℕ, ◌+◌, ◌≤◌, List, [], ◌∷◌, ◌++◌, length, map, refl, sym, ap, arith}
+use Rattle.std.proofs.lemmas.List.{length-map}
+use Rattle.hd_terms.specs.declared.IdSize.{IdSize}
+use Rattle.hd_terms.specs.declared.Span.{Span}
+use Rattle.hd_terms.specs.declared.Slot.{Slot}
+use Rattle.hd_terms.specs.declared.Slot.TheVariants as slots
+use Rattle.hd_subs.specs.declared.class.ClassDump.{ClassDump}
+use Rattle.hd_subs.specs.Views.{static_view, constant_view, class_view}
+use Rattle.hd_graph.specs.Table.{Table}
+use Rattle.hd_graph.specs.Shapes.{ObjectShape, ClassObject}
+use Rattle.hd_graph.specs.ArrayRows.{values_of_statics, values_of_constants, value_ids, value_names, static_bytes, class_row, class_names, class_weight}
+use Rattle.hd_graph.specs.Building.{GrowsBy, Adds, columns}
+use Rattle.hd_graph.proofs.ValueLemmas.{ids-le, length-static-values, length-constant-values}
+
+-- a row that has grown by the IDs of values
+pub grown-room : (bytes : List ℕ) (size : IdSize) (vs : List (ℕ × Span)) (t u : Table) → GrowsBy (value_ids bytes size vs) t u → (length u.ids ≡ length t.ids) × (u.count ≤ t.count + length vs)
+grown-room bytes size vs t u e = (ap (λ (x : Table). length x.ids) e, omega (arith, ap (λ (x : Table). x.count) e, ids-le bytes size vs))
+
+-- tables of the same parts are one
+same_table : (t u : Table) → t.ids ≡ u.ids → t.rows ≡ u.rows → t.filling ≡ u.filling → t.count ≡ u.count → t ≡ u
+same_table t u ids rows filling count =
+    ap (λ (x : List ℕ). let m : Table = record { ids = x; rows = t.rows; filling = t.filling; count = t.count } in m) ids
+    ∙ ap (λ (x : List (List ℕ)). let m : Table = record { ids = u.ids; rows = x; filling = t.filling; count = t.count } in m) rows
+    ∙ ap (λ (x : List ℕ). let m : Table = record { ids = u.ids; rows = u.rows; filling = x; count = t.count } in m) filling
+    ∙ ap (λ (x : ℕ). let m : Table = record { ids = u.ids; rows = u.rows; filling = u.filling; count = x } in m) count
+
+module _ (bytes : List ℕ) (size : IdSize) (c : ClassDump) (first second third fourth last : Table) (shapes shapes' : List ObjectShape) (ns ks all : List Slot) (b : ℕ) where
+  abbrev statics : List (ℕ × Span)
+  statics = values_of_statics (map static_view c.statics.items)
+
+  abbrev constants : List (ℕ × Span)
+  constants = values_of_constants (map constant_view c.constants.items)
+
+  abbrev ids : List ℕ
+  ids = c.super_id ∷ c.loader ∷ c.signers ∷ c.domain ∷ []
+
+  abbrev names : List Slot
+  names = slots.Super ∷ slots.Loader ∷ slots.Signers ∷ slots.Domain ∷ []
+
+  pub class-added : first.filling ≡ [] → GrowsBy (value_ids bytes size statics) first second → GrowsBy (value_ids bytes size constants) second third → GrowsBy ids third fourth
+      → last ≡ record fourth { rows = fourth.rows ++ fourth.filling ∷ []; filling = [] }
+      → ns ≡ value_names (λ i. slots.Static i) 0 statics → ks ≡ ns ++ value_names (λ i. slots.Const i) 0 constants → all ≡ ks ++ names
+      → b ≡ static_bytes (map static_view c.statics.items) → shapes' ≡ shapes ++ ClassObject b all ∷ []
+      → Adds (c.id, class_row bytes size (class_view c), ClassObject (static_bytes (map static_view c.statics.items)) (class_names (class_view c))) (class_weight (class_view c)) (columns first shapes) (columns last shapes')
+  class-added empty to_second to_third to_fourth to_last ns_are ks_are all_are b_is shapes_are =
+      let A = value_ids bytes size statics in
+      let B = value_ids bytes size constants in
+      let filling : fourth.filling ≡ class_row bytes size (class_view c) =
+      ap (λ (t : Table). t.filling) to_fourth ∙ ap (λ (f : List ℕ). f ++ ids) (ap (λ (t : Table). t.filling) to_third ∙ ap (λ (f : List ℕ). f ++ B) (ap (λ (t : Table). t.filling) to_second ∙ ap (λ (f : List ℕ). f ++ A) empty)) in
+      let rows : fourth.rows ≡ first.rows = ap (λ (t : Table). t.rows) to_fourth ∙ ap (λ (t : Table). t.rows) to_third ∙ ap (λ (t : Table). t.rows) to_second in
+      let count : last.count ≤ first.count + class_weight (class_view c) =
+      omega (
+        arith,
+        ap (λ (t : Table). t.count) to_last,
+        ap (λ (t : Table). t.count) to_fourth,
+        (grown-room bytes size constants second third to_third).1,
+        (grown-room bytes size statics first second to_second).1,
+        length-static-values c.statics.items,
+        length-constant-values c.constants.items,
+        length-map c.statics.items static_view,
+        length-map c.constants.items constant_view,
+      ) in
+      record {
+        table = same_table last (record first { rows = first.rows ++ class_row bytes size (class_view c) ∷ []; count = last.count })
+            (ap (λ (t : Table). t.ids) to_last ∙ ap (λ (t : Table). t.ids) to_fourth ∙ ap (λ (t : Table). t.ids) to_third ∙ ap (λ (t : Table). t.ids) to_second)
+            (ap (λ (t : Table). t.rows) to_last ∙ ap (λ (rs : List (List ℕ)). rs ++ fourth.filling ∷ []) rows ∙ ap (λ (f : List ℕ). first.rows ++ f ∷ []) filling)
+            (ap (λ (t : Table). t.filling) to_last ∙ sym empty)
+            refl;
+        count = count;
+        shapes = shapes_are
+            ∙ ap (λ (n : ℕ). shapes ++ ClassObject n all ∷ []) b_is
+            ∙ ap (λ (xs : List Slot). shapes ++ ClassObject (static_bytes (map static_view c.statics.items)) xs ∷ []) (all_are ∙ ap (λ (xs : List Slot). xs ++ names) (ks_are ∙ ap (λ (xs : List Slot). xs ++ value_names (λ i. slots.Const i) 0 constants) ns_are));
+      }

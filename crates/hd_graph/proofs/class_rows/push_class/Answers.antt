@@ -1,0 +1,61 @@
+use Rattle.std.proofs.Common.{◌∙◌, List, ◌++◌, length, map, ap, subst, arith}
+use Rattle.std.proofs.lemmas.List.{length-map}
+use Rattle.hd_terms.specs.declared.Slot.{Slot}
+use Rattle.hd_terms.specs.declared.Slot.TheVariants as slots
+use Rattle.hd_subs.specs.declared.class.Static.{Static}
+use Rattle.hd_subs.specs.declared.class.Constant.{Constant}
+use Rattle.hd_subs.specs.Views.{static_view, constant_view}
+use Rattle.hd_graph.specs.ArrayRows.{values_of_statics, values_of_constants, value_ids, value_names, static_bytes}
+use Rattle.hd_graph.specs.Building.{GrowsBy}
+use Rattle.hd_graph.proofs.ValueLemmas.{length-static-values, length-constant-values}
+use Rattle.hd_graph.proofs.AddedLemmas.{grown-room, class-added}
+use Rattle.hd_graph.proofs.class_rows.push_class.Goals as goal
+
+pub push_constants-requires-clause-room : goal.push_constants-requires-clause-room
+push_constants-requires-clause-room c =
+    let grown = grown-room c.args.bytes.now c.args.id_size (values_of_statics (map static_view c.as_slice.result.now)) c.args.references.now c.push_statics.new.references c.in_ok-push_statics.ensures.row in
+    omega (
+      arith,
+      grown.0,
+      grown.1,
+      length-static-values c.as_slice.result.now,
+      ap (λ (xs : List Static). length xs) c.as_slice.ensures.value,
+      ap (λ (xs : List Constant). length xs) c.as_slice-2.ensures.value,
+      length-map c.args.class.now.statics.items static_view,
+      length-map c.args.class.now.constants.items constant_view,
+      c.requires.room,
+    )
+
+pub push_links-requires : goal.push_links-requires
+push_links-requires c =
+    let grown = grown-room c.args.bytes.now c.args.id_size (values_of_statics (map static_view c.as_slice.result.now)) c.args.references.now c.push_statics.new.references c.in_ok-push_statics.ensures.row in
+    let more = grown-room c.args.bytes.now c.args.id_size (values_of_constants (map constant_view c.as_slice-2.result.now)) c.push_statics.new.references c.push_constants.new.references c.in_ok-push_constants.ensures.row in
+    omega (
+      arith,
+      grown.0,
+      grown.1,
+      more.0,
+      more.1,
+      length-static-values c.as_slice.result.now,
+      length-constant-values c.as_slice-2.result.now,
+      ap (λ (xs : List Static). length xs) c.as_slice.ensures.value,
+      ap (λ (xs : List Constant). length xs) c.as_slice-2.ensures.value,
+      length-map c.args.class.now.statics.items static_view,
+      length-map c.args.class.now.constants.items constant_view,
+      c.requires.room,
+    )
+
+pub returns : goal.returns
+returns c =
+    class-added c.args.bytes.now c.args.id_size c.args.class.now c.args.references.now c.push_statics.new.references c.push_constants.new.references c.push_links.new.references c.end_row.new.self
+    c.args.shapes.now c.push_class.new.self c.push_statics.new.names.items c.push_constants.new.names.items c.push_links.new.names.items c.bytes_of_statics-bytes.result
+    c.requires.filled
+    (subst (λ (xs : List Static). GrowsBy (value_ids c.args.bytes.now c.args.id_size (values_of_statics (map static_view xs))) c.args.references.now c.push_statics.new.references) c.as_slice.ensures.value c.in_ok-push_statics.ensures.row)
+    (subst (λ (xs : List Constant). GrowsBy (value_ids c.args.bytes.now c.args.id_size (values_of_constants (map constant_view xs))) c.push_statics.new.references c.push_constants.new.references) c.as_slice-2.ensures.value c.in_ok-push_constants.ensures.row)
+    c.in_ok-push_links.ensures.row
+    c.in_ok-end_row.ensures
+    (c.in_ok-push_statics.ensures.names ∙ ap (λ (ns : List Slot). ns ++ value_names (λ i. slots.Static i) 0 (values_of_statics (map static_view c.as_slice.result.now))) c.new-names.ensures.items ∙ ap (λ (xs : List Static). value_names (λ i. slots.Static i) 0 (values_of_statics (map static_view xs))) c.as_slice.ensures.value)
+    (c.in_ok-push_constants.ensures.names ∙ ap (λ (xs : List Constant). c.push_statics.new.names.items ++ value_names (λ i. slots.Const i) 0 (values_of_constants (map constant_view xs))) c.as_slice-2.ensures.value)
+    c.in_ok-push_links.ensures.names
+    (c.bytes_of_statics-bytes.ensures ∙ ap (λ (xs : List Static). static_bytes (map static_view xs)) c.as_slice-3.ensures.value)
+    c.in_ok-push_class.ensures

@@ -1,0 +1,106 @@
+-- What an object is, as far as its row of IDs doesn't say it, and the object of a shape, an ID and a row.
+use Rattle.std.specs.Prelude.{◌≡◌, ℕ, ◌^◌, ◌-◌, ◌==◌, if◌then◌else◌, ◌<◌, ◌≤◌, ◌⊎◌, List, [], ◌∷◌, length, map, Option, None}
+use Rattle.std.specs.List.{zip, position, slice_index_or, AllByRecursion, AllZip}
+use Rattle.hd_terms.specs.declared.Group.{Group}
+use Rattle.hd_terms.specs.declared.Group.TheVariants as groups
+use Rattle.hd_terms.specs.declared.Slot.{Slot}
+use Rattle.hd_terms.specs.declared.Slot.TheVariants as slots
+use Rattle.hd_terms.specs.Records.{largest_file}
+use Rattle.hd_terms.specs.Dump.{SlotEntry, Object}
+use Rattle.hd_terms.specs.Slots.{strong_slot}
+use Rattle.hd_terms.specs.EditedDump.{slot_code, same_slot}
+use Rattle.hd_graph.specs.Cuts.{last_from}
+use Rattle.hd_graph.specs.Arrays.{row_slots, row_place}
+
+pub data ObjectShape : Type 0 where
+  -- an object array, and its recorded bytes
+  ObjectArray : (bytes : ℕ) → ObjectShape
+  -- a primitive array: the type of its elements, and its recorded bytes
+  PrimitiveArray : (element bytes : ℕ) → ObjectShape
+  -- a class object: its recorded bytes, and the names of its slots
+  ClassObject : (bytes : ℕ) → (names : List Slot) → ObjectShape
+
+abbrev pub shape_bytes : ObjectShape → ℕ
+shape_bytes (ObjectArray bytes) = bytes
+shape_bytes (PrimitiveArray element bytes) = bytes
+shape_bytes (ClassObject bytes names) = bytes
+
+-- what an object is counted under: an object array under its class, the last ID of its row
+abbrev pub shape_group : ObjectShape → List ℕ → Group
+shape_group (ObjectArray bytes) row = groups.Class (last_from 0 row)
+shape_group (PrimitiveArray element bytes) row = groups.Prim element
+shape_group (ClassObject bytes names) row = groups.Classes
+
+-- the slots of names and the IDs in them
+abbrev pub named_slots : List Slot → List ℕ → List SlotEntry
+named_slots [] ids = []
+named_slots (name ∷ names) [] = []
+named_slots (name ∷ names) (id ∷ ids) = strong_slot name id ∷ named_slots names ids
+
+abbrev pub shape_slots : ObjectShape → List ℕ → List SlotEntry
+shape_slots (ObjectArray bytes) row = row_slots 0 row
+shape_slots (PrimitiveArray element bytes) row = row_slots 0 row
+shape_slots (ClassObject bytes names) row = named_slots names row
+
+-- the name of the slot at a place of an object with so many: the last of an array is its class
+abbrev pub slot_name : ObjectShape → ℕ → ℕ → Slot
+slot_name (ObjectArray bytes) n i = if i == n - 1 then slots.OfClass else slots.Element i
+slot_name (PrimitiveArray element bytes) n i = if i == n - 1 then slots.OfClass else slots.Element i
+slot_name (ClassObject bytes names) n i = slice_index_or names i slots.OfClass
+
+-- a class object has a name for a place
+abbrev pub IsNamedAt : ObjectShape → ℕ → Type 0
+IsNamedAt (ObjectArray bytes) i = Unit {0}
+IsNamedAt (PrimitiveArray element bytes) i = Unit {0}
+IsNamedAt (ClassObject bytes names) i = i < length names
+
+-- a class object has no more names than numbers of four bytes count
+abbrev pub HasFewNames : ObjectShape → Type 0
+HasFewNames (ObjectArray bytes) = Unit {0}
+HasFewNames (PrimitiveArray element bytes) = Unit {0}
+HasFewNames (ClassObject bytes names) = length names < 2 ^ 32
+
+-- the place of a slot in an object with so many
+abbrev pub shape_place : ObjectShape → ℕ → Slot → Option ℕ
+shape_place (ObjectArray bytes) n slot = row_place n slot
+shape_place (PrimitiveArray element bytes) n slot = row_place n slot
+shape_place (ClassObject bytes names) n slot = position (λ (name : Slot). same_slot name slot) names
+
+-- the object of a shape, an ID and a row
+abbrev pub row_object : ObjectShape → ℕ → List ℕ → Object
+row_object shape id row = record {
+  id = id;
+  group = shape_group shape row;
+  bytes = shape_bytes shape;
+  slots = shape_slots shape row;
+  referent = None;
+}
+
+-- the objects of shapes, IDs and rows
+abbrev pub row_objects : List ObjectShape → List ℕ → List (List ℕ) → List Object
+row_objects shapes ids rows = map (λ (p : ℕ × (List ℕ × ObjectShape)). row_object p.1.1 p.0 p.1.0) (zip ids (zip rows shapes))
+
+-- no more bytes are recorded of an object than a file has
+abbrev pub IsSmall : ObjectShape → Type 0
+IsSmall shape = shape_bytes shape ≤ largest_file
+
+-- a slot comes before another: by its kind, and then by its number
+abbrev pub ComesBefore : Slot → Slot → Type 0
+ComesBefore a b = ((slot_code a).0 < (slot_code b).0) ⊎ (((slot_code a).0 ≡ (slot_code b).0) × ((slot_code a).1 < (slot_code b).1))
+
+-- each slot comes before all that follow
+abbrev pub IsRising : List Slot → Type 0
+IsRising [] = Unit {0}
+IsRising (s ∷ ss) = AllByRecursion (ComesBefore s) ss × IsRising ss
+
+-- a class object's row has an ID for each of its names, and these rise
+abbrev pub HasShape : ObjectShape → List ℕ → Type 0
+HasShape (ObjectArray bytes) row = Unit {0}
+HasShape (PrimitiveArray element bytes) row = Unit {0}
+HasShape (ClassObject bytes names) row = (length names ≡ length row) × IsRising names
+
+-- there is a row and a shape for each ID, and they fit
+pub record AreColumns (ss : List ObjectShape) (ids : List ℕ) (rs : List (List ℕ)) : Type 0 where
+  pub rows : length rs ≡ length ids
+  pub shapes : length ss ≡ length ids
+  pub fit : AllZip HasShape ss rs
