@@ -10,7 +10,7 @@ use Rattle.hd_subs.specs.Views.{static_view, constant_view, class_view}
 use Rattle.hd_graph.specs.Table.{Table}
 use Rattle.hd_graph.specs.Shapes.{ObjectShape, ClassObject}
 use Rattle.hd_graph.specs.ArrayRows.{values_of_statics, values_of_constants, value_ids, value_names, static_bytes, class_row, class_names, class_weight}
-use Rattle.hd_graph.specs.Building.{GrowsBy, Adds, columns}
+use Rattle.hd_graph.specs.Building.{Columns, GrowsBy, Adds, columns}
 use Rattle.hd_graph.proofs.ValueLemmas.{ids-le, length-static-values, length-constant-values}
 
 -- a row that has grown by the IDs of values
@@ -72,3 +72,24 @@ module _ (bytes : List ℕ) (size : IdSize) (c : ClassDump) (first second third 
             ∙ ap (λ (n : ℕ). shapes ++ ClassObject n all ∷ []) b_is
             ∙ ap (λ (xs : List Slot). shapes ++ ClassObject (static_bytes (map static_view c.statics.items)) xs ∷ []) (all_are ∙ ap (λ (xs : List Slot). xs ++ names) (ks_are ∙ ap (λ (xs : List Slot). xs ++ value_names (λ i. slots.Const i) 0 constants) ns_are));
       }
+
+-- an instance's row and shape, once the IDs in its fields were added
+pub instance-added : (ids : List ℕ) (class weight : ℕ) (shape : ObjectShape) (first second third last : Table) (shapes shapes' : List ObjectShape) → first.filling ≡ [] → GrowsBy ids first second
+    → third ≡ record second { filling = second.filling ++ class ∷ []; count = second.count + 1 } → last ≡ record third { rows = third.rows ++ third.filling ∷ []; filling = [] }
+    → length ids + 1 ≤ weight → shapes' ≡ shapes ++ shape ∷ [] → Adds (0, ids ++ class ∷ [], shape) weight (columns first shapes) (columns last shapes')
+instance-added ids class weight shape first second third last shapes shapes' empty to_second to_third to_last few shapes_are =
+    let filling : third.filling ≡ ids ++ class ∷ [] = ap (λ (t : Table). t.filling) to_third ∙ ap (λ (f : List ℕ). f ++ class ∷ []) (ap (λ (t : Table). t.filling) to_second ∙ ap (λ (f : List ℕ). f ++ ids) empty) in
+    let rows : third.rows ≡ first.rows = ap (λ (t : Table). t.rows) to_third ∙ ap (λ (t : Table). t.rows) to_second in
+    record {
+      table = same_table last (record first { rows = first.rows ++ (ids ++ class ∷ []) ∷ []; count = last.count })
+          (ap (λ (t : Table). t.ids) to_last ∙ ap (λ (t : Table). t.ids) to_third ∙ ap (λ (t : Table). t.ids) to_second)
+          (ap (λ (t : Table). t.rows) to_last ∙ ap (λ (rs : List (List ℕ)). rs ++ third.filling ∷ []) rows ∙ ap (λ (f : List ℕ). first.rows ++ f ∷ []) filling)
+          (ap (λ (t : Table). t.filling) to_last ∙ sym empty)
+          refl;
+      count = omega (arith, ap (λ (t : Table). t.count) to_last, ap (λ (t : Table). t.count) to_third, ap (λ (t : Table). t.count) to_second, few);
+      shapes = shapes_are;
+    }
+
+-- what is added may weigh less, and is the same under any ID
+pub added-more : (id : ℕ) (row : List ℕ) (shape : ObjectShape) (less more : ℕ) (old new : Columns) → less ≤ more → Adds (0, row, shape) less old new → Adds (id, row, shape) more old new
+added-more id row shape less more old new le h = record { table = h.table; count = omega (arith, h.count); shapes = h.shapes }

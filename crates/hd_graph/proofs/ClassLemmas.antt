@@ -17,6 +17,7 @@ use Rattle.hd_terms.specs.Records.{id_len}
 use Rattle.hd_terms.specs.SubRecords.{ClassHead, ClassValue, ClassField, Counted, IsClassValue, ClassDump, IsSubRecord, StaticItem, ClassItem, class_head_text, counted_text, value_text, field_text, sub_record_text, constants_at, statics_at, class_item}
 use Rattle.hd_terms.specs.Slots.{strong_slot, value_slots, class_slots}
 use Rattle.hd_terms.specs.Groups.{class_bytes}
+use Rattle.hd_terms.specs.Classes.{ClassTable}
 use Rattle.hd_terms.specs.Objects.{object_of}
 use Rattle.hd_terms.specs.Dump.{Object, SlotEntry}
 use Rattle.hd_graph.specs.Shapes.{ClassObject, named_slots, row_object}
@@ -199,8 +200,8 @@ module _ (bytes : List ℕ) (size : IdSize) where
         ∙ ap (λ (ss : List SlotEntry). (ss ++ named_slots B J) ++ links) static-slots
         ∙ ap (λ (ss : List SlotEntry). (value_slots size (λ i. slots.Static i) 0 statics.items ++ ss) ++ links) constant-slots
 
-    pub class-object : Some (row_object (ClassObject (static_bytes item.statics) (class_names item)) item.id (class_row bytes size item)) ≡ object_of size (ClassDump head constants statics fields)
-    class-object =
+    pub class-object : (t : ClassTable) → Some (row_object (ClassObject (static_bytes item.statics) (class_names item)) item.id (class_row bytes size item)) ≡ object_of t size (ClassDump head constants statics fields)
+    class-object t =
         let x : ℕ → List SlotEntry → Object = λ b ss. record { id = item.id; group = groups.Classes; bytes = b; slots = ss; referent = None } in
         ap (λ (b : ℕ). Some (x b (named_slots (class_names item) (class_row bytes size item)))) (bytes-of-statics statics_place statics.items is.2.each)
         ∙ ap (λ (ss : List SlotEntry). Some (x (class_bytes statics.items) ss)) slots-are

@@ -7,7 +7,8 @@ use Rattle.std.proofs.lemmas.List.Sums.{sum_by-append}
 use Rattle.std.proofs.Math.Seq.{drop-append_seam}
 use Rattle.hd_terms.specs.declared.IdSize.{IdSize}
 use Rattle.hd_terms.specs.declared.Span.{Span}
-use Rattle.hd_terms.specs.SubRecords.{SubRecord, RootOf, ClassDump, ObjectArray, PrimitiveArray, IsSubRecord, AreSubRecords, sub_record_text, Sub, subs_at, dump_subs_at, item_at}
+use Rattle.hd_terms.specs.SubRecords.{SubRecord, RootOf, ClassDump, InstanceDump, ObjectArray, PrimitiveArray, IsSubRecord, AreSubRecords, sub_record_text, Sub, subs_at, dump_subs_at, item_at}
+use Rattle.hd_terms.specs.Classes.{ClassTable, known_class}
 use Rattle.hd_terms.specs.Dump.{Object, Root}
 use Rattle.hd_terms.specs.Objects.{object_of}
 use Rattle.hd_terms.specs.Roots.{root_of, roots_of}
@@ -17,9 +18,10 @@ use Rattle.hd_graph.specs.Bodies.{AreBodies, body_at}
 use Rattle.hd_graph.proofs.RowLemmas.{id_of_entry, row_of_entry, shape_of_entry}
 use Rattle.hd_graph.proofs.SpanLemmas.{span_total}
 use Rattle.hd_graph.proofs.ClassLemmas.{class-object, class-within, class-heavy}
+use Rattle.hd_graph.proofs.InstanceLemmas.{instance-object, instance-within, instance-weight}
 use Rattle.hd_graph.proofs.LocatedLemmas.{object_of_entry, array-object, array-within, array-weight, primitive-within, primitive-weight}
 
-module _ (bytes : List ℕ) (size : IdSize) where
+module _ (t : ClassTable) (bytes : List ℕ) (size : IdSize) where
   -- where the next sub-record begins
   next : (at : ℕ) (s : SubRecord) (ss : List SubRecord) (rest : List ℕ) → drop at bytes ≡ flat_map sub_record_text (s ∷ ss) ++ rest → drop (at + length (sub_record_text s)) bytes ≡ flat_map sub_record_text ss ++ rest
   next at s ss rest whole =
@@ -30,19 +32,24 @@ module _ (bytes : List ℕ) (size : IdSize) where
   here at s ss rest whole = whole ∙ append_assoc (sub_record_text s) (flat_map sub_record_text ss) rest
 
   objects_at : (at : ℕ) (ss : List SubRecord) (rest : List ℕ) → drop at bytes ≡ flat_map sub_record_text ss ++ rest → AllByRecursion (IsSubRecord size) ss
-      → map object_of_entry (filter_map (entry_of bytes size) (subs_at size at ss)) ≡ filter_map (object_of size) ss
+      → map object_of_entry (filter_map (entry_of (known_class t) bytes size) (subs_at size at ss)) ≡ filter_map (object_of t size) ss
   objects_at at [] rest whole each = refl
   objects_at at (RootOf kind id more ∷ ss) rest whole each = objects_at (at + length (sub_record_text (RootOf kind id more))) ss rest (next at (RootOf kind id more) ss rest whole) each.1
   objects_at at (ObjectArray id serial count class elements ∷ ss) rest whole each =
       let s = ObjectArray id serial count class elements in
-      let x = array-object bytes size at id serial count class elements (flat_map sub_record_text ss ++ rest) each.0 (here at s ss rest whole) in
+      let x = array-object bytes size at id serial count class elements (flat_map sub_record_text ss ++ rest) each.0 (here at s ss rest whole) t in
       let more = objects_at (at + length (sub_record_text s)) ss rest (next at s ss rest whole) each.1 in
-      ap (cons_option (Some _)) more ∙ ap (λ (o : Option Object). cons_option o (filter_map (object_of size) ss)) x
+      ap (cons_option (Some _)) more ∙ ap (λ (o : Option Object). cons_option o (filter_map (object_of t size) ss)) x
   objects_at at (ClassDump head constants statics fields ∷ ss) rest whole each =
       let s = ClassDump head constants statics fields in
-      let x = class-object bytes size at head constants statics fields (flat_map sub_record_text ss ++ rest) each.0 (here at s ss rest whole) in
+      let x = class-object bytes size at head constants statics fields (flat_map sub_record_text ss ++ rest) each.0 (here at s ss rest whole) t in
       let more = objects_at (at + length (sub_record_text s)) ss rest (next at s ss rest whole) each.1 in
-      ap (cons_option (Some _)) more ∙ ap (λ (o : Option Object). cons_option o (filter_map (object_of size) ss)) x
+      ap (cons_option (Some _)) more ∙ ap (λ (o : Option Object). cons_option o (filter_map (object_of t size) ss)) x
+  objects_at at (InstanceDump id serial class count values ∷ ss) rest whole each =
+      let s = InstanceDump id serial class count values in
+      let x = instance-object bytes size t at id serial class count values (flat_map sub_record_text ss ++ rest) each.0 (here at s ss rest whole) in
+      let more = objects_at (at + length (sub_record_text s)) ss rest (next at s ss rest whole) each.1 in
+      ap (cons_option (Some _)) more ∙ ap (λ (o : Option Object). cons_option o (filter_map (object_of t size) ss)) x
   objects_at at (PrimitiveArray id serial count element elements ∷ ss) rest whole each =
       let s = PrimitiveArray id serial count element elements in
       ap (cons_option (Some _)) (objects_at (at + length (sub_record_text s)) ss rest (next at s ss rest whole) each.1)
@@ -61,6 +68,11 @@ module _ (bytes : List ℕ) (size : IdSize) where
       let s = ClassDump head constants statics fields in
       All-cons (λ (s : Sub). IsItemWithin size (length bytes) s.item) _ _
       (class-within bytes size at head constants statics fields (flat_map sub_record_text ss ++ rest) each.0 (here at s ss rest whole))
+      (within_at (at + length (sub_record_text s)) ss rest (next at s ss rest whole) each.1)
+  within_at at (InstanceDump id serial class count values ∷ ss) rest whole each =
+      let s = InstanceDump id serial class count values in
+      All-cons (λ (s : Sub). IsItemWithin size (length bytes) s.item) _ _
+      (instance-within bytes size t at id serial class count values (flat_map sub_record_text ss ++ rest) each.0 (here at s ss rest whole))
       (within_at (at + length (sub_record_text s)) ss rest (next at s ss rest whole) each.1)
   within_at at (PrimitiveArray id serial count element elements ∷ ss) rest whole each =
       let s = PrimitiveArray id serial count element elements in
@@ -88,6 +100,11 @@ module _ (bytes : List ℕ) (size : IdSize) where
       let more = weight_at (at + length (sub_record_text s)) ss rest (next at s ss rest whole) each.1 in
       let first = class-heavy bytes size at head constants statics fields (flat_map sub_record_text ss ++ rest) each.0 (here at s ss rest whole) in
       omega (arith, weight-cons (record { offset = at; item = item_at size at s }) (subs_at size (at + length (sub_record_text s)) ss), more, first, length-append (sub_record_text s) (flat_map sub_record_text ss))
+  weight_at at (InstanceDump id serial class count values ∷ ss) rest whole each =
+      let s = InstanceDump id serial class count values in
+      let more = weight_at (at + length (sub_record_text s)) ss rest (next at s ss rest whole) each.1 in
+      let first = instance-weight bytes size t at id serial class count values (flat_map sub_record_text ss ++ rest) each.0 (here at s ss rest whole) in
+      omega (arith, weight-cons (record { offset = at; item = item_at size at s }) (subs_at size (at + length (sub_record_text s)) ss), more, first, length-append (sub_record_text s) (flat_map sub_record_text ss))
   weight_at at (PrimitiveArray id serial count element elements ∷ ss) rest whole each =
       let s = PrimitiveArray id serial count element elements in
       let more = weight_at (at + length (sub_record_text s)) ss rest (next at s ss rest whole) each.1 in
@@ -98,6 +115,7 @@ module _ (bytes : List ℕ) (size : IdSize) where
   roots_at at [] = refl
   roots_at at (RootOf kind id more ∷ ss) = ap (cons_option (Some _)) (roots_at (at + length (sub_record_text (RootOf kind id more))) ss)
   roots_at at (ClassDump head constants statics fields ∷ ss) = roots_at (at + length (sub_record_text (ClassDump head constants statics fields))) ss
+  roots_at at (InstanceDump id serial class count values ∷ ss) = roots_at (at + length (sub_record_text (InstanceDump id serial class count values))) ss
   roots_at at (PrimitiveArray id serial count element elements ∷ ss) = roots_at (at + length (sub_record_text (PrimitiveArray id serial count element elements))) ss
   roots_at at (ObjectArray id serial count class elements ∷ ss) = roots_at (at + length (sub_record_text (ObjectArray id serial count class elements))) ss
 
@@ -109,16 +127,16 @@ module _ (bytes : List ℕ) (size : IdSize) where
   all_of segments = flat_map (λ (ss : List SubRecord). ss) segments
 
   pub objects_in : (spans : List Span) (segments : List (List SubRecord)) → AreBodies size bytes spans segments
-      → map object_of_entry (filter_map (entry_of bytes size) (dump_subs_at size spans segments)) ≡ filter_map (object_of size) (all_of segments)
+      → map object_of_entry (filter_map (entry_of (known_class t) bytes size) (dump_subs_at size spans segments)) ≡ filter_map (object_of t size) (all_of segments)
   objects_in [] [] all = refl
   objects_in [] (s ∷ segments) all = absurd all
   objects_in (p ∷ spans) [] all = absurd all
   objects_in (p ∷ spans) (s ∷ segments) all =
-      ap (map object_of_entry) (filter_map-append (entry_of bytes size) (subs_at size p.start s) (dump_subs_at size spans segments))
-      ∙ map-append object_of_entry (filter_map (entry_of bytes size) (subs_at size p.start s)) (filter_map (entry_of bytes size) (dump_subs_at size spans segments))
-      ∙ ap (λ (xs : List Object). xs ++ map object_of_entry (filter_map (entry_of bytes size) (dump_subs_at size spans segments))) (objects_at p.start s _ (from_span p s all.0) all.0.each)
-      ∙ ap (λ (xs : List Object). filter_map (object_of size) s ++ xs) (objects_in spans segments all.1)
-      ∙ sym (filter_map-append (object_of size) s (all_of segments))
+      ap (map object_of_entry) (filter_map-append (entry_of (known_class t) bytes size) (subs_at size p.start s) (dump_subs_at size spans segments))
+      ∙ map-append object_of_entry (filter_map (entry_of (known_class t) bytes size) (subs_at size p.start s)) (filter_map (entry_of (known_class t) bytes size) (dump_subs_at size spans segments))
+      ∙ ap (λ (xs : List Object). xs ++ map object_of_entry (filter_map (entry_of (known_class t) bytes size) (dump_subs_at size spans segments))) (objects_at p.start s _ (from_span p s all.0) all.0.each)
+      ∙ ap (λ (xs : List Object). filter_map (object_of t size) s ++ xs) (objects_in spans segments all.1)
+      ∙ sym (filter_map-append (object_of t size) s (all_of segments))
 
   pub roots_all : (spans : List Span) (segments : List (List SubRecord)) → AreBodies size bytes spans segments → roots_in (dump_subs_at size spans segments) ≡ roots_of size (all_of segments)
   roots_all [] [] all = refl

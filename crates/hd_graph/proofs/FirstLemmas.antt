@@ -3,8 +3,7 @@ use Rattle.std.proofs.Common.{◌≡◌, ◌∙◌, ℕ, suc, ◌+◌, ◌≤◌
 use Rattle.std.specs.List.{list_any, filter_map, cons_option, enumerate_from}
 use Rattle.std.proofs.lemmas.List.{append-nil, map-append}
 use Rattle.std.proofs.Math.Seq.{take-append_seam}
-use Rattle.hd_terms.specs.Dump.{Object}
-use Rattle.hd_terms.specs.Objects.{standing_object, first_of_each}
+use Rattle.hd_terms.specs.FirstRecords.{standing_one, first_of_each}
 use Rattle.hd_graph.specs.Firsts.{firsts_from, firsts}
 
 module _ {X : Type 0} (key : X → ℕ) where
@@ -60,28 +59,26 @@ firsts_from-map key f before (y ∷ ys) =
 pub firsts-map : {X Y : Type 0} (key : X → ℕ) (f : Y → X) (ys : List Y) → firsts key (map f ys) ≡ map f (firsts (λ y. key (f y)) ys)
 firsts-map key f ys = firsts_from-map key f [] ys
 
--- what stands by the definition is the first of its ID
-case-stands : (known : Bool) (x : Object) (R S : List Object) → R ≡ S → cons_option (cond known None (Some x)) R ≡ cond known S (x ∷ S)
-case-stands true x R S e = e
-case-stands false x R S e = ap (λ (r : List Object). x ∷ r) e
+-- what stands by the definition is the first of its key
+module _ {X : Type 0} (key : X → ℕ) where
+  case-stands : (known : Bool) (x : X) (R S : List X) → R ≡ S → cons_option (cond known None (Some x)) R ≡ cond known S (x ∷ S)
+  case-stands true x R S e = e
+  case-stands false x R S e = ap (λ (r : List X). x ∷ r) e
 
-abbrev id_of : Object → ℕ
-id_of x = x.id
+  stands-from : (before xs : List X) → filter_map (standing_one key (before ++ xs)) (enumerate_from (length before) xs) ≡ firsts_from key before xs
+  stands-from before [] = refl
+  stands-from before (x ∷ xs) =
+      let all = before ++ x ∷ xs in
+      let rest : filter_map (standing_one key all) (enumerate_from (length before + 1) xs) ≡ firsts_from key (before ++ x ∷ []) xs =
+      ap (λ (ys : List X). filter_map (standing_one key ys) (enumerate_from (length before + 1) xs)) (sym (append_assoc before (x ∷ []) xs))
+      ∙ ap (λ (n : ℕ). filter_map (standing_one key ((before ++ x ∷ []) ++ xs)) (enumerate_from n xs)) (sym (length-append before (x ∷ [])))
+      ∙ stands-from (before ++ x ∷ []) xs in
+      ap (λ (ys : List X). cons_option (cond (list_any (λ (y : X). eqb (key x) (key y)) ys) None (Some x)) (filter_map (standing_one key all) (enumerate_from (length before + 1) xs))) (take-append_seam before (x ∷ xs))
+      ∙ case-stands (list_any (λ (y : X). eqb (key x) (key y)) before) x _ _ rest
 
-stands-from : (before xs : List Object) → filter_map (standing_object (before ++ xs)) (enumerate_from (length before) xs) ≡ firsts_from id_of before xs
-stands-from before [] = refl
-stands-from before (x ∷ xs) =
-    let all = before ++ x ∷ xs in
-    let rest : filter_map (standing_object all) (enumerate_from (length before + 1) xs) ≡ firsts_from id_of (before ++ x ∷ []) xs =
-    ap (λ (ys : List Object). filter_map (standing_object ys) (enumerate_from (length before + 1) xs)) (sym (append_assoc before (x ∷ []) xs))
-    ∙ ap (λ (n : ℕ). filter_map (standing_object ((before ++ x ∷ []) ++ xs)) (enumerate_from n xs)) (sym (length-append before (x ∷ [])))
-    ∙ stands-from (before ++ x ∷ []) xs in
-    ap (λ (ys : List Object). cons_option (cond (list_any (λ (y : Object). eqb x.id y.id) ys) None (Some x)) (filter_map (standing_object all) (enumerate_from (length before + 1) xs))) (take-append_seam before (x ∷ xs))
-    ∙ case-stands (list_any (λ (y : Object). eqb x.id y.id) before) x _ _ rest
-
--- the definition's objects are the first of each ID
-pub first_of_each-firsts : (xs : List Object) → first_of_each xs ≡ firsts id_of xs
-first_of_each-firsts xs = stands-from [] xs
+  -- the definition's first of each key are these
+  pub first_of_each-firsts : (xs : List X) → first_of_each key xs ≡ firsts key xs
+  first_of_each-firsts xs = stands-from [] xs
 
 -- no more than there are
 module _ {X : Type 0} where

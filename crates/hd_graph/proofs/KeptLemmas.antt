@@ -3,10 +3,15 @@ use Rattle.std.proofs.Common.{◌≡◌, ◌∙◌, ℕ, zero, suc, ◌<◌, Lis
 use Rattle.std.proofs.lemmas.List.{map-append}
 use Rattle.std.proofs.lemmas.List.Elements.{All-head, All-tail}
 use Rattle.hd_graph.specs.declared.shape.ClassShape.{ClassShape}
+use Rattle.hd_graph.specs.declared.layouts.LayoutShape.{LayoutShape}
 use Rattle.hd_graph.specs.declared.shape.Kept.{Kept}
 use Rattle.hd_graph.specs.declared.shape.Kept.TheVariants as kept
 use Rattle.hd_graph.specs.Shapes.{ObjectShape}
-use Rattle.hd_graph.specs.KeptShapes.{class_shape_view, class_shape_at, kept_shape, IsKeptOver}
+use Rattle.hd_graph.specs.KeptShapes.{class_shape_view, shape_at, kept_shape, IsKeptOver}
+
+-- the shape of a class at a place
+abbrev class_shape_at : List ClassShape → ℕ → ObjectShape
+class_shape_at cs k = shape_at (map class_shape_view cs) k
 
 -- a class stays at its place
 at-kept : (cs : List ClassShape) (c : ClassShape) (k : ℕ) → k < length cs → class_shape_at (cs ++ c ∷ []) k ≡ class_shape_at cs k
@@ -19,21 +24,23 @@ at-new : (cs : List ClassShape) (c : ClassShape) → class_shape_at (cs ++ c ∷
 at-new [] c = refl
 at-new (x ∷ cs) c = at-new cs c
 
-shape-kept : (cs : List ClassShape) (c : ClassShape) (k : Kept) → IsKeptOver (length cs) k → kept_shape (cs ++ c ∷ []) k ≡ kept_shape cs k
-shape-kept cs c (kept.ObjectArray bytes) over = refl
-shape-kept cs c (kept.PrimitiveArray element bytes) over = refl
-shape-kept cs c (kept.Class place) over = at-kept cs c place over
+module _ (ls : List LayoutShape) where
+  shape-kept : (cs : List ClassShape) (c : ClassShape) (k : Kept) → IsKeptOver (length cs) (length ls) k → kept_shape (cs ++ c ∷ []) ls k ≡ kept_shape cs ls k
+  shape-kept cs c (kept.ObjectArray bytes) over = refl
+  shape-kept cs c (kept.PrimitiveArray element bytes) over = refl
+  shape-kept cs c (kept.Class place) over = at-kept cs c place over
+  shape-kept cs c (kept.Instance class) over = refl
 
-shapes-kept : (cs : List ClassShape) (c : ClassShape) (ks : List Kept) → All (IsKeptOver (length cs)) ks → map (kept_shape (cs ++ c ∷ [])) ks ≡ map (kept_shape cs) ks
-shapes-kept cs c [] all = refl
-shapes-kept cs c (k ∷ ks) all =
-    ap (λ (s : ObjectShape). s ∷ map (kept_shape (cs ++ c ∷ [])) ks) (shape-kept cs c k (All-head (IsKeptOver (length cs)) k ks all))
-    ∙ ap (λ (ss : List ObjectShape). kept_shape cs k ∷ ss) (shapes-kept cs c ks (All-tail (IsKeptOver (length cs)) k ks all))
+  shapes-kept : (cs : List ClassShape) (c : ClassShape) (ks : List Kept) → All (IsKeptOver (length cs) (length ls)) ks → map (kept_shape (cs ++ c ∷ []) ls) ks ≡ map (kept_shape cs ls) ks
+  shapes-kept cs c [] all = refl
+  shapes-kept cs c (k ∷ ks) all =
+      ap (λ (s : ObjectShape). s ∷ map (kept_shape (cs ++ c ∷ []) ls) ks) (shape-kept cs c k (All-head (IsKeptOver (length cs) (length ls)) k ks all))
+      ∙ ap (λ (ss : List ObjectShape). kept_shape cs ls k ∷ ss) (shapes-kept cs c ks (All-tail (IsKeptOver (length cs) (length ls)) k ks all))
 
--- a class at the end
-pub class-push : (cs : List ClassShape) (c : ClassShape) (ks : List Kept) (place : ℕ) → All (IsKeptOver (length cs)) ks → place ≡ length cs
-    → map (kept_shape (cs ++ c ∷ [])) (ks ++ kept.Class place ∷ []) ≡ map (kept_shape cs) ks ++ class_shape_view c ∷ []
-class-push cs c ks place all is =
-    map-append (kept_shape (cs ++ c ∷ [])) ks (kept.Class place ∷ [])
-    ∙ ap (λ (ss : List ObjectShape). ss ++ class_shape_at (cs ++ c ∷ []) place ∷ []) (shapes-kept cs c ks all)
-    ∙ ap (λ (s : ObjectShape). map (kept_shape cs) ks ++ s ∷ []) (ap (class_shape_at (cs ++ c ∷ [])) is ∙ at-new cs c)
+  -- a class at the end
+  pub class-push : (cs : List ClassShape) (c : ClassShape) (ks : List Kept) (place : ℕ) → All (IsKeptOver (length cs) (length ls)) ks → place ≡ length cs
+      → map (kept_shape (cs ++ c ∷ []) ls) (ks ++ kept.Class place ∷ []) ≡ map (kept_shape cs ls) ks ++ class_shape_view c ∷ []
+  class-push cs c ks place all is =
+      map-append (kept_shape (cs ++ c ∷ []) ls) ks (kept.Class place ∷ [])
+      ∙ ap (λ (ss : List ObjectShape). ss ++ class_shape_at (cs ++ c ∷ []) place ∷ []) (shapes-kept cs c ks all)
+      ∙ ap (λ (s : ObjectShape). map (kept_shape cs ls) ks ++ s ∷ []) (ap (class_shape_at (cs ++ c ∷ [])) is ∙ at-new cs c)

@@ -15,6 +15,9 @@ pub mod RowLemmas
 pub mod BodyLemmas
 pub mod SpanLemmas
 pub mod LocatedLemmas
+pub mod InstanceLemmas
+pub mod LayoutLemmas
+pub mod KnownLemmas
 pub mod DumpLemmas
 pub mod OpenLemmas
 pub mod SmallLemmas

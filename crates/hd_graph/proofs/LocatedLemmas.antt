@@ -16,6 +16,7 @@ use Rattle.hd_terms.specs.SubRecords.{ObjectArray, PrimitiveArray, IsSubRecord, 
 use Rattle.hd_terms.specs.Types.{element_len}
 use Rattle.hd_terms.specs.Dump.{Object, SlotEntry}
 use Rattle.hd_terms.specs.Slots.{strong_slot, element_slots}
+use Rattle.hd_terms.specs.Classes.{ClassTable}
 use Rattle.hd_terms.specs.Objects.{object_of}
 use Rattle.hd_graph.specs.Arrays.{row_slots}
 use Rattle.hd_graph.specs.Shapes.{ObjectArray, row_object}
@@ -94,8 +95,8 @@ module _ (bytes : List ℕ) (size : IdSize) where
         ∙ ap (λ (xs : List ℕ). ids_in (id_len size) (length elements) xs ++ class_id ∷ []) from_elements
         ∙ ap (λ (xs : List ℕ). xs ++ class_id ∷ []) (ids-of-elements (id_len size) elements rest is.4.each)
 
-    pub array-object : Some (object_of_entry (big_number (id_len size) id, array_row bytes size class_id span, ObjectArray span.len)) ≡ object_of size (ObjectArray id serial count class elements)
-    array-object =
+    pub array-object : (t : ClassTable) → Some (object_of_entry (big_number (id_len size) id, array_row bytes size class_id span, ObjectArray span.len)) ≡ object_of t size (ObjectArray id serial count class elements)
+    array-object t =
         let row = map (big_number (id_len size)) elements ++ class_id ∷ [] in
         let x : Group → ℕ → List SlotEntry → Object = λ g b ss. record { id = big_number (id_len size) id; group = g; bytes = b; slots = ss; referent = None } in
         ap (λ (r : List ℕ). Some (row_object (ObjectArray span.len) (big_number (id_len size) id) r)) row_is

@@ -1,37 +1,72 @@
 -- What opening a file comes to: its dump, or its fault.
-use Rattle.std.proofs.Common.{◌≡◌, ◌∙◌, ℕ, suc, ◌-◌, ◌<◌, ◌≤◌, ◌^◌, inl, inr, List, [], ◌∷◌, ◌++◌, length, map, Some, refl, sym, ap, subst, arith, All}
-use Rattle.std.specs.List.{AllZip, filter, filter_map, find, slice_get}
+use Rattle.std.proofs.Common.{◌≡◌, ◌∙◌, ℕ, suc, ◌-◌, ◌<◌, ◌≤◌, ◌^◌, inl, inr, List, [], ◌∷◌, ◌++◌, length, map, Option, Some, Bool, true, cond, eqb, refl, sym, ap, subst, arith, All}
+use Rattle.std.specs.Prelude.{count_by}
+use Rattle.std.specs.List.{AllZip, filter, filter_map, slice_get}
 use Rattle.std.proofs.lemmas.List.{length-map}
 use Rattle.hd_terms.specs.declared.IdSize.{IdSize}
+use Rattle.hd_terms.specs.declared.IdSize.TheVariants as sizes
 use Rattle.hd_terms.specs.declared.Span.{Span}
 use Rattle.hd_terms.specs.declared.Text.{Text}
 use Rattle.hd_terms.specs.declared.Load.{Load}
+use Rattle.hd_terms.specs.declared.errors.Cause.TheVariants as causes
 use Rattle.hd_terms.specs.declared.errors.ReadFault.{ReadFault}
-use Rattle.hd_terms.specs.Records.{Record, header_len, segment_spans, is_segment, texts}
+use Rattle.hd_terms.specs.Records.{Record, header_len, segment_spans, is_segment, texts, loads}
 use Rattle.hd_terms.specs.SubRecords.{SubRecord, Sub, Item, ObjArray, PrimArray, AreSubRecords, AreDumpSubRecords, dump_subs_at}
 use Rattle.hd_terms.specs.SubRecords as subs
-use Rattle.hd_terms.specs.declared.IdSize.TheVariants as sizes
+use Rattle.hd_terms.specs.FirstRecords.{object_sub, standing_subs, repeats}
+use Rattle.hd_terms.specs.Classes.{ClassTable, class_table, class_of_item, known_class}
+use Rattle.hd_terms.specs.HeapFaults as heap
+use Rattle.hd_terms.specs.HeapFaults.{fault_if, class_faults}
 use Rattle.hd_terms.specs.Roots.{roots_of}
 use Rattle.hd_terms.specs.Dump.{Object, Root, Repeated}
-use Rattle.hd_terms.specs.Objects.{object_of, objects_of, IsDumpOf, is_null_object, repeats, repeated_of}
-use Rattle.hd_terms.specs.ReadFaults.{IsReadFault, in_records, in_sub_records, in_objects, IsSubRecordsFault, IsSegmentFault}
+use Rattle.hd_terms.specs.Objects as objects
+use Rattle.hd_terms.specs.Objects.{classes_of, object_of, objects_of, opaque_in, IsDumpOf, repeated_of}
+use Rattle.hd_terms.specs.ReadFaults.{in_records, in_sub_records, in_classes, in_objects, IsSubRecordsFault, IsSegmentFault}
 use Rattle.hd_records.specs.Reading.{ReadsRecords, IsRecordsFaultOrMemory}
+use Rattle.hd_classes.specs.Known.{Known, known_at, AreClassesOf, IsClassFaultOrMemory, IsTextWithin}
 use Rattle.hd_graph.specs.declared.graph.RootRow.{RootRow}
+use Rattle.hd_graph.specs.declared.number.Tally.{Tally}
 use Rattle.hd_graph.specs.GraphInside.{root_of_row}
 use Rattle.hd_graph.specs.Table.{Table}
-use Rattle.hd_graph.specs.Shapes.{ObjectShape}
 use Rattle.hd_graph.specs.Firsts.{firsts}
-use Rattle.hd_graph.specs.Shapes.{IsSmall, AreColumns, row_objects, HasShape}
-use Rattle.hd_graph.specs.ArrayRows.{ObjectEntry, object_id, entry_of, entries_of, weight, item_weight, AreWithin, root_of_item, roots_in}
+use Rattle.hd_graph.specs.Shapes.{ObjectShape, IsSmall, AreColumns, row_objects, HasShape}
+use Rattle.hd_graph.specs.ArrayRows.{ObjectEntry, KnownBy, object_id, entry_of, entries_of, weight, item_weight, AreWithin, root_of_item, roots_in}
 use Rattle.hd_graph.specs.Bodies.{AreBodies, ReadsBodies, IsBodiesFault, body_at, IsSpanWithin}
-use Rattle.hd_graph.specs.Building.{Columns, IsNumbered, HasRowsOf, IsBodiesFaultOrMemory, IsNullFaultOrMemory, IsReadFaultOrMemory}
+use Rattle.hd_graph.specs.Numbering.{is_misfit, is_opaque, object_fault, object_faults, IsNumbered, IsObjectFaultOrMemory}
+use Rattle.hd_graph.specs.Building.{Columns, HasRowsOf, IsBodiesFaultOrMemory, IsReadFaultOrMemory, AreFewAndShort}
 use Rattle.hd_graph.proofs.FirstLemmas.{firsts-map, first_of_each-firsts, firsts-le, filter_map-le}
+use Rattle.hd_graph.proofs.NumberLemmas.{sub_key, object_subs, standing-firsts}
 use Rattle.hd_graph.proofs.RowLemmas.{id_of_entry, row_of_entry, shape_of_entry, ids-of-entries}
-use Rattle.hd_graph.proofs.SpanLemmas.{IsBodyAt, span_total, bodies_at, total-le, all_within, bodies_of_records}
+use Rattle.hd_graph.proofs.SpanLemmas.{IsBodyAt, texts-in-file, span_total, bodies_at, total-le, all_within, bodies_of_records}
 use Rattle.hd_graph.proofs.LocatedLemmas.{object_of_entry}
 use Rattle.hd_graph.proofs.DumpLemmas.{all_of, objects_in, roots_all, within_all, weight_all, weight-cons, row_objects-entries}
 use Rattle.hd_graph.proofs.SmallLemmas.{shapes-small, shapes-fit}
 use Rattle.hd_graph.proofs.RepeatLemmas.{repeats-map}
+
+-- functions of one value everywhere are one
+fun_ext : {A B : Type 0} {f g : A → B} → ((x : A) → f x ≡ g x) → f ≡ g
+fun_ext h = λ i x. h x i
+
+-- misfits and opaque instances are those of the definition
+same-misfit : (t : ClassTable) (size : IdSize) (i : Item) → is_misfit (known_class t) size i ≡ heap.is_misfit t size i
+same-misfit t size (subs.Root kind id) = refl
+same-misfit t size (subs.Class c) = refl
+same-misfit t size (subs.Instance id class values) = refl
+same-misfit t size (ObjArray id class elements) = refl
+same-misfit t size (PrimArray id element count) = refl
+
+same-opaque : (t : ClassTable) (i : Item) → is_opaque (known_class t) i ≡ objects.is_opaque t i
+same-opaque t (subs.Root kind id) = refl
+same-opaque t (subs.Class c) = refl
+same-opaque t (subs.Instance id class values) = refl
+same-opaque t (ObjArray id class elements) = refl
+same-opaque t (PrimArray id element count) = refl
+
+same-fault : (t : ClassTable) (size : IdSize) (p : ℕ × Sub) → object_fault (known_class t) size p ≡ heap.object_fault t size p
+same-fault t size (id, s) = ap (λ (m : Bool). cond (eqb id 0) (fault_if true causes.NullObject s) (fault_if m causes.InstanceSize s)) (same-misfit t size s.item)
+
+same-faults : (t : ClassTable) (size : IdSize) (list : List Sub) → object_faults (known_class t) size list ≡ heap.object_faults t size list
+same-faults t size list = ap (λ (f : ℕ × Sub → Option ReadFault). filter_map f (standing_subs list)) (fun_ext (same-fault t size))
 
 abbrev same : ℕ → ℕ
 same id = id
@@ -39,13 +74,17 @@ same id = id
 item-heavy : (i : Item) → 1 ≤ item_weight i
 item-heavy (subs.Root kind id) = omega arith
 item-heavy (subs.Class c) = omega arith
+item-heavy (subs.Instance id class values) = omega arith
 item-heavy (ObjArray id class elements) = omega arith
 item-heavy (PrimArray id element count) = omega arith
+
+no_table : ClassTable
+no_table = record { bytes = []; texts = []; loads = []; classes = [] }
 
 -- each sub-record weighs something
 pub length-le-weight : (list : List Sub) → length list ≤ weight list
 length-le-weight [] = omega arith
-length-le-weight (s ∷ list) = omega (arith, length-le-weight list, item-heavy s.item, weight-cons [] sizes.Four s list)
+length-le-weight (s ∷ list) = omega (arith, length-le-weight list, item-heavy s.item, weight-cons no_table [] sizes.Four s list)
 
 module _ (bytes : List ℕ) (size : IdSize) (strings : List Text) (classes : List Load) (spans : List Span) (r : ReadsRecords bytes size strings classes spans) where
   -- the segments lie where they are said to
@@ -54,6 +93,10 @@ module _ (bytes : List ℕ) (size : IdSize) (strings : List Text) (classes : Lis
 
   pub spans-within : All (IsSpanWithin bytes) spans
   spans-within = all_within bytes spans (filter is_segment r.records) located
+
+  -- so do the texts
+  pub texts-within : All (IsTextWithin (length bytes)) strings
+  texts-within = subst (All (IsTextWithin (length bytes))) (sym r.strings_are) (texts-in-file bytes size r.header.fits header_len r.records r.whole.whole r.whole.each)
 
   -- a fault of the sub-records
   split-records : (before : List Span) (span : Span) (after : List Span) (rs : List Record) (segments : List (List SubRecord)) → AllZip (IsBodyAt bytes) (before ++ span ∷ after) rs → AreBodies size bytes before segments
@@ -100,98 +143,158 @@ module _ (bytes : List ℕ) (size : IdSize) (strings : List Text) (classes : Lis
 
     pub list-within : AreWithin size bytes list
     list-within = rw b.list_is (record {
-      each = within_all bytes size spans b.segments b.whole;
+      each = within_all no_table bytes size spans b.segments b.whole;
       few =
           let total : span_total spans ≤ length bytes - header_len = subst (λ (ss : List Span). span_total ss ≤ length bytes - header_len) (sym r.spans) (total-le bytes size header_len r.records r.whole.whole r.whole.each) in
-          omega (arith, weight_all bytes size spans b.segments b.whole, total, r.header.fits);
+          omega (arith, weight_all no_table bytes size spans b.segments b.whole, total, r.header.fits);
     })
 
-    -- an object with ID 0
-    pub null-fault : (f : ReadFault) → IsNullFaultOrMemory list f → IsReadFaultOrMemory bytes f
-    null-fault f (inl memory) = inl memory
-    null-fault f (inr h) = inr (subst (IsReadFault bytes) (sym h.fault_is) (in_objects size r.records b.segments h.sub r.header r.whole dump_bodies (ap (find is_null_object) (sym list_of_records) ∙ h.first)))
+    -- the classes of the file
+    abbrev table : ClassTable
+    table = class_table bytes strings classes list
 
-    module _ (ids : List ℕ) (roots : List RootRow) (repeated : ℕ) (n : IsNumbered list ids roots repeated) where
-      short : length list ≤ weight list
-      short = length-le-weight list
+    abbrev pub real : ClassTable
+    real = classes_of bytes size r.records b.segments
 
-      pub few-ids : length ids < 2 ^ 31
-      few-ids = omega (arith, ap (λ (xs : List ℕ). length xs) n.ids_are, firsts-le same [] (filter_map object_id list), filter_map-le object_id list, short, list-within.few)
+    abbrev placed : List Sub
+    placed = dump_subs_at size (segment_spans header_len r.records) b.segments
 
-      pub few-roots : length roots < 2 ^ 32
-      few-roots = omega (arith, ap (λ (xs : List Root). length xs) n.roots_are, length-map roots root_of_row, filter_map-le (λ (s : Sub). root_of_item s.item) list, short, list-within.few)
+    table-is : table ≡ real
+    table-is =
+        ap (λ (xs : List Text). class_table bytes xs classes list) r.strings_are
+        ∙ ap (λ (ls : List Load). class_table bytes (texts size r.records) ls list) r.loads_are
+        ∙ ap (λ (l : List Sub). class_table bytes (texts size r.records) (loads size r.records) l) list_of_records
 
-      module _ (c : Columns) (h : HasRowsOf bytes size list c) where
-        abbrev t : Table
-        t = c.table
+    faults-are : class_faults table list ≡ class_faults real placed
+    faults-are = ap (λ (t : ClassTable). class_faults t list) table-is ∙ ap (class_faults real) list_of_records
 
-        abbrev entries : List ObjectEntry
-        entries = entries_of bytes size list
+    -- a class whose chain never ends
+    pub class-fault : (f : ReadFault) → IsClassFaultOrMemory table list f → IsReadFaultOrMemory bytes f
+    class-fault f (inl no_memory) = inl no_memory
+    class-fault f (inr h) = inr (in_classes size r.records b.segments r.header r.whole dump_bodies (ap (λ (fs : List ReadFault). slice_get fs 0) (sym faults-are) ∙ h))
 
-        ids_of_entries : t.ids ≡ map id_of_entry entries
-        ids_of_entries = h.ids_are ∙ ap (λ (xs : List ℕ). firsts same xs) (ids-of-entries bytes size list) ∙ firsts-map same id_of_entry (filter_map (entry_of bytes size) list)
+    module _ (k : Known) (h : AreClassesOf table k) (no_cycle : class_faults table list ≡ []) where
+      abbrev known : KnownBy
+      known = known_at k
 
-        as-many-rows : length t.rows ≡ length t.ids
-        as-many-rows = ap (λ (xs : List (List ℕ)). length xs) h.rows_are ∙ length-map entries row_of_entry ∙ sym (length-map entries id_of_entry) ∙ ap (λ (xs : List ℕ). length xs) (sym ids_of_entries)
+      known-is : known ≡ known_class real
+      known-is = fun_ext h.known ∙ ap (λ (t : ClassTable). known_class t) table-is
 
-        as-many-shapes : length c.shapes ≡ length t.ids
-        as-many-shapes = ap (λ (xs : List ObjectShape). length xs) h.shapes_are ∙ length-map entries shape_of_entry ∙ sym (length-map entries id_of_entry) ∙ ap (λ (xs : List ℕ). length xs) (sym ids_of_entries)
+      few-classes : length k.classes ≤ length list
+      few-classes =
+          omega (
+            arith,
+            h.few,
+            filter_map-le (λ (p : ℕ × Sub). class_of_item p.1.item) (standing_subs list),
+            ap (λ (xs : List (ℕ × Sub)). length xs) (standing-firsts list),
+            firsts-le sub_key [] (object_subs list),
+            filter_map-le object_sub list,
+          )
 
-        pub whole-columns : AreColumns c.shapes t.ids t.rows
-        whole-columns = record {
-          rows = as-many-rows;
-          shapes = as-many-shapes;
-          fit = subst (λ (ss : List ObjectShape). AllZip HasShape ss t.rows) (sym h.shapes_are) (subst (λ (rs : List (List ℕ)). AllZip HasShape (map shape_of_entry entries) rs) (sym h.rows_are) (shapes-fit bytes size list));
-        }
+      pub few-and-short : AreFewAndShort k
+      few-and-short = record { few = omega (arith, few-classes, length-le-weight list, list-within.few); short = h.short }
 
-        pub small-shapes : All IsSmall c.shapes
-        small-shapes = rw h.shapes_are (shapes-small bytes size r.header.fits list list-within)
+      no-cycle : class_faults real placed ≡ []
+      no-cycle = sym faults-are ∙ no_cycle
 
-        objects_are : row_objects c.shapes t.ids t.rows ≡ objects_of size (all_of bytes size b.segments)
-        objects_are =
-            ap (λ (xs : List ℕ). row_objects c.shapes xs t.rows) ids_of_entries ∙ ap (λ (xs : List (List ℕ)). row_objects c.shapes (map id_of_entry entries) xs) h.rows_are
-            ∙ ap (λ (ss : List ObjectShape). row_objects ss (map id_of_entry entries) (map row_of_entry entries)) h.shapes_are
-            ∙ row_objects-entries entries
-            ∙ sym (firsts-map (λ (x : Object). x.id) object_of_entry (filter_map (entry_of bytes size) list))
-            ∙ ap (λ (xs : List Object). firsts (λ (x : Object). x.id) xs) (ap (λ (l : List Sub). map object_of_entry (filter_map (entry_of bytes size) l)) b.list_is ∙ objects_in bytes size spans b.segments b.whole)
-            ∙ sym (first_of_each-firsts (filter_map (object_of size) (all_of bytes size b.segments)))
+      object-faults-are : object_faults known size list ≡ heap.object_faults real size placed
+      object-faults-are = ap (λ (kn : KnownBy). object_faults kn size list) known-is ∙ ap (λ (l : List Sub). object_faults (known_class real) size l) list_of_records ∙ same-faults real size placed
 
-        roots_are : map root_of_row roots ≡ roots_of size (all_of bytes size b.segments)
-        roots_are = n.roots_are ∙ ap roots_in b.list_is ∙ roots_all bytes size spans b.segments b.whole
+      -- an object with ID 0, or one that doesn't fit
+      pub object-fault : (f : ReadFault) → IsObjectFaultOrMemory known size list f → IsReadFaultOrMemory bytes f
+      object-fault f (inl no_memory) = inl no_memory
+      object-fault f (inr e) = inr (in_objects size r.records b.segments r.header r.whole dump_bodies no-cycle (ap (λ (fs : List ReadFault). slice_get fs 0) (sym object-faults-are) ∙ e))
 
-        objects_again : repeated ≡ repeats (λ (x : Object). x.id) (filter_map (object_of size) (all_of bytes size b.segments))
-        objects_again =
-            n.repeated_is ∙ ap (repeats same) (ids-of-entries bytes size list) ∙ repeats-map same id_of_entry (filter_map (entry_of bytes size) list)
-            ∙ sym (repeats-map (λ (x : Object). x.id) object_of_entry (filter_map (entry_of bytes size) list))
-            ∙ ap (repeats (λ (x : Object). x.id)) (ap (λ (l : List Sub). map object_of_entry (filter_map (entry_of bytes size) l)) b.list_is ∙ objects_in bytes size spans b.segments b.whole)
+      module _ (ids : List ℕ) (roots : List RootRow) (tally : Tally) (n : IsNumbered known size list ids roots tally) where
+        short : length list ≤ weight list
+        short = length-le-weight list
 
-        -- what is repeated
-        module _ (texts_again loads_again : ℕ) (texts_are : texts_again ≡ repeats (λ (x : Text). x.id) strings) (loads_are : loads_again ≡ repeats (λ (x : Load). x.class) classes) where
-          abbrev again : Repeated
-          again = record { objects = repeated; strings = texts_again; loads = loads_again }
+        pub few-ids : length ids < 2 ^ 31
+        few-ids = omega (arith, ap (λ (xs : List ℕ). length xs) n.ids_are, firsts-le same [] (filter_map object_id list), filter_map-le object_id list, short, list-within.few)
 
-          again_is : again ≡ repeated_of size r.records (all_of bytes size b.segments)
-          again_is =
-              ap (λ (m : ℕ). record { objects = m; strings = texts_again; loads = loads_again }) objects_again
-              ∙ ap (λ (m : ℕ). record { objects = repeats (λ (x : Object). x.id) (filter_map (object_of size) (all_of bytes size b.segments)); strings = m; loads = loads_again }) (texts_are ∙ ap (repeats (λ (x : Text). x.id)) r.strings_are)
-              ∙ ap (λ (m : ℕ). record { objects = repeats (λ (x : Object). x.id) (filter_map (object_of size) (all_of bytes size b.segments)); strings = repeats (λ (x : Text). x.id) (texts size r.records); loads = m })
-              (loads_are ∙ ap (repeats (λ (x : Load). x.class)) r.loads_are)
+        pub few-roots : length roots < 2 ^ 32
+        few-roots = omega (arith, ap (λ (xs : List Root). length xs) n.roots_are, length-map roots root_of_row, filter_map-le (λ (s : Sub). root_of_item s.item) list, short, list-within.few)
 
-          pub opened : IsDumpOf bytes (record { objects = row_objects c.shapes t.ids t.rows; roots = map root_of_row roots; repeated = again; opaque = 0 })
-          opened = record {
-            size = size;
-            records = r.records;
-            segments = b.segments;
-            reads = record {
-              header = r.header;
-              whole = r.whole;
-              bodies = dump_bodies;
-              no_null = rw (← list_of_records, n.not_found) refl;
-            };
-            is = ap (λ (xs : List Object). record { objects = xs; roots = map root_of_row roots; repeated = again; opaque = 0 }) objects_are
-                ∙ ap (λ (xs : List Root). record { objects = objects_of size (all_of bytes size b.segments); roots = xs; repeated = again; opaque = 0 }) roots_are
-                ∙ ap (λ (x : Repeated). record { objects = objects_of size (all_of bytes size b.segments); roots = roots_of size (all_of bytes size b.segments); repeated = x; opaque = 0 }) again_is;
+        module _ (c : Columns) (has : HasRowsOf known bytes size list c) where
+          abbrev t : Table
+          t = c.table
+
+          abbrev entries : List ObjectEntry
+          entries = entries_of known bytes size list
+
+          ids_of_entries : t.ids ≡ map id_of_entry entries
+          ids_of_entries = has.ids_are ∙ ap (λ (xs : List ℕ). firsts same xs) (ids-of-entries known bytes size list) ∙ firsts-map same id_of_entry (filter_map (entry_of known bytes size) list)
+
+          as-many-rows : length t.rows ≡ length t.ids
+          as-many-rows = ap (λ (xs : List (List ℕ)). length xs) has.rows_are ∙ length-map entries row_of_entry ∙ sym (length-map entries id_of_entry) ∙ ap (λ (xs : List ℕ). length xs) (sym ids_of_entries)
+
+          as-many-shapes : length c.shapes ≡ length t.ids
+          as-many-shapes = ap (λ (xs : List ObjectShape). length xs) has.shapes_are ∙ length-map entries shape_of_entry ∙ sym (length-map entries id_of_entry) ∙ ap (λ (xs : List ℕ). length xs) (sym ids_of_entries)
+
+          pub whole-columns : AreColumns c.shapes t.ids t.rows
+          whole-columns = record {
+            rows = as-many-rows;
+            shapes = as-many-shapes;
+            fit = subst (λ (ss : List ObjectShape). AllZip HasShape ss t.rows) (sym has.shapes_are) (subst (λ (rs : List (List ℕ)). AllZip HasShape (map shape_of_entry entries) rs) (sym has.rows_are) (shapes-fit known bytes size list));
           }
+
+          pub small-shapes : All IsSmall c.shapes
+          small-shapes = rw has.shapes_are (shapes-small known bytes size r.header.fits list list-within)
+
+          objects_are : row_objects c.shapes t.ids t.rows ≡ objects_of real size (all_of real bytes size b.segments)
+          objects_are =
+              ap (λ (xs : List ℕ). row_objects c.shapes xs t.rows) ids_of_entries ∙ ap (λ (xs : List (List ℕ)). row_objects c.shapes (map id_of_entry entries) xs) has.rows_are
+              ∙ ap (λ (ss : List ObjectShape). row_objects ss (map id_of_entry entries) (map row_of_entry entries)) has.shapes_are
+              ∙ row_objects-entries entries
+              ∙ sym (firsts-map (λ (x : Object). x.id) object_of_entry (filter_map (entry_of known bytes size) list))
+              ∙ ap (λ (xs : List Object). firsts (λ (x : Object). x.id) xs) (ap (λ (kn : KnownBy). map object_of_entry (filter_map (entry_of kn bytes size) list)) known-is ∙ ap (λ (l : List Sub). map object_of_entry (filter_map (entry_of (known_class real) bytes size) l)) b.list_is ∙ objects_in real bytes size spans b.segments b.whole)
+              ∙ sym (first_of_each-firsts (λ (x : Object). x.id) (filter_map (object_of real size) (all_of real bytes size b.segments)))
+
+          roots_are : map root_of_row roots ≡ roots_of size (all_of real bytes size b.segments)
+          roots_are = n.roots_are ∙ ap roots_in b.list_is ∙ roots_all real bytes size spans b.segments b.whole
+
+          objects_again : tally.repeated ≡ repeats (λ (x : Object). x.id) (filter_map (object_of real size) (all_of real bytes size b.segments))
+          objects_again =
+              n.repeated_is ∙ ap (repeats same) (ids-of-entries known bytes size list) ∙ repeats-map same id_of_entry (filter_map (entry_of known bytes size) list)
+              ∙ sym (repeats-map (λ (x : Object). x.id) object_of_entry (filter_map (entry_of known bytes size) list))
+              ∙ ap (repeats (λ (x : Object). x.id)) (ap (λ (kn : KnownBy). map object_of_entry (filter_map (entry_of kn bytes size) list)) known-is ∙ ap (λ (l : List Sub). map object_of_entry (filter_map (entry_of (known_class real) bytes size) l)) b.list_is ∙ objects_in real bytes size spans b.segments b.whole)
+
+          opaque_are : tally.opaque ≡ opaque_in real placed
+          opaque_are =
+              n.opaque_is
+              ∙ ap (λ (kn : KnownBy). count_by (λ (x : ℕ × Sub). is_opaque kn x.1.item) (standing_subs list)) known-is
+              ∙ ap (λ (test : Item → Bool). count_by (λ (x : ℕ × Sub). test x.1.item) (standing_subs list)) (fun_ext (same-opaque real))
+              ∙ ap (opaque_in real) list_of_records
+
+          -- what is repeated
+          module _ (texts_again loads_again : ℕ) (texts_are : texts_again ≡ repeats (λ (x : Text). x.id) strings) (loads_are : loads_again ≡ repeats (λ (x : Load). x.class) classes) where
+            abbrev again : Repeated
+            again = record { objects = tally.repeated; strings = texts_again; loads = loads_again }
+
+            again_is : again ≡ repeated_of real size r.records (all_of real bytes size b.segments)
+            again_is =
+                ap (λ (m : ℕ). record { objects = m; strings = texts_again; loads = loads_again }) objects_again
+                ∙ ap (λ (m : ℕ). record { objects = repeats (λ (x : Object). x.id) (filter_map (object_of real size) (all_of real bytes size b.segments)); strings = m; loads = loads_again }) (texts_are ∙ ap (repeats (λ (x : Text). x.id)) r.strings_are)
+                ∙ ap (λ (m : ℕ). record { objects = repeats (λ (x : Object). x.id) (filter_map (object_of real size) (all_of real bytes size b.segments)); strings = repeats (λ (x : Text). x.id) (texts size r.records); loads = m })
+                (loads_are ∙ ap (repeats (λ (x : Load). x.class)) r.loads_are)
+
+            pub opened : IsDumpOf bytes (record { objects = row_objects c.shapes t.ids t.rows; roots = map root_of_row roots; repeated = again; opaque = tally.opaque })
+            opened = record {
+              size = size;
+              records = r.records;
+              segments = b.segments;
+              reads = record {
+                header = r.header;
+                whole = r.whole;
+                bodies = dump_bodies;
+                classes = no-cycle;
+                objects = sym object-faults-are ∙ n.no_fault;
+              };
+              is = ap (λ (xs : List Object). record { objects = xs; roots = map root_of_row roots; repeated = again; opaque = tally.opaque }) objects_are
+                  ∙ ap (λ (xs : List Root). record { objects = objects_of real size (all_of real bytes size b.segments); roots = xs; repeated = again; opaque = tally.opaque }) roots_are
+                  ∙ ap (λ (x : Repeated). record { objects = objects_of real size (all_of real bytes size b.segments); roots = roots_of size (all_of real bytes size b.segments); repeated = x; opaque = tally.opaque }) again_is
+                  ∙ ap (λ (m : ℕ). record { objects = objects_of real size (all_of real bytes size b.segments); roots = roots_of size (all_of real bytes size b.segments); repeated = repeated_of real size r.records (all_of real bytes size b.segments); opaque = m }) opaque_are;
+            }
 
 pub records-fault : (bytes : List ℕ) (f : ReadFault) → IsRecordsFaultOrMemory bytes f → IsReadFaultOrMemory bytes f
 records-fault bytes f (inl memory) = inl memory

@@ -1,5 +1,5 @@
 -- Filling the rows and shapes of objects, one sub-record after another.
-use Rattle.std.proofs.Common.{◌≡◌, ◌∙◌, ℕ, suc, ◌+◌, ◌-◌, ◌*◌, ◌<◌, ◌≤◌, List, [], ◌∷◌, ◌++◌, length, map, take, drop, Option, Some, Bool, true, false, ◌||◌, cond, eqb, eq-eqb, refl, sym, ap, subst, arith, append_assoc, true≢false}
+use Rattle.std.proofs.Common.{◌≡◌, ◌∙◌, ℕ, suc, ◌+◌, ◌-◌, ◌*◌, ◌<◌, ◌≤◌, List, [], ◌∷◌, ◌++◌, length, map, take, drop, Option, Some, None, Bool, true, false, ◌||◌, cond, eqb, eq-eqb, refl, sym, ap, subst, arith, append_assoc, true≢false}
 use Rattle.std.specs.List.{list_any, filter_map, cons_option, slice_get}
 use Rattle.std.proofs.lemmas.List.{append-nil, map-append, length-map, take-append-drop}
 use Rattle.std.proofs.lemmas.List.Elements.{filter_map-append}
@@ -13,8 +13,10 @@ use Rattle.hd_terms.specs.SubRecords as subs
 use Rattle.hd_graph.specs.Table.{Table}
 use Rattle.hd_graph.specs.Shapes.{ObjectShape, ObjectArray, PrimitiveArray, ClassObject}
 use Rattle.hd_terms.specs.Types.{element_len}
+use Rattle.hd_terms.specs.FirstRecords.{id_of_item}
+use Rattle.hd_terms.specs.Classes.{KnownClass}
 use Rattle.hd_graph.specs.Firsts.{firsts, firsts_from}
-use Rattle.hd_graph.specs.ArrayRows.{ObjectEntry, object_id, id_of_item, object_ids, entry_of, entry_of_item, array_row, entries_of, id_count, ids_in, item_weight, class_row, class_names, static_bytes, weight}
+use Rattle.hd_graph.specs.ArrayRows.{ObjectEntry, KnownBy, fitting, instance_entry, object_id, object_ids, entry_of, entry_of_item, array_row, entries_of, id_count, ids_in, item_weight, class_row, class_names, static_bytes, weight}
 use Rattle.byteorder.specs.Endian.{big_number}
 use Rattle.hd_terms.specs.Records.{id_len}
 use Rattle.hd_graph.proofs.NumberLemmas.{take-next}
@@ -33,23 +35,30 @@ row_of_entry a = a.1
 abbrev pub shape_of_entry : ObjectEntry → ObjectShape
 shape_of_entry a = a.2
 
+-- an instance is entered under its ID
+pub id-of-instance : (bytes : List ℕ) (size : IdSize) (id class : ℕ) (values : Span) (k : Option KnownClass) → (instance_entry bytes size id class values k).0 ≡ id
+id-of-instance bytes size id class values None = refl
+id-of-instance bytes size id class values (Some k) = refl
+
 -- the rows and shapes of the objects so far, and how many IDs they have at most
-pub record IsFilledSoFar (bytes : List ℕ) (size : IdSize) (front : List Sub) (ids : List ℕ) (c : Columns) : Type 0 where
+pub record IsFilledSoFar (known : KnownBy) (bytes : List ℕ) (size : IdSize) (front : List Sub) (ids : List ℕ) (c : Columns) : Type 0 where
   pub ids_are : c.table.ids ≡ ids
-  pub rows_are : c.table.rows ≡ map row_of_entry (entries_of bytes size front)
-  pub shapes_are : c.shapes ≡ map shape_of_entry (entries_of bytes size front)
+  pub rows_are : c.table.rows ≡ map row_of_entry (entries_of known bytes size front)
+  pub shapes_are : c.shapes ≡ map shape_of_entry (entries_of known bytes size front)
   pub filled : c.table.filling ≡ []
   pub few : c.table.count ≤ weight front
 
 -- the IDs of the objects are those of the sub-records
-pub ids-of-entries : (bytes : List ℕ) (size : IdSize) (list : List Sub) → filter_map object_id list ≡ map id_of_entry (filter_map (entry_of bytes size) list)
-ids-of-entries bytes size [] = refl
-ids-of-entries bytes size (s ∷ list) = by_item s.item (ids-of-entries bytes size list)
+pub ids-of-entries : (known : KnownBy) (bytes : List ℕ) (size : IdSize) (list : List Sub) → filter_map object_id list ≡ map id_of_entry (filter_map (entry_of known bytes size) list)
+ids-of-entries known bytes size [] = refl
+ids-of-entries known bytes size (s ∷ list) = by_item s.item (ids-of-entries known bytes size list)
   where
-    by_item : (i : Item) → filter_map object_id list ≡ map id_of_entry (filter_map (entry_of bytes size) list)
-        → cons_option (id_of_item i) (filter_map object_id list) ≡ map id_of_entry (cons_option (entry_of_item bytes size i) (filter_map (entry_of bytes size) list))
+    by_item : (i : Item) → filter_map object_id list ≡ map id_of_entry (filter_map (entry_of known bytes size) list)
+        → cons_option (id_of_item i) (filter_map object_id list) ≡ map id_of_entry (cons_option (entry_of_item known bytes size i) (filter_map (entry_of known bytes size) list))
     by_item (subs.Root kind id) e = e
     by_item (subs.Class c) e = ap (λ (xs : List ℕ). c.id ∷ xs) e
+    by_item (subs.Instance id class values) e =
+        ap (λ (xs : List ℕ). id ∷ xs) e ∙ ap (λ (x : ℕ). x ∷ map id_of_entry (filter_map (entry_of known bytes size) list)) (sym (id-of-instance bytes size id class values (fitting size values.len (known class))))
     by_item (ObjArray id class elements) e = ap (λ (xs : List ℕ). id ∷ xs) e
     by_item (PrimArray id element count) e = ap (λ (xs : List ℕ). id ∷ xs) e
 
@@ -104,12 +113,12 @@ id_count-le sizes.Eight span = omega arith
 pub weight-push : (front : List Sub) (s : Sub) → weight (front ++ s ∷ []) ≡ weight front + item_weight s.item
 weight-push front s = omega (arith, sum_by-append (λ (x : Sub). item_weight x.item) front (s ∷ []))
 
-arrays-push : (bytes : List ℕ) (size : IdSize) (front : List Sub) (at : ℕ) (i : Item)
-    → filter_map (entry_of bytes size) (front ++ (record { offset = at; item = i }) ∷ []) ≡ filter_map (entry_of bytes size) front ++ cons_option (entry_of_item bytes size i) []
-arrays-push bytes size front at i = filter_map-append (entry_of bytes size) front ((record { offset = at; item = i }) ∷ [])
+arrays-push : (known : KnownBy) (bytes : List ℕ) (size : IdSize) (front : List Sub) (at : ℕ) (i : Item)
+    → filter_map (entry_of known bytes size) (front ++ (record { offset = at; item = i }) ∷ []) ≡ filter_map (entry_of known bytes size) front ++ cons_option (entry_of_item known bytes size i) []
+arrays-push known bytes size front at i = filter_map-append (entry_of known bytes size) front ((record { offset = at; item = i }) ∷ [])
 
 -- one more sub-record
-module _ (bytes : List ℕ) (size : IdSize) (front : List Sub) (at : ℕ) (after : List Sub) (old new : Columns) where
+module _ (known : KnownBy) (bytes : List ℕ) (size : IdSize) (front : List Sub) (at : ℕ) (after : List Sub) (old new : Columns) where
   abbrev sub : Item → Sub
   sub i = record { offset = at; item = i }
 
@@ -117,15 +126,15 @@ module _ (bytes : List ℕ) (size : IdSize) (front : List Sub) (at : ℕ) (after
   ids_all i = object_ids (front ++ sub i ∷ after)
 
   abbrev A : List ObjectEntry
-  A = filter_map (entry_of bytes size) front
+  A = filter_map (entry_of known bytes size) front
 
   -- an object that was there before, or is new
-  fill-known : (i : Item) (a : ObjectEntry) → IsFilledSoFar bytes size front (ids_all i) old → AddsNext a (item_weight i) old new
-      → entries_of bytes size (front ++ sub i ∷ []) ≡ firsts id_of_entry A ++ if_new id_of_entry (is_known id_of_entry A a) a
+  fill-known : (i : Item) (a : ObjectEntry) → IsFilledSoFar known bytes size front (ids_all i) old → AddsNext a (item_weight i) old new
+      → entries_of known bytes size (front ++ sub i ∷ []) ≡ firsts id_of_entry A ++ if_new id_of_entry (is_known id_of_entry A a) a
       → (b : Bool) → is_known id_of_entry A a ≡ b
       → (is_known id_of_entry A a ≡ false → slice_get old.table.ids (length old.table.rows) ≡ Some a.0)
       → (slice_get old.table.ids (length old.table.rows) ≡ Some a.0 → is_known id_of_entry A a ≡ false)
-      → IsFilledSoFar bytes size (front ++ sub i ∷ []) (ids_all i) new
+      → IsFilledSoFar known bytes size (front ++ sub i ∷ []) (ids_all i) new
   fill-known i a h adds all true e then_next then_new =
       let same_columns : new ≡ old = adds.other (λ is_next. true≢false (sym e ∙ then_new is_next)) in
       let none : firsts id_of_entry A ++ if_new id_of_entry (is_known id_of_entry A a) a ≡ firsts id_of_entry A = ap (λ (c : Bool). firsts id_of_entry A ++ if_new id_of_entry c a) e ∙ append-nil (firsts id_of_entry A) in
@@ -147,28 +156,28 @@ module _ (bytes : List ℕ) (size : IdSize) (front : List Sub) (at : ℕ) (after
         few = omega (arith, h.few, added.count, weight-push front (sub i));
       }
 
-  fill-object : (i : Item) (a : ObjectEntry) → entry_of_item bytes size i ≡ Some a → id_of_item i ≡ Some a.0 → IsFilledSoFar bytes size front (ids_all i) old → AddsNext a (item_weight i) old new
-      → IsFilledSoFar bytes size (front ++ sub i ∷ []) (ids_all i) new
+  fill-object : (i : Item) (a : ObjectEntry) → entry_of_item known bytes size i ≡ Some a → id_of_item i ≡ Some a.0 → IsFilledSoFar known bytes size front (ids_all i) old → AddsNext a (item_weight i) old new
+      → IsFilledSoFar known bytes size (front ++ sub i ∷ []) (ids_all i) new
   fill-object i a is id_is h adds =
       let id = a.0 in
       let B = map id_of_entry A in
       let after_ids = filter_map object_id after in
-      let arrays : filter_map (entry_of bytes size) (front ++ sub i ∷ []) ≡ A ++ a ∷ [] = arrays-push bytes size front at i ∙ ap (λ (o : Option ObjectEntry). A ++ cons_option o []) is in
+      let arrays : filter_map (entry_of known bytes size) (front ++ sub i ∷ []) ≡ A ++ a ∷ [] = arrays-push known bytes size front at i ∙ ap (λ (o : Option ObjectEntry). A ++ cons_option o []) is in
       let ids : filter_map object_id (front ++ sub i ∷ after) ≡ B ++ id ∷ after_ids =
-      filter_map-append object_id front (sub i ∷ after) ∙ ap (λ (o : Option ℕ). filter_map object_id front ++ cons_option o after_ids) id_is ∙ ap (λ (xs : List ℕ). xs ++ id ∷ after_ids) (ids-of-entries bytes size front) in
+      filter_map-append object_id front (sub i ∷ after) ∙ ap (λ (o : Option ℕ). filter_map object_id front ++ cons_option o after_ids) id_is ∙ ap (λ (xs : List ℕ). xs ++ id ∷ after_ids) (ids-of-entries known bytes size front) in
       let old_ids : old.table.ids ≡ firsts same (B ++ id ∷ after_ids) = h.ids_are ∙ ap (λ (xs : List ℕ). firsts same xs) ids in
       let many : length old.table.rows ≡ length (firsts same B) =
       ap (λ (rs : List (List ℕ)). length rs) h.rows_are ∙ length-map (firsts id_of_entry A) row_of_entry ∙ sym (length-map (firsts id_of_entry A) id_of_entry) ∙ ap (λ (xs : List ℕ). length xs) (sym (firsts-map same id_of_entry A)) in
       let next : slice_get old.table.ids (length old.table.rows) ≡ slice_get (firsts same (B ++ id ∷ after_ids)) (length (firsts same B)) =
       ap (λ (xs : List ℕ). slice_get xs (length old.table.rows)) old_ids ∙ ap (λ (n : ℕ). slice_get (firsts same (B ++ id ∷ after_ids)) n) many in
-      let known : is_known same B id ≡ is_known id_of_entry A a = known-map same id_of_entry A a in
-      let all : entries_of bytes size (front ++ sub i ∷ []) ≡ firsts id_of_entry A ++ if_new id_of_entry (is_known id_of_entry A a) a =
+      let there : is_known same B id ≡ is_known id_of_entry A a = known-map same id_of_entry A a in
+      let all : entries_of known bytes size (front ++ sub i ∷ []) ≡ firsts id_of_entry A ++ if_new id_of_entry (is_known id_of_entry A a) a =
       ap (λ (xs : List ObjectEntry). firsts id_of_entry xs) arrays ∙ firsts-push id_of_entry A a in
-      fill-known i a h adds all (is_known id_of_entry A a) refl (λ new_one. next ∙ next-where-new B id after_ids (known ∙ new_one)) (λ is_next. sym known ∙ new-where-next B id after_ids (sym next ∙ is_next))
+      fill-known i a h adds all (is_known id_of_entry A a) refl (λ new_one. next ∙ next-where-new B id after_ids (there ∙ new_one)) (λ is_next. sym there ∙ new-where-next B id after_ids (sym next ∙ is_next))
 
-  pub fill-push : (i : Item) → IsFilledSoFar bytes size front (ids_all i) old → FillsItem bytes size i old new → IsFilledSoFar bytes size (front ++ sub i ∷ []) (ids_all i) new
+  pub fill-push : (i : Item) → IsFilledSoFar known bytes size front (ids_all i) old → FillsItem known bytes size i old new → IsFilledSoFar known bytes size (front ++ sub i ∷ []) (ids_all i) new
   fill-push (subs.Root kind id) h same_columns =
-      let arrays : filter_map (entry_of bytes size) (front ++ sub (subs.Root kind id) ∷ []) ≡ A = arrays-push bytes size front at (subs.Root kind id) ∙ append-nil A in
+      let arrays : filter_map (entry_of known bytes size) (front ++ sub (subs.Root kind id) ∷ []) ≡ A = arrays-push known bytes size front at (subs.Root kind id) ∙ append-nil A in
       rw same_columns (record {
         ids_are = h.ids_are;
         rows_are = h.rows_are ∙ ap (λ (xs : List ObjectEntry). map row_of_entry (firsts id_of_entry xs)) (sym arrays);
@@ -177,32 +186,35 @@ module _ (bytes : List ℕ) (size : IdSize) (front : List Sub) (at : ℕ) (after
         few = omega (arith, h.few, weight-push front (sub (subs.Root kind id)));
       })
   fill-push (subs.Class c) h adds = fill-object (subs.Class c) (c.id, class_row bytes size c, ClassObject (static_bytes c.statics) (class_names c)) refl refl h adds
+  fill-push (subs.Instance id class values) h adds =
+      let k = fitting size values.len (known class) in
+      fill-object (subs.Instance id class values) (instance_entry bytes size id class values k) refl (ap (λ (x : ℕ). Some x) (sym (id-of-instance bytes size id class values k))) h adds
   fill-push (ObjArray id class elements) h adds = fill-object (ObjArray id class elements) (id, array_row bytes size class elements, ObjectArray elements.len) refl refl h adds
   fill-push (PrimArray id element count) h adds = fill-object (PrimArray id element count) (id, [], PrimitiveArray element (count * element_len element)) refl refl h adds
 
 -- there are no more shapes than sub-records
-pub few-shapes : (bytes : List ℕ) (size : IdSize) (front : List Sub) (ids : List ℕ) (c : Columns) → IsFilledSoFar bytes size front ids c → length c.shapes ≤ length front
-few-shapes bytes size front ids c h =
+pub few-shapes : (known : KnownBy) (bytes : List ℕ) (size : IdSize) (front : List Sub) (ids : List ℕ) (c : Columns) → IsFilledSoFar known bytes size front ids c → length c.shapes ≤ length front
+few-shapes known bytes size front ids c h =
     omega (
       arith,
       ap (λ (ss : List ObjectShape). length ss) h.shapes_are,
-      length-map (entries_of bytes size front) shape_of_entry,
-      firsts-le id_of_entry [] (filter_map (entry_of bytes size) front),
-      filter_map-le (entry_of bytes size) front,
+      length-map (entries_of known bytes size front) shape_of_entry,
+      firsts-le id_of_entry [] (filter_map (entry_of known bytes size) front),
+      filter_map-le (entry_of known bytes size) front,
     )
 
 -- a list is what stands before a place, what stands there, and what stands after it
 pub split-at-place : (list : List Sub) (i : ℕ) (s : Sub) → slice_get list i ≡ Some s → list ≡ take i list ++ s ∷ drop (i + 1) list
 split-at-place list i s is = sym (take-append-drop (i + 1) list) ∙ ap (λ (xs : List Sub). xs ++ drop (i + 1) list) (take-next list i s is) ∙ append_assoc (take i list) (s ∷ []) (drop (i + 1) list)
 
-pub fill-next : (bytes : List ℕ) (size : IdSize) (list : List Sub) (i : ℕ) (s : Sub) → slice_get list i ≡ Some s → (old new : Columns)
-    → IsFilledSoFar bytes size (take i list) (object_ids list) old → FillsItem bytes size s.item old new → IsFilledSoFar bytes size (take (i + 1) list) (object_ids list) new
-fill-next bytes size list i s is old new h fills =
+pub fill-next : (known : KnownBy) (bytes : List ℕ) (size : IdSize) (list : List Sub) (i : ℕ) (s : Sub) → slice_get list i ≡ Some s → (old new : Columns)
+    → IsFilledSoFar known bytes size (take i list) (object_ids list) old → FillsItem known bytes size s.item old new → IsFilledSoFar known bytes size (take (i + 1) list) (object_ids list) new
+fill-next known bytes size list i s is old new h fills =
     let whole : object_ids list ≡ object_ids (take i list ++ s ∷ drop (i + 1) list) = ap object_ids (split-at-place list i s is) in
-    let old_so_far : IsFilledSoFar bytes size (take i list) (object_ids (take i list ++ s ∷ drop (i + 1) list)) old = subst (λ (ids : List ℕ). IsFilledSoFar bytes size (take i list) ids old) whole h in
-    let new_so_far = fill-push bytes size (take i list) s.offset (drop (i + 1) list) old new s.item old_so_far fills in
-    subst (λ (ids : List ℕ). IsFilledSoFar bytes size (take (i + 1) list) ids new) (sym whole)
-    (subst (λ (front : List Sub). IsFilledSoFar bytes size front (object_ids (take i list ++ s ∷ drop (i + 1) list)) new) (sym (take-next list i s is)) new_so_far)
+    let old_so_far : IsFilledSoFar known bytes size (take i list) (object_ids (take i list ++ s ∷ drop (i + 1) list)) old = subst (λ (ids : List ℕ). IsFilledSoFar known bytes size (take i list) ids old) whole h in
+    let new_so_far = fill-push known bytes size (take i list) s.offset (drop (i + 1) list) old new s.item old_so_far fills in
+    subst (λ (ids : List ℕ). IsFilledSoFar known bytes size (take (i + 1) list) ids new) (sym whole)
+    (subst (λ (front : List Sub). IsFilledSoFar known bytes size front (object_ids (take i list ++ s ∷ drop (i + 1) list)) new) (sym (take-next list i s is)) new_so_far)
 
 -- what stands before a place and at it weighs no more than all
 pub weight-at : (list : List Sub) (i : ℕ) (s : Sub) → slice_get list i ≡ Some s → weight (take i list) + item_weight s.item ≤ weight list

@@ -1,17 +1,19 @@
 -- Lemmas on the slots of objects of any shape, and on their places.
-use Rattle.std.proofs.Common.{◌≡◌, ◌∙◌, ℕ, zero, suc, ◌+◌, ◌-◌, ◌<◌, ◌≤◌, ◌^◌, inl, inr, List, [], ◌∷◌, length, get_or, Some, None, Bool, true, false, ◌&&◌, true≢false, refl, sym, ap, subst, arith, cond, eqb, eqb-true, eq-eqb, ne_eqb, ltb}
+use Rattle.std.proofs.Common.{◌≡◌, ◌∙◌, ℕ, zero, suc, ◌+◌, ◌-◌, ◌<◌, ◌≤◌, ◌^◌, inl, inr, List, [], ◌∷◌, length, map, get_or, Option, Some, None, Bool, true, false, ◌&&◌, true≢false, refl, sym, ap, subst, arith, cond, eqb, eqb-true, eq-eqb, ne_eqb, ltb}
 use Rattle.std.specs.List.{position, prefix_len, slice_get, AllByRecursion}
 use Rattle.std.specs.Prelude.{not}
+use Rattle.std.proofs.lemmas.List.{length-map}
 use Rattle.std.proofs.lemmas.Bool.{cases_lt, lt-ltb, le-ltb}
 use Rattle.std.proofs.lemmas.List.Sums.{prefix_len_passes, prefix_len_stops}
 use Rattle.std.proofs.lemmas.Option.{slice_get_within, same_Some}
 use Rattle.hd_terms.specs.declared.Slot.{Slot}
 use Rattle.hd_terms.specs.declared.Slot.TheVariants as slots
+use Rattle.hd_terms.specs.declared.EdgeKind.{EdgeKind}
 use Rattle.hd_terms.specs.Dump.{SlotEntry}
 use Rattle.hd_terms.specs.EditedDump.{same_slot, slot_code}
 use Rattle.hd_terms.specs.Slots.{strong_slot}
 use Rattle.hd_graph.specs.Arrays.{row_slots}
-use Rattle.hd_graph.specs.Shapes.{ObjectShape, ObjectArray, PrimitiveArray, ClassObject, named_slots, shape_slots, slot_name, shape_place, ComesBefore, IsRising, HasShape, IsNamedAt, HasFewNames}
+use Rattle.hd_graph.specs.Shapes.{ObjectShape, ObjectArray, PrimitiveArray, ClassObject, Instance, named_slots, with_kind, shape_slots, slot_name, slot_kind, shape_place, ComesBefore, IsRising, HasShape, IsNamedAt, HasFewNames}
 use Rattle.hd_graph.proofs.RowSlots.{length-row_slots, row_slots-class, row_slots-element, place-of-slot, first-place}
 
 -- as many slots as IDs
@@ -26,6 +28,7 @@ pub length-shape_slots : (shape : ObjectShape) (row : List ℕ) → HasShape sha
 length-shape_slots (ObjectArray bytes) row fit = length-row_slots 0 row
 length-shape_slots (PrimitiveArray element bytes) row fit = length-row_slots 0 row
 length-shape_slots (ClassObject bytes names) row fit = length-named_slots names row fit.0
+length-shape_slots (Instance bytes names referent kind) row fit = length-map (named_slots names row) (with_kind referent kind) ∙ length-named_slots names row fit.0
 
 -- the slot at a place
 
@@ -48,21 +51,39 @@ element-or-class row i lt = elim (cases_lt (suc i) (length row)) [
       ∙ ap (λ (b : Bool). Some (strong_slot (cond b slots.OfClass (slots.Element i)) (get_or row i 0))) (sym (eq-eqb i (length row - 1) (omega arith)))
 ]
 
+-- a slot of a name, with a kind
+abbrev pub slot_of : Slot → EdgeKind → ℕ → SlotEntry
+slot_of slot kind id = record { slot = slot; kind = kind; id = id }
+
+-- the slot at a place, with the kind that its name has
+get-map : {X Y : Type 0} (f : X → Y) (xs : List X) (i : ℕ) (x : X) → slice_get xs i ≡ Some x → slice_get (map f xs) i ≡ Some (f x)
+get-map f [] i x is = absurd cc
+get-map f (y ∷ xs) zero x is = ap (λ z. Some (f z)) (same_Some _ _ is)
+get-map f (y ∷ xs) (suc i) x is = get-map f xs i x is
+
+get-unmap : {X Y : Type 0} (f : X → Y) (xs : List X) (i : ℕ) (y : Y) → slice_get (map f xs) i ≡ Some y → (x : X) × (slice_get xs i ≡ Some x) × (f x ≡ y)
+get-unmap f [] i y is = absurd cc
+get-unmap f (x ∷ xs) zero y is = (x, refl, same_Some _ _ is)
+get-unmap f (x ∷ xs) (suc i) y is = get-unmap f xs i y is
+
 pub slot-at : (shape : ObjectShape) (row : List ℕ) (i : ℕ) → HasShape shape row → i < length row
-    → slice_get (shape_slots shape row) i ≡ Some (strong_slot (slot_name shape (length row) i) (get_or row i 0))
+    → slice_get (shape_slots shape row) i ≡ Some (slot_of (slot_name shape (length row) i) (slot_kind shape (slot_name shape (length row) i)) (get_or row i 0))
 slot-at (ObjectArray bytes) row i fit lt = element-or-class row i lt
 slot-at (PrimitiveArray element bytes) row i fit lt = element-or-class row i lt
 slot-at (ClassObject bytes names) row i fit lt = named-at names row i fit.0 lt
+slot-at (Instance bytes names referent kind) row i fit lt = get-map (with_kind referent kind) (named_slots names row) i _ (named-at names row i fit.0 lt)
 
 pub named-there : (shape : ObjectShape) (row : List ℕ) (i : ℕ) → HasShape shape row → i < length row → IsNamedAt shape i
 named-there (ObjectArray bytes) row i fit lt = tt
 named-there (PrimitiveArray element bytes) row i fit lt = tt
 named-there (ClassObject bytes names) row i fit lt = omega (arith, fit.0)
+named-there (Instance bytes names referent kind) row i fit lt = omega (arith, fit.0)
 
 pub few-names : (shape : ObjectShape) (row : List ℕ) → HasShape shape row → length row < 2 ^ 32 → HasFewNames shape
 few-names (ObjectArray bytes) row fit few = tt
 few-names (PrimitiveArray element bytes) row fit few = tt
 few-names (ClassObject bytes names) row fit few = omega (arith, fit.0)
+few-names (Instance bytes names referent kind) row fit few = omega (arith, fit.0)
 
 -- the place of a slot
 
@@ -164,13 +185,29 @@ first-named names ids slot many =
     ∙ ap (λ (m : ℕ). cond (ltb (prefix_len (λ (e : SlotEntry). not (same_slot e.slot slot)) (named_slots names ids)) m) (Some (prefix_len (λ (e : SlotEntry). not (same_slot e.slot slot)) (named_slots names ids))) None)
     (many ∙ sym (length-named_slots names ids many))
 
+-- a kind makes no difference to a slot's place
+prefix-with-kind : (referent : Option Slot) (kind : EdgeKind) (slot : Slot) (es : List SlotEntry)
+    → prefix_len (λ (e : SlotEntry). not (same_slot e.slot slot)) (map (with_kind referent kind) es) ≡ prefix_len (λ (e : SlotEntry). not (same_slot e.slot slot)) es
+prefix-with-kind referent kind slot [] = refl
+prefix-with-kind referent kind slot (e ∷ es) = ap (λ (n : ℕ). cond (not (same_slot e.slot slot)) (1 + n) 0) (prefix-with-kind referent kind slot es)
+
+place-with-kind : (referent : Option Slot) (kind : EdgeKind) (slot : Slot) (es : List SlotEntry)
+    → position (λ (e : SlotEntry). same_slot e.slot slot) (map (with_kind referent kind) es) ≡ position (λ (e : SlotEntry). same_slot e.slot slot) es
+place-with-kind referent kind slot es =
+    ap (λ (n : ℕ). cond (ltb n (length (map (with_kind referent kind) es))) (Some n) None) (prefix-with-kind referent kind slot es)
+    ∙ ap (λ (m : ℕ). cond (ltb (prefix_len (λ (e : SlotEntry). not (same_slot e.slot slot)) es) m) (Some (prefix_len (λ (e : SlotEntry). not (same_slot e.slot slot)) es)) None) (length-map es (with_kind referent kind))
+
 pub first-place-of : (shape : ObjectShape) (row : List ℕ) (slot : Slot) → HasShape shape row → shape_place shape (length row) slot ≡ position (λ (e : SlotEntry). same_slot e.slot slot) (shape_slots shape row)
 first-place-of (ObjectArray bytes) row slot fit = first-place row slot
 first-place-of (PrimitiveArray element bytes) row slot fit = first-place row slot
 first-place-of (ClassObject bytes names) row slot fit = first-named names row slot fit.0
+first-place-of (Instance bytes names referent kind) row slot fit = first-named names row slot fit.0 ∙ sym (place-with-kind referent kind slot (named_slots names row))
 
 pub place-of : (shape : ObjectShape) (row : List ℕ) (slot : Slot) (i : ℕ) (e : SlotEntry) → HasShape shape row → slice_get (shape_slots shape row) i ≡ Some e → same_slot e.slot slot ≡ true
     → shape_place shape (length row) slot ≡ Some i
 place-of (ObjectArray bytes) row slot i e fit at same = place-of-slot row slot i e at same
 place-of (PrimitiveArray element bytes) row slot i e fit at same = place-of-slot row slot i e at same
 place-of (ClassObject bytes names) row slot i e fit at same = place-of-named names row slot i e fit.0 fit.1 at same
+place-of (Instance bytes names referent kind) row slot i e fit at same =
+    let plain = get-unmap (with_kind referent kind) (named_slots names row) i e at in
+    place-of-named names row slot i plain.0 fit.0 fit.1 plain.1 (ap (λ (x : SlotEntry). same_slot x.slot slot) plain.2 ∙ same)

@@ -1,5 +1,5 @@
 -- The recorded bytes of a file's objects are no more than the file has, and their shapes fit their rows.
-use Rattle.std.proofs.Common.{ℕ, zero, suc, ◌<◌, ◌≤◌, List, [], ◌∷◌, ◌++◌, length, get_or, map, Bool, true, false, cond, arith, All}
+use Rattle.std.proofs.Common.{ℕ, refl, zero, suc, ◌<◌, ◌≤◌, List, [], ◌∷◌, ◌++◌, length, get_or, map, Bool, true, false, cond, arith, All}
 use Rattle.std.specs.List.{filter_map, cons_option, AllZip}
 use Rattle.std.proofs.lemmas.List.Elements.{All-nil, All-cons, All-head, All-tail, All-map}
 use Rattle.hd_terms.specs.declared.IdSize.{IdSize}
@@ -9,10 +9,11 @@ use Rattle.hd_terms.specs.SubRecords as subs
 use Rattle.hd_graph.specs.Shapes.{ObjectShape}
 use Rattle.hd_graph.specs.Firsts.{firsts_from}
 use Rattle.hd_graph.specs.Shapes.{IsSmall, HasShape}
-use Rattle.hd_graph.specs.ArrayRows.{ObjectEntry, entry_of, entry_of_item, entries_of, IsItemWithin, AreWithin}
+use Rattle.hd_graph.specs.ArrayRows.{ObjectEntry, KnownBy, fitting, entry_of, entry_of_item, entries_of, IsItemWithin, AreWithin}
 use Rattle.hd_graph.proofs.FirstLemmas.{is_known}
 use Rattle.hd_graph.proofs.RowLemmas.{row_of_entry, shape_of_entry}
 use Rattle.hd_graph.proofs.RisingLemmas.{class-names-many, class-names-rise}
+use Rattle.hd_graph.proofs.InstanceLemmas.{instance-bytes, instance-fits}
 
 -- the shape of a number
 pub small-at : (shapes : List ObjectShape) (d : ObjectShape) (o : ℕ) → All IsSmall shapes → o < length shapes → IsSmall (get_or shapes o d)
@@ -20,20 +21,22 @@ small-at [] d o all lt = absurd (omega arith)
 small-at (shape ∷ shapes) d zero all lt = All-head IsSmall shape shapes all
 small-at (shape ∷ shapes) d (suc o) all lt = small-at shapes d o (All-tail IsSmall shape shapes all) (omega arith)
 
-module _ (bytes : List ℕ) (size : IdSize) (fits : length bytes ≤ largest_file) where
+module _ (known : KnownBy) (bytes : List ℕ) (size : IdSize) (fits : length bytes ≤ largest_file) where
   abbrev HasSmall : ObjectEntry → Type 0
   HasSmall a = IsSmall a.2
 
-  item-small : (i : Item) (rest : List ObjectEntry) → IsItemWithin size (length bytes) i → All HasSmall rest → All HasSmall (cons_option (entry_of_item bytes size i) rest)
+  item-small : (i : Item) (rest : List ObjectEntry) → IsItemWithin size (length bytes) i → All HasSmall rest → All HasSmall (cons_option (entry_of_item known bytes size i) rest)
   item-small (subs.Root kind id) rest within all = all
   item-small (subs.Class c) rest within all = All-cons HasSmall _ rest (omega (arith, within.bytes)) all
+  item-small (subs.Instance id class values) rest within all =
+      All-cons HasSmall _ rest (omega (arith, instance-bytes bytes size id class values (known class) (fitting size values.len (known class)) refl)) all
   item-small (ObjArray id class elements) rest within all = All-cons HasSmall _ rest (omega arith) all
   item-small (PrimArray id element count) rest within all = All-cons HasSmall _ rest (omega arith) all
 
-  items-small : (list : List Sub) → All (λ (s : Sub). IsItemWithin size (length bytes) s.item) list → All HasSmall (filter_map (entry_of bytes size) list)
+  items-small : (list : List Sub) → All (λ (s : Sub). IsItemWithin size (length bytes) s.item) list → All HasSmall (filter_map (entry_of known bytes size) list)
   items-small [] within = All-nil HasSmall
   items-small (s ∷ list) within =
-      item-small s.item (filter_map (entry_of bytes size) list) (All-head (λ (s : Sub). IsItemWithin size (length bytes) s.item) s list within) (items-small list (All-tail (λ (s : Sub). IsItemWithin size (length bytes) s.item) s list within))
+      item-small s.item (filter_map (entry_of known bytes size) list) (All-head (λ (s : Sub). IsItemWithin size (length bytes) s.item) s list within) (items-small list (All-tail (λ (s : Sub). IsItemWithin size (length bytes) s.item) s list within))
 
   firsts-small : (key : ObjectEntry → ℕ) (before xs : List ObjectEntry) → All HasSmall xs → All HasSmall (firsts_from key before xs)
   firsts-small key before [] all = All-nil HasSmall
@@ -44,23 +47,24 @@ module _ (bytes : List ℕ) (size : IdSize) (fits : length bytes ≤ largest_fil
       by_known true rest more = more
       by_known false rest more = All-cons HasSmall x rest (All-head HasSmall x xs all) more
 
-  pub shapes-small : (list : List Sub) → AreWithin size bytes list → All IsSmall (map shape_of_entry (entries_of bytes size list))
-  shapes-small list within = All-map IsSmall shape_of_entry (entries_of bytes size list) (firsts-small _ [] (filter_map (entry_of bytes size) list) (items-small list within.each))
+  pub shapes-small : (list : List Sub) → AreWithin size bytes list → All IsSmall (map shape_of_entry (entries_of known bytes size list))
+  shapes-small list within = All-map IsSmall shape_of_entry (entries_of known bytes size list) (firsts-small _ [] (filter_map (entry_of known bytes size) list) (items-small list within.each))
 
 -- each object's shape fits its row
-module _ (bytes : List ℕ) (size : IdSize) where
+module _ (known : KnownBy) (bytes : List ℕ) (size : IdSize) where
   abbrev Fits : ObjectEntry → Type 0
   Fits a = HasShape a.2 a.1
 
-  item-fits : (i : Item) (rest : List ObjectEntry) → All Fits rest → All Fits (cons_option (entry_of_item bytes size i) rest)
+  item-fits : (i : Item) (rest : List ObjectEntry) → All Fits rest → All Fits (cons_option (entry_of_item known bytes size i) rest)
   item-fits (subs.Root kind id) rest all = all
   item-fits (subs.Class c) rest all = All-cons Fits _ rest (class-names-many bytes size c, class-names-rise c) all
+  item-fits (subs.Instance id class values) rest all = All-cons Fits _ rest (instance-fits bytes size id class values (fitting size values.len (known class))) all
   item-fits (ObjArray id class elements) rest all = All-cons Fits _ rest tt all
   item-fits (PrimArray id element count) rest all = All-cons Fits _ rest tt all
 
-  items-fit : (list : List Sub) → All Fits (filter_map (entry_of bytes size) list)
+  items-fit : (list : List Sub) → All Fits (filter_map (entry_of known bytes size) list)
   items-fit [] = All-nil Fits
-  items-fit (s ∷ list) = item-fits s.item (filter_map (entry_of bytes size) list) (items-fit list)
+  items-fit (s ∷ list) = item-fits s.item (filter_map (entry_of known bytes size) list) (items-fit list)
 
   firsts-fit : (key : ObjectEntry → ℕ) (before xs : List ObjectEntry) → All Fits xs → All Fits (firsts_from key before xs)
   firsts-fit key before [] all = All-nil Fits
@@ -75,5 +79,5 @@ module _ (bytes : List ℕ) (size : IdSize) where
   zipped [] all = tt
   zipped (x ∷ xs) all = (All-head Fits x xs all, zipped xs (All-tail Fits x xs all))
 
-  pub shapes-fit : (list : List Sub) → AllZip HasShape (map shape_of_entry (entries_of bytes size list)) (map row_of_entry (entries_of bytes size list))
-  shapes-fit list = zipped (entries_of bytes size list) (firsts-fit _ [] (filter_map (entry_of bytes size) list) (items-fit list))
+  pub shapes-fit : (list : List Sub) → AllZip HasShape (map shape_of_entry (entries_of known bytes size list)) (map row_of_entry (entries_of known bytes size list))
+  shapes-fit list = zipped (entries_of known bytes size list) (firsts-fit _ [] (filter_map (entry_of known bytes size) list) (items-fit list))

@@ -36,7 +36,7 @@ length-constant-values [] = refl
 length-constant-values (x ∷ xs) = ap suc (length-constant-values xs)
 
 module _ (bytes : List ℕ) (size : IdSize) where
-  ids-append : (xs ys : List (ℕ × Span)) → value_ids bytes size (xs ++ ys) ≡ value_ids bytes size xs ++ value_ids bytes size ys
+  pub ids-append : (xs ys : List (ℕ × Span)) → value_ids bytes size (xs ++ ys) ≡ value_ids bytes size xs ++ value_ids bytes size ys
   ids-append [] ys = refl
   ids-append (x ∷ xs) ys = by_type (is_id_type x.0) (ids-append xs ys)
     where

@@ -1,6 +1,7 @@
 -- The rows and shapes of objects, read from the file by their sub-records' spans.
--- Source: HPROF binary format, CLASS DUMP, OBJECT ARRAY DUMP and PRIMITIVE ARRAY DUMP.
-use Rattle.std.specs.Prelude.{◌≡◌, ℕ, zero, suc, ◌+◌, ◌*◌, ◌/◌, ◌≤◌, if◌then◌else◌, map, List, [], ◌∷◌, ◌++◌, length, drop, sum_by, All, Option, Some, None}
+-- Source: HPROF binary format, CLASS DUMP, INSTANCE DUMP, OBJECT ARRAY DUMP and PRIMITIVE ARRAY DUMP.
+use Rattle.std.specs.Prelude.{◌≡◌, ℕ, zero, suc, ◌+◌, ◌*◌, ◌/◌, ◌≤◌, ◌==◌, if◌then◌else◌, map, List, [], ◌∷◌, ◌++◌, length, drop, sum_by, slice_get, All, Option, Some, None, IsSome}
+use Rattle.std.specs.Option.{option_map, option_and_then}
 use Rattle.std.specs.List.{filter_map}
 use Rattle.byteorder.specs.Endian.{big_number}
 use Rattle.hd_terms.specs.declared.IdSize.{IdSize}
@@ -9,10 +10,12 @@ use Rattle.hd_terms.specs.Records.{id_len}
 use Rattle.hd_terms.specs.SubRecords.{ConstantItem, StaticItem, ClassItem, Item, ObjArray, PrimArray, Sub}
 use Rattle.hd_terms.specs.SubRecords as subs
 use Rattle.hd_terms.specs.Types.{element_len, is_id_type, value_len}
+use Rattle.hd_terms.specs.FirstRecords.{id_of_item}
+use Rattle.hd_terms.specs.Classes.{LayoutField, KnownClass, layout_len}
 use Rattle.hd_terms.specs.Dump.{Root}
 use Rattle.hd_terms.specs.declared.Slot.{Slot}
 use Rattle.hd_terms.specs.declared.Slot.TheVariants as slots
-use Rattle.hd_graph.specs.Shapes.{ObjectShape, ObjectArray, PrimitiveArray, ClassObject}
+use Rattle.hd_graph.specs.Shapes.{ObjectShape, ObjectArray, PrimitiveArray, ClassObject, Instance}
 use Rattle.hd_graph.specs.Firsts.{firsts}
 
 -- so many IDs that stand one after another
@@ -61,35 +64,68 @@ class_names c =
 abbrev pub static_bytes : List StaticItem → ℕ
 static_bytes statics = sum_by (λ (s : StaticItem). s.value.len) statics
 
+-- the types of the fields of a layout, and where their values lie, if they begin at a place
+abbrev pub placed_fields : IdSize → ℕ → List LayoutField → List (ℕ × Span)
+placed_fields size at [] = []
+placed_fields size at (f ∷ fs) = (f.code, record { start = at; len = value_len size f.code }) ∷ placed_fields size (at + value_len size f.code) fs
+
+-- the row of an instance: the IDs in its fields, and then its class
+abbrev pub instance_row : List ℕ → IdSize → ℕ → ℕ → List LayoutField → List ℕ
+instance_row bytes size at class layout = value_ids bytes size (placed_fields size at layout) ++ class ∷ []
+
+-- the slots of the fields of a layout that are references, numbered from a number on
+abbrev pub field_names : ℕ → List LayoutField → List Slot
+field_names i [] = []
+field_names i (f ∷ fs) = if is_id_type f.code then slots.Field i ∷ field_names (i + 1) fs else field_names (i + 1) fs
+
+-- the names of the slots of a layout: its fields that are references, and then the class
+abbrev pub layout_names : List LayoutField → List Slot
+layout_names layout = field_names 0 layout ++ slots.OfClass ∷ []
+
+-- the shape of the instances of a class
+abbrev pub layout_shape : IdSize → KnownClass → ObjectShape
+layout_shape size k = Instance (layout_len size k.layout) (layout_names k.layout) (option_map (λ (i : ℕ). slots.Field i) k.referent) k.kind
+
 -- an object by its ID, its row and its shape
 abbrev pub ObjectEntry : Type 0
 ObjectEntry = ℕ × List ℕ × ObjectShape
 
+-- what is known of the class of an ID
+abbrev pub KnownBy : Type 0
+KnownBy = ℕ → Option KnownClass
+
+-- the class by whose layout so many bytes of values are read
+abbrev pub fitting : IdSize → ℕ → Option KnownClass → Option KnownClass
+fitting size len k = option_and_then (λ (x : KnownClass). if len == layout_len size x.layout then Some x else None) k
+
+-- the class of a number is this one
+abbrev pub HasNumber : List (ℕ × KnownClass) → ℕ → Option KnownClass → Type 0
+HasNumber classes i k = IsSome k × (option_map (λ (p : ℕ × KnownClass). p.1) (slice_get classes i) ≡ k)
+
+-- an instance by the class by whose layout it is read, if there is one
+abbrev pub instance_entry : List ℕ → IdSize → ℕ → ℕ → Span → Option KnownClass → ObjectEntry
+instance_entry bytes size id class values None = (id, class ∷ [], ObjectArray values.len)
+instance_entry bytes size id class values (Some k) = (id, instance_row bytes size values.start class k.layout, layout_shape size k)
+
 -- the object of a sub-record. A primitive array has an empty row
-abbrev pub entry_of_item : List ℕ → IdSize → Item → Option ObjectEntry
-entry_of_item bytes size (subs.Root kind id) = None
-entry_of_item bytes size (subs.Class c) = Some (c.id, class_row bytes size c, ClassObject (static_bytes c.statics) (class_names c))
-entry_of_item bytes size (ObjArray id class elements) = Some (id, array_row bytes size class elements, ObjectArray elements.len)
-entry_of_item bytes size (PrimArray id element count) = Some (id, [], PrimitiveArray element (count * element_len element))
+abbrev pub entry_of_item : KnownBy → List ℕ → IdSize → Item → Option ObjectEntry
+entry_of_item known bytes size (subs.Root kind id) = None
+entry_of_item known bytes size (subs.Class c) = Some (c.id, class_row bytes size c, ClassObject (static_bytes c.statics) (class_names c))
+entry_of_item known bytes size (subs.Instance id class values) = Some (instance_entry bytes size id class values (fitting size values.len (known class)))
+entry_of_item known bytes size (ObjArray id class elements) = Some (id, array_row bytes size class elements, ObjectArray elements.len)
+entry_of_item known bytes size (PrimArray id element count) = Some (id, [], PrimitiveArray element (count * element_len element))
 
-abbrev pub entry_of : List ℕ → IdSize → Sub → Option ObjectEntry
-entry_of bytes size s = entry_of_item bytes size s.item
+abbrev pub entry_of : KnownBy → List ℕ → IdSize → Sub → Option ObjectEntry
+entry_of known bytes size s = entry_of_item known bytes size s.item
 
--- the arrays of sub-records, the first of each ID
-abbrev pub entries_of : List ℕ → IdSize → List Sub → List ObjectEntry
-entries_of bytes size list = firsts (λ (a : ObjectEntry). a.0) (filter_map (entry_of bytes size) list)
-
--- the ID of an array
-abbrev pub id_of_item : Item → Option ℕ
-id_of_item (subs.Root kind id) = None
-id_of_item (subs.Class c) = Some c.id
-id_of_item (ObjArray id class elements) = Some id
-id_of_item (PrimArray id element count) = Some id
+-- the objects of sub-records, the first of each ID
+abbrev pub entries_of : KnownBy → List ℕ → IdSize → List Sub → List ObjectEntry
+entries_of known bytes size list = firsts (λ (a : ObjectEntry). a.0) (filter_map (entry_of known bytes size) list)
 
 abbrev pub object_id : Sub → Option ℕ
 object_id s = id_of_item s.item
 
--- the IDs of the arrays of sub-records, each once
+-- the IDs of the objects of sub-records, each once
 abbrev pub object_ids : List Sub → List ℕ
 object_ids list = firsts (λ (id : ℕ). id) (filter_map object_id list)
 
@@ -97,6 +133,7 @@ object_ids list = firsts (λ (id : ℕ). id) (filter_map object_id list)
 abbrev pub root_of_item : Item → Option Root
 root_of_item (subs.Root kind id) = Some (record { kind = kind; id = id })
 root_of_item (subs.Class c) = None
+root_of_item (subs.Instance id class values) = None
 root_of_item (ObjArray id class elements) = None
 root_of_item (PrimArray id element count) = None
 
@@ -110,6 +147,7 @@ class_weight c = 5 + length c.statics + length c.constants + static_bytes c.stat
 abbrev pub item_weight : Item → ℕ
 item_weight (subs.Root kind id) = 1
 item_weight (subs.Class c) = class_weight c
+item_weight (subs.Instance id class values) = 1 + values.len
 item_weight (ObjArray id class elements) = 1 + elements.len
 item_weight (PrimArray id element count) = 1 + count * element_len element
 
@@ -131,10 +169,11 @@ pub record IsClassWithin (size : IdSize) (n : ℕ) (c : ClassItem) : Type 0 wher
 abbrev pub IsItemWithin : IdSize → ℕ → Item → Type 0
 IsItemWithin size n (subs.Root kind id) = Unit {0}
 IsItemWithin size n (subs.Class c) = IsClassWithin size n c
+IsItemWithin size n (subs.Instance id class values) = values.start + values.len ≤ n
 IsItemWithin size n (ObjArray id class elements) = elements.start + elements.len ≤ n
 IsItemWithin size n (PrimArray id element count) = count * element_len element ≤ n
 
--- sub-records whose elements lie in the file, and that are few enough for numbers of four bytes
+-- sub-records whose values and elements lie in the file, and that are few enough for numbers of four bytes
 pub record AreWithin (size : IdSize) (bytes : List ℕ) (list : List Sub) : Type 0 where
   pub each : All (λ (s : Sub). IsItemWithin size (length bytes) s.item) list
   pub few : weight list ≤ 2147483647

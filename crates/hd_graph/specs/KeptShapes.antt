@@ -1,40 +1,53 @@
--- How shapes are kept: that of a class by its place among the classes.
+-- How shapes are kept: that of a class by its place among the classes, that of an instance by the number of its class.
 use Rattle.std.specs.Prelude.{ℕ, ◌<◌, ◌≤◌, List, [], map, length, All}
 use Rattle.std.specs.List.{slice_index_or}
 use Rattle.hd_graph.specs.declared.shape.ClassShape.{ClassShape}
+use Rattle.hd_graph.specs.declared.layouts.LayoutShape.{LayoutShape}
 use Rattle.hd_graph.specs.declared.shape.Kept.{Kept}
 use Rattle.hd_graph.specs.declared.shape.Kept.TheVariants as kept
 use Rattle.hd_graph.specs.declared.shape.Shape as declared_shape
 use Rattle.hd_graph.specs.declared.shape.Shape.TheVariants as read
-use Rattle.hd_graph.specs.Shapes.{ObjectShape, ObjectArray, PrimitiveArray, ClassObject}
+use Rattle.hd_graph.specs.Shapes.{ObjectShape, ObjectArray, PrimitiveArray, ClassObject, Instance}
 
 -- a class's shape
 abbrev pub class_shape_view : ClassShape → ObjectShape
 class_shape_view c = ClassObject c.bytes c.names.items
+
+-- the shape of a class's instances
+abbrev pub layout_view : LayoutShape → ObjectShape
+layout_view l = Instance l.bytes l.names.items l.referent l.kind
 
 -- a shape as it is read
 abbrev pub shape_view : declared_shape.Shape → ObjectShape
 shape_view (read.ObjectArray bytes) = ObjectArray bytes
 shape_view (read.PrimitiveArray element bytes) = PrimitiveArray element bytes
 shape_view (read.Class class) = class_shape_view class.now
+shape_view (read.Instance layout) = layout_view layout.now
 
--- the class's shape at a place
-abbrev pub class_shape_at : List ClassShape → ℕ → ObjectShape
-class_shape_at classes place = slice_index_or (map class_shape_view classes) place (ClassObject 0 [])
+-- the shapes of objects by number, and those of the instances of each class that is known
+pub record ShapeLists : Type 0 where
+  pub objects : List ObjectShape
+  pub layouts : List ObjectShape
 
--- a shape as it is kept, over the classes
-abbrev pub kept_shape : List ClassShape → Kept → ObjectShape
-kept_shape classes (kept.ObjectArray bytes) = ObjectArray bytes
-kept_shape classes (kept.PrimitiveArray element bytes) = PrimitiveArray element bytes
-kept_shape classes (kept.Class place) = class_shape_at classes place
+-- the shape at a place
+abbrev pub shape_at : List ObjectShape → ℕ → ObjectShape
+shape_at shapes place = slice_index_or shapes place (ClassObject 0 [])
 
--- a class has its place among so many
-abbrev pub IsKeptOver : ℕ → Kept → Type 0
-IsKeptOver n (kept.ObjectArray bytes) = Unit {0}
-IsKeptOver n (kept.PrimitiveArray element bytes) = Unit {0}
-IsKeptOver n (kept.Class place) = place < n
+-- a shape as it is kept, over the classes and the layouts
+abbrev pub kept_shape : List ClassShape → List LayoutShape → Kept → ObjectShape
+kept_shape classes layouts (kept.ObjectArray bytes) = ObjectArray bytes
+kept_shape classes layouts (kept.PrimitiveArray element bytes) = PrimitiveArray element bytes
+kept_shape classes layouts (kept.Class place) = shape_at (map class_shape_view classes) place
+kept_shape classes layouts (kept.Instance class) = shape_at (map layout_view layouts) class
 
--- shapes over so many classes, no more than there are shapes
-pub record AreKept (ks : List Kept) (classes : ℕ) : Type 0 where
-  pub over : All (IsKeptOver classes) ks
+-- a class and a layout have their places among so many
+abbrev pub IsKeptOver : ℕ → ℕ → Kept → Type 0
+IsKeptOver n m (kept.ObjectArray bytes) = Unit {0}
+IsKeptOver n m (kept.PrimitiveArray element bytes) = Unit {0}
+IsKeptOver n m (kept.Class place) = place < n
+IsKeptOver n m (kept.Instance class) = class < m
+
+-- shapes over so many classes, no more than there are shapes, and so many layouts
+pub record AreKept (ks : List Kept) (classes layouts : ℕ) : Type 0 where
+  pub over : All (IsKeptOver classes layouts) ks
   pub few : classes ≤ length ks

@@ -11,6 +11,7 @@ pub mod Firsts
 pub mod ArrayRows
 pub mod Bodies
 pub mod Noted
+pub mod Numbering
 pub mod Building
 pub mod Counting
 pub mod IdHash

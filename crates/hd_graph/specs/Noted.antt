@@ -1,7 +1,7 @@
 -- Noting IDs one after another, and counting those that were noted before.
 use Rattle.std.specs.Prelude.{◌≡◌, ℕ, ◌+◌, ◌==◌, Bool, if◌then◌else◌, List, [], ◌∷◌, ◌++◌}
 use Rattle.std.specs.List.{list_any}
-use Rattle.hd_terms.specs.Objects.{repeats}
+use Rattle.hd_terms.specs.FirstRecords.{repeats}
 
 -- an ID is one of these
 abbrev pub is_noted : List ℕ → ℕ → Bool

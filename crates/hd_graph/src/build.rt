@@ -1,34 +1,40 @@
 //! Making the graph of a dump, in passes over its sub-records.
-ghost use Rattle.std.specs.Prelude.{◌≡◌, ◌+◌, ◌*◌, ◌≤◌, ◌<◌, ◌-◌, ◌^◌, [], ◌∷◌, ◌++◌, length, map, All, IfOk, IfErr, OnOk};
+ghost use Rattle.std.specs.Prelude.{◌≡◌, nat_eq, ◌+◌, ◌*◌, ◌≤◌, ◌<◌, ◌-◌, ◌^◌, [], ◌∷◌, ◌++◌, length, All, IfOk, IfErr, OnOk};
+ghost use Rattle.std.specs.List.{IsDistinct};
 ghost use Rattle.hd_terms.specs.Records.{id_len};
 ghost use Rattle.hd_terms.specs.Types.{element_len};
 ghost use Rattle.hd_terms.specs.Objects.{IsDumpOf};
+ghost use Rattle.hd_terms.specs.Classes.{class_table};
+ghost use Rattle.hd_terms.specs.HeapFaults.{class_faults};
+ghost use Rattle.hd_records.specs.Reading.{ReadsRecords};
+ghost use Rattle.hd_classes.specs.Known.{AreClassesOf, known_at};
 ghost use Rattle.hd_graph.specs.Bodies.{ReadsBodies, IsSpanWithin, body_at};
 ghost use Rattle.hd_graph.specs.ArrayRows.{AreWithin, IsItemWithin, object_ids, array_row, id_count, ids_in, item_weight};
-ghost use Rattle.hd_graph.specs.Building.{IsBodiesFaultOrMemory, IsNullFaultOrMemory, IsNullAtOrMemory, IsNullIdOrMemory, IsReadFaultOrMemory, IsNumbered, NumbersOneMore, HasNoRows, HasRowsOf, FillsItem, columns};
-ghost use Rattle.hd_graph.specs.Noted.{NotesId};
+ghost use Rattle.hd_graph.specs.Building.{IsBodiesFaultOrMemory, IsReadFaultOrMemory, HasNoRows, HasRowsOf, FillsItem, columns, AreLayouts, AreFewAndShort};
 ghost use Rattle.hd_subs.specs.Reading.{AppendsSegment, IsSegmentFaultOrMemory};
-ghost use Rattle.hd_subs.specs.Views.{sub_view, item_view};
+ghost use Rattle.hd_subs.specs.Views.{item_view};
 
 use crate::class_rows::push_class;
-use crate::graph::{Graph, Repeats, RootRow};
+use crate::graph::{Graph, Repeats};
 use crate::id_hasher::IdHasher;
-use crate::noted::{note_id, repeated_loads, repeated_strings};
+use crate::instance_rows::push_instance;
+use crate::layouts::shapes_of_classes;
+use crate::noted::{repeated_loads, repeated_strings};
+use crate::number::{Numbered, number};
 use crate::references::References;
 use crate::shape::Shapes;
-use hd_records::{Segments, read_records};
-use hd_subs::{Item, Sub, Subs, read_segment_into};
-use hd_terms::{Cause, IdSize, ReadFault, Span, element_len};
+use hd_classes::Classes;
+use hd_records::{Records, Segments, read_records};
+use hd_subs::{Item, Subs, read_segment_into};
+use hd_terms::{IdSize, ReadFault, Span, element_len};
 use indexmap::IndexSet;
 use std::alloc::{AllocError, Global};
 
-/// The numbers of the objects, and the roots.
+/// The references of objects, and their shapes.
 #[derive(Drop)]
-struct Numbered {
-    ids: IndexSet<u64, IdHasher>,
-    roots: Vec<RootRow>,
-    /// How many sub-records of objects have the ID of an earlier one.
-    repeated: u64,
+struct Rows {
+    references: References,
+    shapes: Shapes,
 }
 
 /// Adds the sub-records of one segment, whose body is a span of the file.
@@ -58,66 +64,6 @@ fn read_bodies(
         read_body(&mut list, bytes, id_size, *span)?;
     }
     Ok(list)
-}
-
-/// Numbers an object by its ID, if that is new, and counts it as repeated if it isn't. The ID 0 is a fault.
-fn number_object(
-    ids: &mut IndexSet<u64, IdHasher>,
-    repeated: &mut u64,
-    id: u64,
-    offset: u64,
-) -> Result<(), ReadFault>
-    requires { repeated.old + 1 < 2 ^ 64 }
-    ensures ok { OnOk result ((0 < id) × NotesId id ids.old.keys repeated.old ids.new.keys repeated.new) }
-    ensures err { IfErr result (λ f. IsNullIdOrMemory id offset f) }
-{
-    if id == 0 {
-        return Err(ReadFault {
-            cause: Cause::NullObject,
-            offset,
-        });
-    }
-    note_id(ids, repeated, id)?;
-    Ok(())
-}
-
-/// Numbers an object, if its ID is new, or counts it as repeated, or keeps a root. An object with ID 0 is a fault.
-fn number_one(
-    ids: &mut IndexSet<u64, IdHasher>,
-    roots: &mut Vec<RootRow>,
-    repeated: &mut u64,
-    sub: Sub<'_>,
-) -> Result<(), ReadFault>
-    requires { repeated.old + 1 < 2 ^ 64 }
-    ensures ok { OnOk result (NumbersOneMore (sub_view sub.entry) ids.old.keys roots.old.items repeated.old ids.new.keys roots.new.items repeated.new) }
-    ensures err { IfErr result (λ f. IsNullAtOrMemory (sub_view sub.entry) f) }
-{
-    match sub.item {
-        Item::Root(kind, id) => roots.push(RootRow { kind, id })?,
-        Item::Class(class) => number_object(ids, repeated, class.id, sub.offset)?,
-        Item::ObjArray { id, .. } => number_object(ids, repeated, id, sub.offset)?,
-        Item::PrimArray { id, .. } => number_object(ids, repeated, id, sub.offset)?,
-    }
-    Ok(())
-}
-
-/// Numbers the objects by their IDs, each ID once, counts those that are repeated, and collects the roots. An object
-/// with ID 0 is a fault.
-fn number(alloc: Global, list: &Subs) -> Result<Numbered, ReadFault>
-    ensures ok { IfOk result (λ n. IsNumbered list.now n.ids.keys n.roots.items n.repeated) }
-    ensures err { IfErr result (λ f. IsNullFaultOrMemory list.now f) }
-{
-    let mut ids = IndexSet::with_capacity_and_hasher(alloc, list.len(), IdHasher::new())?;
-    let mut roots = Vec::new(alloc);
-    let mut repeated = 0;
-    for i in 0..list.len() {
-        number_one(&mut ids, &mut roots, &mut repeated, list.get(i))?;
-    }
-    Ok(Numbered {
-        ids,
-        roots,
-        repeated,
-    })
 }
 
 /// Adds so many IDs that stand one after another to the row that is being filled.
@@ -183,21 +129,30 @@ fn fill_one(
     alloc: Global,
     references: &mut References,
     shapes: &mut Shapes,
+    classes: &Classes,
     id_size: IdSize,
     bytes: &[u8],
     item: Item<'_>,
 ) -> Result<(), AllocError>
     requires within { IsItemWithin id_size (length bytes.now) (item_view item) }
+    requires small { length bytes.now < 2 ^ 31 }
     requires room { length references.old.ids + references.old.count + item_weight (item_view item) < 2 ^ 32 - 1 }
-    requires few { length shapes.old < 2 ^ 32 - 1 }
+    requires few { length shapes.old.objects < 2 ^ 32 - 1 }
     requires filled { references.old.filling ≡ [] }
-    ensures { OnOk result (FillsItem bytes.now id_size (item_view item.entry) (columns references.old shapes.old) (columns references.new shapes.new)) }
+    requires classes { AreLayouts id_size classes.now shapes.old.layouts }
+    ensures filled { OnOk result (FillsItem (known_at classes.now) bytes.now id_size (item_view item.entry) (columns references.old shapes.old.objects) (columns references.new shapes.new.objects)) }
+    ensures kept { OnOk result (shapes.new.layouts ≡ shapes.old.layouts) }
 {
     match item {
         Item::Root(..) => {}
         Item::Class(class) => {
             if references.is_next(class.id) {
                 push_class(alloc, references, shapes, id_size, bytes, class)?;
+            }
+        }
+        Item::Instance { id, class, values } => {
+            if references.is_next(id) {
+                push_instance(references, shapes, classes, id_size, bytes, class, values)?;
             }
         }
         Item::ObjArray {
@@ -226,20 +181,98 @@ fn fill_rows(
     alloc: Global,
     references: &mut References,
     shapes: &mut Shapes,
+    classes: &Classes,
     id_size: IdSize,
     bytes: &[u8],
     list: &Subs,
 ) -> Result<(), AllocError>
     requires within { AreWithin id_size bytes.now list.now }
+    requires small { length bytes.now < 2 ^ 31 }
     requires ids { references.old.ids ≡ object_ids list.now }
     requires few { length references.old.ids < 2 ^ 31 }
-    requires empty { HasNoRows (columns references.old shapes.old) }
-    ensures { OnOk result (HasRowsOf bytes.now id_size list.now (columns references.new shapes.new)) }
+    requires empty { HasNoRows (columns references.old shapes.old.objects) }
+    requires classes { AreLayouts id_size classes.now shapes.old.layouts }
+    ensures { OnOk result (HasRowsOf (known_at classes.now) bytes.now id_size list.now (columns references.new shapes.new.objects)) }
 {
     for i in 0..list.len() {
-        fill_one(alloc, references, shapes, id_size, bytes, list.get(i).item)?;
+        let item = list.get(i).item;
+        fill_one(alloc, references, shapes, classes, id_size, bytes, item)?;
     }
     Ok(())
+}
+
+/// The references and the shapes of the objects of a file, by their IDs.
+fn rows_of(
+    alloc: Global,
+    ids: IndexSet<u64, IdHasher>,
+    classes: &Classes,
+    id_size: IdSize,
+    bytes: &[u8],
+    list: &Subs,
+) -> Result<Rows, AllocError>
+    requires within { AreWithin id_size bytes.now list.now }
+    requires small { length bytes.now < 2 ^ 31 }
+    requires ids { ids.keys ≡ object_ids list.now }
+    requires no_null { All (λ id. 0 < id) ids.keys }
+    requires distinct { IsDistinct nat_eq ids.keys }
+    requires few { length ids.keys < 2 ^ 31 }
+    requires classes { AreFewAndShort classes.now }
+    ensures { IfOk result (λ rows. HasRowsOf (known_at classes.now) bytes.now id_size list.now (columns rows.references rows.shapes.objects)) }
+{
+    let layouts = shapes_of_classes(alloc, id_size, classes)?;
+    let mut shapes = Shapes::with_capacity(alloc, ids.len(), layouts)?;
+    let mut references = References::new(alloc, ids)?;
+    fill_rows(
+        alloc,
+        &mut references,
+        &mut shapes,
+        classes,
+        id_size,
+        bytes,
+        list,
+    )?;
+    Ok(Rows { references, shapes })
+}
+
+impl Graph {
+    /// The graph of a file, of which these are the records, the sub-records and the classes.
+    ///
+    /// # Errors
+    ///
+    /// `NullObject` or `InstanceSize` at the tag of the first object with ID 0 or instance whose values don't fit its class's
+    /// layout, an offset into the file in bytes; or want of memory, at 0.
+    pub fn build(
+        alloc: Global,
+        bytes: &[u8],
+        records: &Records,
+        list: &Subs,
+        classes: &Classes,
+    ) -> Result<Graph, ReadFault>
+        requires records { ReadsRecords bytes.now records.now.id_size records.now.strings records.now.loads records.now.segments }
+        requires list { ReadsBodies records.now.id_size bytes.now records.now.segments list.now }
+        requires classes { AreClassesOf (class_table bytes.now records.now.strings records.now.loads list.now) classes.now }
+        requires no_cycle { class_faults (class_table bytes.now records.now.strings records.now.loads list.now) list.now ≡ [] }
+        ensures ok { IfOk result (λ graph. IsDumpOf bytes.now graph) }
+        ensures err { IfErr result (λ f. IsReadFaultOrMemory bytes.now f) }
+    {
+        let strings = repeated_strings(alloc, &records.strings)?;
+        let loads = repeated_loads(alloc, &records.loads)?;
+        let Numbered { ids, roots, tally } = number(alloc, list, classes, records.id_size)?;
+        let Rows { references, shapes } = rows_of(
+            alloc,
+            ids,
+            classes,
+            records.id_size,
+            bytes,
+            list,
+        )?;
+        let repeats = Repeats {
+            objects: tally.repeated,
+            strings,
+            loads,
+        };
+        Ok(Graph::new(references, shapes, roots, repeats, tally.opaque))
+    }
 }
 
 /// The graph of a dump: all of the file is read, one segment after the other.
@@ -252,28 +285,8 @@ pub fn open_plain(alloc: Global, bytes: &[u8]) -> Result<Graph, ReadFault>
     ensures err { IfErr result (λ f. IsReadFaultOrMemory bytes.now f) }
 {
     let records = read_records(alloc, bytes)?;
-    let strings = repeated_strings(alloc, &records.strings)?;
-    let loads = repeated_loads(alloc, &records.loads)?;
     let list = read_bodies(alloc, bytes, records.id_size, &records.segments)?;
-    let Numbered {
-        ids,
-        roots,
-        repeated,
-    } = number(alloc, &list)?;
-    let mut shapes = Shapes::with_capacity(alloc, ids.len())?;
-    let mut references = References::new(alloc, ids)?;
-    fill_rows(
-        alloc,
-        &mut references,
-        &mut shapes,
-        records.id_size,
-        bytes,
-        &list,
-    )?;
-    let repeats = Repeats {
-        objects: repeated,
-        strings,
-        loads,
-    };
-    Ok(Graph::new(references, shapes, roots, repeats))
+    let classes = Classes::build(alloc, bytes, &records, &list)?;
+    let graph = Graph::build(alloc, bytes, &records, &list, &classes)?;
+    Ok(graph)
 }

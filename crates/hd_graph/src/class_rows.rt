@@ -133,9 +133,10 @@ pub(crate) fn push_class(
 ) -> Result<(), AllocError>
     requires within { IsClassWithin id_size (length bytes.now) (class_view class.now) }
     requires room { length references.old.ids + references.old.count + class_weight (class_view class.now) < 2 ^ 32 - 1 }
-    requires few { length shapes.old < 2 ^ 32 - 1 }
+    requires few { length shapes.old.objects < 2 ^ 32 - 1 }
     requires filled { references.old.filling ≡ [] }
-    ensures { OnOk result (Adds (class.now.id, class_row bytes.now id_size (class_view class.now), ClassObject (static_bytes (class_view class.now).statics) (class_names (class_view class.now))) (class_weight (class_view class.now)) (columns references.old shapes.old) (columns references.new shapes.new)) }
+    ensures added { OnOk result (Adds (class.now.id, class_row bytes.now id_size (class_view class.now), ClassObject (static_bytes (class_view class.now).statics) (class_names (class_view class.now))) (class_weight (class_view class.now)) (columns references.old shapes.old.objects) (columns references.new shapes.new.objects)) }
+    ensures kept { OnOk result (shapes.new.layouts ≡ shapes.old.layouts) }
 {
     let mut names = Vec::new(alloc);
     push_statics(

@@ -5,7 +5,7 @@ ghost use Rattle.hd_terms.specs.EditedDump.{same_slot};
 ghost use Rattle.hd_terms.specs.Dump.{SlotEntry, object_at};
 ghost use Rattle.hd_terms.specs.declared.Slot.{Slot};
 ghost use Rattle.hd_graph.specs.Arrays.{row_place};
-ghost use Rattle.hd_graph.specs.Shapes.{shape_bytes, slot_name, shape_place, IsNamedAt, HasFewNames};
+ghost use Rattle.hd_graph.specs.Shapes.{shape_bytes, slot_name, slot_kind, shape_place, shape_referent, IsNamedAt, HasFewNames};
 ghost use Rattle.hd_graph.specs.KeptShapes.{shape_view};
 
 use crate::references::References;
@@ -20,6 +20,7 @@ pub struct Graph {
     shapes: Shapes,
     roots: Vec<RootRow>,
     repeats: Repeats,
+    opaque: u64,
 }
 
 /// How many sub-records of objects and records have the ID of an earlier one.
@@ -110,6 +111,7 @@ fn slot_at(shape: Shape<'_>, len: u32, i: u32) -> Slot
 {
     match shape {
         Shape::Class(class) => class.names[i as usize],
+        Shape::Instance(layout) => layout.names[i as usize],
         _ if i == len - 1 => Slot::OfClass,
         _ => Slot::Element(i),
     }
@@ -124,6 +126,7 @@ fn place_in(shape: Shape<'_>, len: u32, slot: Slot) -> Option<u32>
         Shape::ObjectArray { .. } => place_in_row(len, slot),
         Shape::PrimitiveArray { .. } => place_in_row(len, slot),
         Shape::Class(class) => place_among(class.names.as_slice(), slot),
+        Shape::Instance(layout) => place_among(layout.names.as_slice(), slot),
     }
 }
 
@@ -135,6 +138,30 @@ fn recorded_bytes(shape: Shape<'_>) -> u32
         Shape::ObjectArray { bytes } => bytes,
         Shape::PrimitiveArray { bytes, .. } => bytes,
         Shape::Class(class) => class.bytes,
+        Shape::Instance(layout) => layout.bytes,
+    }
+}
+
+/// The kind of the reference in a slot of an object of a shape.
+fn kind_of_slot(shape: Shape<'_>, slot: Slot) -> EdgeKind
+    ensures { result ≡ slot_kind (shape_view shape.entry) slot }
+{
+    if let Shape::Instance(layout) = shape
+        && let Some(referent) = layout.referent
+        && is_same_slot(slot, referent)
+    {
+        return layout.kind;
+    }
+    EdgeKind::Strong
+}
+
+/// The slot that is the referent of an object of a shape.
+fn referent_in(shape: Shape<'_>) -> Option<Slot>
+    ensures { result ≡ shape_referent (shape_view shape.entry) }
+{
+    match shape {
+        Shape::Instance(layout) => layout.referent,
+        _ => None,
     }
 }
 
@@ -154,24 +181,27 @@ impl Graph {
     ghost use Rattle.hd_graph.specs.Shapes.{IsSmall, AreColumns, row_objects};
     ghost use Rattle.hd_graph.specs.GraphInside.{root_of_row, repeated_in};
 
-    /// The graph of references and shapes, a row and a shape for each object, and roots, and what was repeated.
+    /// The graph of references and shapes, a row and a shape for each object, and roots, what was repeated, and how many
+    /// instances are opaque.
     pub(crate) fn new(
         references: References,
         shapes: Shapes,
         roots: Vec<RootRow>,
         repeats: Repeats,
+        opaque: u64,
     ) -> Graph
-        requires columns { AreColumns shapes references.ids references.rows }
-        requires small { All IsSmall shapes }
+        requires columns { AreColumns shapes.objects references.ids references.rows }
+        requires small { All IsSmall shapes.objects }
         requires few { length references.ids < 2 ^ 31 }
         requires few_roots { length roots.items < 2 ^ 32 }
-        ensures { result ≡ record { objects = row_objects shapes references.ids references.rows; roots = map root_of_row roots.items; repeated = repeated_in repeats; opaque = 0 } }
+        ensures { result ≡ record { objects = row_objects shapes.objects references.ids references.rows; roots = map root_of_row roots.items; repeated = repeated_in repeats; opaque = opaque } }
     {
         Graph {
             references,
             shapes,
             roots,
             repeats,
+            opaque,
         }
     }
 
@@ -182,12 +212,11 @@ impl Graph {
         self.repeats
     }
 
-    /// How many instances have a class chain that isn't whole. No instance is read so far.
+    /// How many instances have a class chain that isn't whole.
     pub(crate) fn opaque(&self) -> u64
         ensures { result ≡ self.now.opaque }
     {
-        let _repeats = self.repeats;
-        0
+        self.opaque
     }
 
     /// How many objects the dump has.
@@ -213,8 +242,8 @@ impl Graph {
         self.references.index_of(id)
     }
 
-    /// What an object is counted under: an object array under its array class, a primitive array under the type of its
-    /// elements, a class among the classes.
+    /// What an object is counted under: an instance under its class, an object array under its array class, a primitive array
+    /// under the type of its elements, a class among the classes.
     pub fn group_of(&self, o: u32) -> Group
         requires { o < length self.now.objects }
         ensures { result ≡ (object_at self.now o).group }
@@ -223,11 +252,13 @@ impl Graph {
             Shape::ObjectArray { .. } => Group::Class(self.references.last(o)),
             Shape::PrimitiveArray { element, .. } => Group::Prim(element),
             Shape::Class(_) => Group::Classes,
+            Shape::Instance(_) => Group::Class(self.references.last(o)),
         }
     }
 
-    /// The recorded bytes of an object: of an array its count times the size of an element, which is that of an ID in an
-    /// object array; of a class the sizes of its statics. At most 2,147,483,647, as a file has.
+    /// The recorded bytes of an object: of an instance those of its values; of an array its count times the size of an
+    /// element, which is that of an ID in an object array; of a class the sizes of its statics. At most 2,147,483,647, as a
+    /// file has.
     pub fn bytes_of(&self, o: u32) -> u64
         requires { o < length self.now.objects }
         ensures bytes { result ≡ (object_at self.now o).bytes }
@@ -244,9 +275,9 @@ impl Graph {
         self.references.row_len(o)
     }
 
-    /// The slot at a place of an object: of an object array its elements first, then its class; of a class its statics and
-    /// constants that are references, then its super class, loader, signers and protection domain. A primitive array has
-    /// none.
+    /// The slot at a place of an object: of an instance its fields that are references first, its class's own before its
+    /// super class's, then its class; of an object array its elements, then its class; of a class its statics and constants
+    /// that are references, then its super class, loader, signers and protection domain. A primitive array has none.
     pub fn slots(&self, o: u32, i: u32) -> SlotRead
         requires object { o < length self.now.objects }
         requires place { i < length (object_at self.now o).slots }
@@ -254,10 +285,11 @@ impl Graph {
         ensures target { result.target ≡ index_of self.now.objects result.id }
     {
         let (id, target) = self.references.get(o, i);
-        let slot = slot_at(self.shapes.get(o), self.references.row_len(o), i);
+        let shape = self.shapes.get(o);
+        let slot = slot_at(shape, self.references.row_len(o), i);
         SlotRead {
             slot,
-            kind: EdgeKind::Strong,
+            kind: kind_of_slot(shape, slot),
             id,
             target,
         }
@@ -272,13 +304,12 @@ impl Graph {
         place_in(self.shapes.get(o), self.references.row_len(o), slot)
     }
 
-    /// The slot that is a reference object's referent, if the object is one. No array and no class is.
+    /// The slot that is a reference object's referent, if the object has one. No array and no class has.
     pub fn referent_of(&self, o: u32) -> Option<Slot>
         requires { o < length self.now.objects }
         ensures { result ≡ (object_at self.now o).referent }
     {
-        let _arrays = &self.references;
-        None
+        referent_in(self.shapes.get(o))
     }
 
     /// How many roots the dump has.

@@ -6,7 +6,10 @@ mod class_rows;
 mod counts;
 mod graph;
 mod id_hasher;
+mod instance_rows;
+mod layouts;
 mod noted;
+mod number;
 mod references;
 mod shape;
 

@@ -1,28 +1,30 @@
 //! Noting IDs one after another, and counting those that were noted before.
-ghost use Rattle.std.specs.Prelude.{◌≡◌, ◌+◌, ◌<◌, ◌^◌, IfOk, OnOk};
+ghost use Rattle.std.specs.Prelude.{◌≡◌, ◌+◌, ◌<◌, ◌^◌, not, IfOk, OnOk};
 ghost use Rattle.hd_terms.specs.declared.Load.{Load};
 ghost use Rattle.hd_terms.specs.declared.Text.{Text};
-ghost use Rattle.hd_terms.specs.Objects.{repeats};
-ghost use Rattle.hd_graph.specs.Noted.{NotesId};
+ghost use Rattle.hd_terms.specs.FirstRecords.{repeats};
+ghost use Rattle.hd_graph.specs.Noted.{is_noted, NotesId};
 
 use crate::id_hasher::IdHasher;
 use hd_records::{Loads, Texts};
 use indexmap::IndexSet;
 use std::alloc::{AllocError, Global};
 
-/// Notes an ID, and counts it if it was noted before.
+/// Notes an ID, and counts it if it was noted before. Answers whether it is new.
 pub(crate) fn note_id(
     ids: &mut IndexSet<u64, IdHasher>,
     repeated: &mut u64,
     id: u64,
-) -> Result<(), AllocError>
+) -> Result<bool, AllocError>
     requires { repeated.old + 1 < 2 ^ 64 }
-    ensures { OnOk result (NotesId id ids.old.keys repeated.old ids.new.keys repeated.new) }
+    ensures noted { OnOk result (NotesId id ids.old.keys repeated.old ids.new.keys repeated.new) }
+    ensures is_new { IfOk result (λ new. new ≡ not (is_noted ids.old.keys id)) }
 {
-    if !ids.insert(id)? {
+    let new = ids.insert(id)?;
+    if !new {
         *repeated += 1;
     }
-    Ok(())
+    Ok(new)
 }
 
 /// How many texts have the ID of an earlier one.

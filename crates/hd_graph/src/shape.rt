@@ -1,8 +1,9 @@
 //! What is kept of objects beside their references.
-ghost use Rattle.std.specs.Prelude.{◌≡◌, ◌<◌, ◌-◌, ◌^◌, [], ◌∷◌, ◌++◌, length, slice_get, Some, IfOk, OnOk};
+ghost use Rattle.std.specs.Prelude.{◌≡◌, ◌<◌, ◌-◌, ◌^◌, [], ◌∷◌, ◌++◌, length, map, slice_get, Some, IfOk, OnOk};
 ghost use Rattle.hd_graph.specs.Shapes.{ObjectArray, PrimitiveArray};
-ghost use Rattle.hd_graph.specs.KeptShapes.{shape_view, class_shape_view, IsKeptOver, kept_shape};
+ghost use Rattle.hd_graph.specs.KeptShapes.{shape_view, class_shape_view, layout_view, shape_at, IsKeptOver, kept_shape};
 
+use crate::layouts::LayoutShape;
 use hd_terms::Slot;
 use std::alloc::{AllocError, Global};
 use std::marker::Model;
@@ -17,18 +18,22 @@ pub(crate) struct ClassShape {
 /// What an object is, and how many bytes are recorded of it.
 #[derive(Clone, Copy, Debug)]
 pub(crate) enum Shape<'a> {
+    /// An object array, or an instance of a class that isn't known.
     ObjectArray { bytes: u32 },
     /// A primitive array, with the type of its elements, 4 to 11.
     PrimitiveArray { element: u8, bytes: u32 },
     Class(&'a ClassShape),
+    Instance(&'a LayoutShape),
 }
 
-/// A shape in eight bytes. Of a class it is its place among the classes.
+/// A shape in eight bytes. Of a class it is its place among the classes, of an instance the number of its class among those
+/// that are known.
 #[derive(Clone, Copy, Debug)]
 pub(crate) enum Kept {
     ObjectArray { bytes: u32 },
     PrimitiveArray { element: u8, bytes: u32 },
     Class { place: u32 },
+    Instance { class: u32 },
 }
 
 const _: () = prove!(size_of::<Kept>() <= 8);
@@ -38,55 +43,65 @@ const _: () = prove!(size_of::<Kept>() <= 8);
 pub(crate) struct Shapes {
     kept: Vec<Kept>,
     classes: Vec<ClassShape>,
+    layouts: Vec<LayoutShape>,
 }
 
 impl Model for Shapes {
-    ghost use Rattle.std.specs.Prelude.{List, map, length};
-    ghost use Rattle.hd_graph.specs.Shapes.{ObjectShape};
-    ghost use Rattle.hd_graph.specs.KeptShapes.{kept_shape, AreKept};
+    ghost use Rattle.std.specs.Prelude.{map, length};
+    ghost use Rattle.hd_graph.specs.KeptShapes.{ShapeLists, kept_shape, layout_view, AreKept};
 
-    ghost Value = { List ObjectShape };
+    ghost Value = { ShapeLists };
 
-    ghost view = { λ s. map (kept_shape s.classes.items) s.kept.items };
+    ghost view = { λ s. record { objects = map (kept_shape s.classes.items s.layouts.items) s.kept.items; layouts = map layout_view s.layouts.items } };
 
-    ghost invariant = { λ s. AreKept s.kept.items (length s.classes.items) };
+    ghost invariant = { λ s. AreKept s.kept.items (length s.classes.items) (length s.layouts.items) };
 }
 
-/// What is kept says, over the classes.
-fn shape_of(kept: Kept, classes: &[ClassShape]) -> Shape<'_>
-    requires { IsKeptOver (length classes.now) kept }
-    ensures { shape_view result ≡ kept_shape classes.now kept }
+/// What is kept says, over the classes and the layouts.
+fn shape_of<'a>(kept: Kept, classes: &'a [ClassShape], layouts: &'a [LayoutShape]) -> Shape<'a>
+    requires { IsKeptOver (length classes.now) (length layouts.now) kept }
+    ensures { shape_view result ≡ kept_shape classes.now layouts.now kept }
 {
     match kept {
         Kept::ObjectArray { bytes } => Shape::ObjectArray { bytes },
         Kept::PrimitiveArray { element, bytes } => Shape::PrimitiveArray { element, bytes },
         Kept::Class { place } => Shape::Class(&classes[place as usize]),
+        Kept::Instance { class } => Shape::Instance(&layouts[class as usize]),
     }
 }
 
 impl Shapes {
-    /// No shapes yet, with room for so many.
-    pub(crate) fn with_capacity(alloc: Global, objects: usize) -> Result<Shapes, AllocError>
-        ensures { IfOk result (λ s. s ≡ []) }
+    /// No objects yet, with room for so many, over the shapes of the instances of the classes that are known.
+    pub(crate) fn with_capacity(
+        alloc: Global,
+        objects: usize,
+        layouts: Vec<LayoutShape>,
+    ) -> Result<Shapes, AllocError>
+        ensures { IfOk result (λ s. s ≡ record { objects = []; layouts = map layout_view layouts.items }) }
     {
         let kept = Vec::with_capacity(alloc, objects)?;
         Ok(Shapes {
             kept,
             classes: Vec::new(alloc),
+            layouts,
         })
     }
 
     /// The shape of the object of a number.
     pub(crate) fn get(&self, o: u32) -> Shape<'_>
-        requires { o < length self.now }
-        ensures { slice_get self.now o ≡ Some (shape_view result) }
+        requires { o < length self.now.objects }
+        ensures { slice_get self.now.objects o ≡ Some (shape_view result) }
     {
-        shape_of(self.kept[o as usize], self.classes.as_slice())
+        shape_of(
+            self.kept[o as usize],
+            self.classes.as_slice(),
+            self.layouts.as_slice(),
+        )
     }
 
     /// An object array of so many bytes comes next.
     pub(crate) fn push_object_array(&mut self, bytes: u32) -> Result<(), AllocError>
-        ensures { OnOk result (self.new ≡ self.old ++ ObjectArray bytes ∷ []) }
+        ensures { OnOk result (self.new ≡ record self.old { objects = self.old.objects ++ ObjectArray bytes ∷ [] }) }
     {
         self.kept.push(Kept::ObjectArray { bytes })?;
         Ok(())
@@ -94,16 +109,25 @@ impl Shapes {
 
     /// A primitive array of so many bytes comes next, with elements of a type.
     pub(crate) fn push_primitive_array(&mut self, element: u8, bytes: u32) -> Result<(), AllocError>
-        ensures { OnOk result (self.new ≡ self.old ++ PrimitiveArray element bytes ∷ []) }
+        ensures { OnOk result (self.new ≡ record self.old { objects = self.old.objects ++ PrimitiveArray element bytes ∷ [] }) }
     {
         self.kept.push(Kept::PrimitiveArray { element, bytes })?;
         Ok(())
     }
 
+    /// An instance of the class of a number comes next.
+    pub(crate) fn push_instance(&mut self, class: u32) -> Result<(), AllocError>
+        requires { class < length self.old.layouts }
+        ensures { OnOk result (self.new ≡ record self.old { objects = self.old.objects ++ shape_at self.old.layouts class ∷ [] }) }
+    {
+        self.kept.push(Kept::Instance { class })?;
+        Ok(())
+    }
+
     /// A class object comes next.
     pub(crate) fn push_class(&mut self, class: ClassShape) -> Result<(), AllocError>
-        requires { length self.old < 2 ^ 32 - 1 }
-        ensures { OnOk result (self.new ≡ self.old ++ class_shape_view class ∷ []) }
+        requires { length self.old.objects < 2 ^ 32 - 1 }
+        ensures { OnOk result (self.new ≡ record self.old { objects = self.old.objects ++ class_shape_view class ∷ [] }) }
     {
         let place = self.classes.len() as u32;
         self.kept.reserve(1)?;

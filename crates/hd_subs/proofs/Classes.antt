@@ -25,6 +25,8 @@ class_at-new (x ∷ cs) c = class_at-new cs c
 item-kept : (cs : List ClassDump) (c : ClassDump) (k : Kind) (offset id class count : ℕ) → HasClass (length cs) k class → item_of (cs ++ c ∷ []) k offset id class count ≡ item_of cs k offset id class count
 item-kept cs c (kinds.Root kind) offset id class count has = refl
 item-kept cs c kinds.Class offset id class count has = ap (λ (x : ClassItem). subs.Class x) (class_at-kept cs c class has)
+item-kept cs c kinds.InstanceOfFour offset id class count has = refl
+item-kept cs c kinds.InstanceOfEight offset id class count has = refl
 item-kept cs c kinds.ArrayOfFour offset id class count has = refl
 item-kept cs c kinds.ArrayOfEight offset id class count has = refl
 item-kept cs c (kinds.PrimArray element) offset id class count has = refl

@@ -11,12 +11,12 @@ use Rattle.hd_terms.specs.declared.RootKind.{RootKind}
 use Rattle.hd_terms.specs.declared.RootKind.TheVariants as roots
 use Rattle.hd_terms.specs.declared.errors.Cause.TheVariants.{ShortSub, UnknownSub, UnknownType}
 use Rattle.hd_terms.specs.Records.{id_len}
-use Rattle.hd_terms.specs.SubRecords.{SubRecord, RootOf, ObjectArray, PrimitiveArray, root_tag, root_more, IsSubRecord, sub_record_text, is_known_tag, Item, Root, ObjArray, PrimArray, Sub, item_at}
+use Rattle.hd_terms.specs.SubRecords.{SubRecord, RootOf, InstanceDump, ObjectArray, PrimitiveArray, root_tag, root_more, IsSubRecord, sub_record_text, is_known_tag, Item, Root, Instance, ObjArray, PrimArray, Sub, item_at}
 use Rattle.hd_terms.specs.Types.{is_element_type, element_len}
 use Rattle.hd_terms.specs.ReadFaults.{IsStuck, short, unknown, other_type}
-use Rattle.hd_subs.specs.Rows.{item_of, array_kind}
+use Rattle.hd_subs.specs.Rows.{item_of, instance_kind, array_kind}
 use Rattle.hd_subs.specs.Fronts.{BeginsWithSub}
-use Rattle.hd_subs.proofs.Padding.{zero_bytes, length-zero_bytes, big_number-padded, big_number-take, take-more, five_parts}
+use Rattle.hd_subs.proofs.Padding.{zero_bytes, length-zero_bytes, big_number-padded, big_number-take, take-more, instance_parts, five_parts}
 
 -- a sub-record that is spelled like these bytes
 record IsSpelling (size : IdSize) (s : SubRecord) (text : List ℕ) : Type 0 where
@@ -82,6 +82,79 @@ begins_root size at kind fields id long id_is =
     let text : List ℕ = take m fields in
     begins size at (root_tag kind) fields text (drop m fields) (root_in size kind text) (Root kind id) (take-append-drop m fields)
     (root-spelling size kind text (length-take-le m fields long)) (root-item size at kind fields m id (omega arith) id_is)
+
+-- ---- INSTANCE DUMP
+
+-- the bytes of the values that these fields give
+abbrev pub values_in : ℕ → List ℕ → ℕ
+values_in n fields = big_number 4 (drop (2 * n + 4) fields)
+
+-- the instance of these fields
+instance_in : ℕ → List ℕ → SubRecord
+instance_in n fields = InstanceDump (take n fields) (take 4 (drop n fields)) (take n (drop (n + 4) fields)) (take 4 (drop (2 * n + 4) fields)) (drop (2 * n + 8) fields)
+
+instance-spelling : (size : IdSize) (fields : List ℕ) → length fields ≡ 2 * id_len size + 8 + values_in (id_len size) fields → IsSpelling size (instance_in (id_len size) fields) (0x21 ∷ fields)
+unfolding instance_in
+instance-spelling size fields len =
+    let n : ℕ = id_len size in
+    let same : big_number 4 (take 4 (drop (2 * n + 4) fields)) ≡ values_in n fields = big_from-take 0 4 4 (drop (2 * n + 4) fields) (omega arith) in
+    let many : length (drop (2 * n + 8) fields) ≡ values_in n fields = omega (arith, length-drop (2 * n + 8) fields) in
+    record {
+      is = (
+        omega (arith, length-take n fields),
+        omega (arith, length-take 4 (drop n fields), length-drop n fields),
+        omega (arith, length-take n (drop (n + 4) fields), length-drop (n + 4) fields),
+        omega (arith, length-take 4 (drop (2 * n + 4) fields), length-drop (2 * n + 4) fields),
+        many ∙ sym same,
+      );
+      text_is = ap (λ (xs : List ℕ). 0x21 ∷ xs) (instance_parts n fields);
+    }
+
+pub short_instance : (size : IdSize) (fields : List ℕ) → length fields < 2 * id_len size + 8 + values_in (id_len size) fields → IsStuck size (0x21 ∷ fields) ShortSub
+short_instance size fields lacks =
+    let n : ℕ = id_len size in
+    let len : ℕ = 2 * n + 8 + values_in n fields in
+    let k : ℕ = len - length fields in
+    let text : List ℕ = fields ++ zero_bytes k in
+    let same : values_in n text ≡ values_in n fields = big_number-padded 4 (2 * n + 4) k fields in
+    let long : length text ≡ len = omega (arith, length-append fields (zero_bytes k), length-zero_bytes k) in
+    is_short size 0x21 fields (zero_bytes k) (instance_in n text) (omega (arith, length-zero_bytes k)) (instance-spelling size text (long ∙ ap (λ (c : ℕ). 2 * n + 8 + c) (sym same)))
+
+values-same : (size : IdSize) (at id class count : ℕ) → item_of [] (instance_kind size) at id class count ≡ Instance id class (record { start = at + 9 + 2 * id_len size; len = count })
+values-same sizes.Four at id class count =
+    let e : at + 17 ≡ at + 9 + 2 * 4 = omega arith in
+    ap (λ (s : ℕ). Instance id class (record { start = s; len = count })) e
+values-same sizes.Eight at id class count =
+    let e : at + 25 ≡ at + 9 + 2 * 8 = omega arith in
+    ap (λ (s : ℕ). Instance id class (record { start = s; len = count })) e
+
+instance-item : (size : IdSize) (at : ℕ) (fields : List ℕ) (m id class count : ℕ) → 2 * id_len size + 8 ≤ m
+    → id ≡ big_number (id_len size) fields → class ≡ big_number (id_len size) (drop (id_len size + 4) fields) → count ≡ values_in (id_len size) fields
+    → item_of [] (instance_kind size) at id class count ≡ item_at size at (instance_in (id_len size) (take m fields))
+unfolding instance_in
+instance-item size at fields m id class count long id_is class_is count_is =
+    let n : ℕ = id_len size in
+    let text : List ℕ = take m fields in
+    let id_same : id ≡ big_number n (take n text) = id_is ∙ sym (big_from-take 0 n n text (omega arith) ∙ big_from-take 0 n m fields (omega arith)) in
+    let class_same : class ≡ big_number n (take n (drop (n + 4) text)) = class_is ∙ sym (big_from-take 0 n n (drop (n + 4) text) (omega arith) ∙ big_number-take n (n + 4) m fields (omega arith)) in
+    let count_same : count ≡ big_number 4 (take 4 (drop (2 * n + 4) text)) = count_is ∙ sym (big_from-take 0 4 4 (drop (2 * n + 4) text) (omega arith) ∙ big_number-take 4 (2 * n + 4) m fields (omega arith)) in
+    values-same size at id class count
+    ∙ ap (λ (i : ℕ). Instance i class (record { start = at + 9 + 2 * n; len = count })) id_same
+    ∙ ap (λ (c : ℕ). Instance (big_number n (take n text)) c (record { start = at + 9 + 2 * n; len = count })) class_same
+    ∙ ap (λ (c : ℕ). Instance (big_number n (take n text)) (big_number n (take n (drop (n + 4) text))) (record { start = at + 9 + 2 * n; len = c })) count_same
+
+pub begins_instance : (size : IdSize) (at : ℕ) (fields : List ℕ) (id class count : ℕ) → 2 * id_len size + 8 + count ≤ length fields
+    → id ≡ big_number (id_len size) fields → class ≡ big_number (id_len size) (drop (id_len size + 4) fields) → count ≡ values_in (id_len size) fields
+    → BeginsWithSub size at (0x21 ∷ fields) (record { offset = at; item = item_of [] (instance_kind size) at id class count }) (drop (2 * id_len size + 8 + count) fields)
+begins_instance size at fields id class count long id_is class_is count_is =
+    let n : ℕ = id_len size in
+    let m : ℕ = 2 * n + 8 + count in
+    let text : List ℕ = take m fields in
+    let same : values_in n text ≡ count = big_number-take 4 (2 * n + 4) m fields (omega arith) ∙ sym count_is in
+    let len : length text ≡ m = length-take-le m fields long in
+    begins size at 0x21 fields text (drop m fields) (instance_in n text) (item_of [] (instance_kind size) at id class count) (take-append-drop m fields)
+    (instance-spelling size text (len ∙ ap (λ (c : ℕ). 2 * n + 8 + c) (sym same)))
+    (instance-item size at fields m id class count (omega arith) id_is class_is count_is)
 
 -- ---- OBJECT ARRAY DUMP
 
@@ -302,8 +375,8 @@ begins_primitive size at fields element id count long element_is type id_is coun
 
 -- ---- any other tag
 
-other_tag : (tag : ℕ) → ((kind : RootKind) → root_tag kind ≢ tag) → tag ≢ 0x20 → tag ≢ 0x22 → tag ≢ 0x23 → is_known_tag tag ≡ false
-other_tag tag root class array primitive =
+other_tag : (tag : ℕ) → ((kind : RootKind) → root_tag kind ≢ tag) → tag ≢ 0x20 → tag ≢ 0x21 → tag ≢ 0x22 → tag ≢ 0x23 → is_known_tag tag ≡ false
+other_tag tag root class instance array primitive =
     let unknown : 0xff ≢ tag = root roots.Unknown in
     let one : 0x01 ≢ tag = root roots.JniGlobal in
     let two : 0x02 ≢ tag = root roots.JniLocal in
@@ -315,5 +388,5 @@ other_tag tag root class array primitive =
     let eight : 0x08 ≢ tag = root roots.Thread in
     grind (arith, nat_tests)
 
-pub is_unknown : (size : IdSize) (tag : ℕ) (fields : List ℕ) → ((kind : RootKind) → root_tag kind ≢ tag) → tag ≢ 0x20 → tag ≢ 0x22 → tag ≢ 0x23 → IsStuck size (tag ∷ fields) UnknownSub
-is_unknown size tag fields root class array primitive = unknown tag fields refl (other_tag tag root class array primitive)
+pub is_unknown : (size : IdSize) (tag : ℕ) (fields : List ℕ) → ((kind : RootKind) → root_tag kind ≢ tag) → tag ≢ 0x20 → tag ≢ 0x21 → tag ≢ 0x22 → tag ≢ 0x23 → IsStuck size (tag ∷ fields) UnknownSub
+is_unknown size tag fields root class instance array primitive = unknown tag fields refl (other_tag tag root class instance array primitive)

@@ -46,6 +46,18 @@ take-more zero n xs = let e : 0 + n ≡ n = omega arith in rw e refl
 take-more (suc m) n [] = take-nil n ∙ sym (take-nil (suc m + n))
 take-more (suc m) n (x ∷ xs) = let e : suc m + n ≡ suc (m + n) = omega arith in rw e (ap (λ (ys : List ℕ). x ∷ ys) (take-more m n xs))
 
+-- the fields of an instance, where IDs have n bytes
+pub instance_parts : (n : ℕ) (xs : List ℕ) → (((take n xs ++ take 4 (drop n xs)) ++ take n (drop (n + 4) xs)) ++ take 4 (drop (2 * n + 4) xs)) ++ drop (2 * n + 8) xs ≡ xs
+instance_parts n xs =
+    let third : n + 4 + n ≡ 2 * n + 4 = omega arith in
+    let fourth : 2 * n + 4 + 4 ≡ 2 * n + 8 = omega arith in
+    let front : ((take n xs ++ take 4 (drop n xs)) ++ take n (drop (n + 4) xs)) ++ take 4 (drop (2 * n + 4) xs) ≡ take (2 * n + 8) xs =
+    ap (λ (ys : List ℕ). (ys ++ take n (drop (n + 4) xs)) ++ take 4 (drop (2 * n + 4) xs)) (take-more n 4 xs)
+    ∙ ap (λ (ys : List ℕ). ys ++ take 4 (drop (2 * n + 4) xs)) (take-more (n + 4) n xs ∙ ap (λ (k : ℕ). take k xs) third)
+    ∙ take-more (2 * n + 4) 4 xs
+    ∙ ap (λ (k : ℕ). take k xs) fourth in
+    ap (λ (ys : List ℕ). ys ++ drop (2 * n + 8) xs) front ∙ take-append-drop (2 * n + 8) xs
+
 -- the fields of an object array, whose IDs have n bytes
 pub five_parts : (n : ℕ) (xs : List ℕ) → (((take n xs ++ take 4 (drop n xs)) ++ take 4 (drop (n + 4) xs)) ++ take n (drop (n + 8) xs)) ++ drop (2 * n + 8) xs ≡ xs
 five_parts n xs =

@@ -5,7 +5,7 @@ use Rattle.std.proofs.lemmas.List.{append-nil, length-append}
 use Rattle.std.proofs.lemmas.List.Concat.{flat_map-append}
 use Rattle.hd_terms.specs.declared.IdSize.{IdSize}
 use Rattle.hd_terms.specs.declared.errors.Cause.{Cause}
-use Rattle.hd_terms.specs.SubRecords.{SubRecord, RootOf, ClassDump, ObjectArray, PrimitiveArray, IsSubRecord, sub_record_text, Sub, item_at, subs_at}
+use Rattle.hd_terms.specs.SubRecords.{SubRecord, RootOf, ClassDump, InstanceDump, ObjectArray, PrimitiveArray, IsSubRecord, sub_record_text, Sub, item_at, subs_at}
 use Rattle.hd_terms.specs.ReadFaults.{fault, IsStuck, IsSegmentFault}
 use Rattle.hd_subs.specs.Fronts.{BeginsWithSub, AppendsSub}
 use Rattle.hd_subs.specs.Reading.{AppendsSegment, HasGrown}
@@ -78,6 +78,7 @@ step_appended size base body rest fields after tag other old list new h is same 
 text-some : (s : SubRecord) → 0 < length (sub_record_text s)
 text-some (RootOf kind id more) = omega arith
 text-some (ClassDump head constants statics fields) = omega arith
+text-some (InstanceDump id serial class count values) = omega arith
 text-some (ObjectArray id serial count class elements) = omega arith
 text-some (PrimitiveArray id serial count element elements) = omega arith
 

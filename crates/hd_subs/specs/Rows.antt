@@ -23,6 +23,8 @@ class_at classes place = slice_index_or (map class_view classes) place no_class
 abbrev pub item_of : List ClassDump → Kind → ℕ → ℕ → ℕ → ℕ → Item
 item_of classes (kinds.Root kind) offset id class count = subs.Root kind id
 item_of classes kinds.Class offset id class count = subs.Class (class_at classes class)
+item_of classes kinds.InstanceOfFour offset id class count = subs.Instance id class (record { start = offset + 17; len = count })
+item_of classes kinds.InstanceOfEight offset id class count = subs.Instance id class (record { start = offset + 25; len = count })
 item_of classes kinds.ArrayOfFour offset id class count = subs.ObjArray id class (record { start = offset + 17; len = 4 * count })
 item_of classes kinds.ArrayOfEight offset id class count = subs.ObjArray id class (record { start = offset + 25; len = 8 * count })
 item_of classes (kinds.PrimArray element) offset id class count = subs.PrimArray id element count
@@ -36,10 +38,17 @@ abbrev pub array_kind : IdSize → Kind
 array_kind sizes.Four = kinds.ArrayOfFour
 array_kind sizes.Eight = kinds.ArrayOfEight
 
+-- the kind of an instance where IDs have a size
+abbrev pub instance_kind : IdSize → Kind
+instance_kind sizes.Four = kinds.InstanceOfFour
+instance_kind sizes.Eight = kinds.InstanceOfEight
+
 -- a row of a class has its place among so many classes
 abbrev pub HasClass : ℕ → Kind → ℕ → Type 0
 HasClass n (kinds.Root kind) class = Unit {0}
 HasClass n kinds.Class class = class < n
+HasClass n kinds.InstanceOfFour class = Unit {0}
+HasClass n kinds.InstanceOfEight class = Unit {0}
 HasClass n kinds.ArrayOfFour class = Unit {0}
 HasClass n kinds.ArrayOfEight class = Unit {0}
 HasClass n (kinds.PrimArray element) class = Unit {0}

@@ -36,6 +36,7 @@ class_view c = record {
 abbrev pub item_view : declared_item.Item → Item
 item_view (items.Root kind id) = subs.Root kind id
 item_view (items.Class class) = subs.Class (class_view class.now)
+item_view (items.Instance id class values) = subs.Instance id class values
 item_view (items.ObjArray id class elements) = subs.ObjArray id class elements
 item_view (items.PrimArray id element count) = subs.PrimArray id element count
 

@@ -1,6 +1,4 @@
 //! The sub-records of a heap dump's segment: what each holds, and the place of its tag in the file.
-//!
-//! So far all but INSTANCE DUMP (0x21) are read.
 #![tactic(auto)]
 
 mod class;

@@ -5,7 +5,7 @@ ghost use Rattle.hd_terms.specs.declared.RootKind.{RootKind};
 ghost use Rattle.hd_terms.specs.declared.errors.Cause.TheVariants.{ShortSub, OutOfMemory};
 ghost use Rattle.hd_terms.specs.SubRecords.{root_tag, root_more};
 ghost use Rattle.hd_terms.specs.ReadFaults.{fault, IsStuck};
-ghost use Rattle.hd_subs.specs.Rows.{row_view, array_kind};
+ghost use Rattle.hd_subs.specs.Rows.{row_view, instance_kind, array_kind};
 ghost use Rattle.hd_subs.specs.declared.row.Kind.TheVariants.{Class};
 ghost use Rattle.hd_subs.specs.Fronts.{BeginsWithSub, AppendsSub, IsFaultAt, IsNoRow};
 ghost use Rattle.hd_subs.specs.Reading.{ReadsSegment, AppendsSegment, HasGrown, IsSegmentFaultOrMemory};
@@ -24,6 +24,16 @@ struct Front<'a> {
     row: Row,
     after: &'a [u8],
     ghost no_class: { row.kind ≢ Class },
+}
+
+/// The kind of an instance where IDs have this size.
+fn kind_of_instance(id_size: IdSize) -> Kind
+    ensures { result ≡ instance_kind id_size }
+{
+    match id_size {
+        IdSize::Four => Kind::InstanceOfFour,
+        IdSize::Eight => Kind::InstanceOfEight,
+    }
 }
 
 /// The kind of an array whose IDs have this size.
@@ -90,12 +100,39 @@ fn read_root(kind: RootKind, fields: &[u8], id_size: IdSize, offset: u64) -> Opt
     })
 }
 
-/// How many elements an array has whose fields begin with an ID of this many bytes and a serial number.
+/// The count of an array or an instance whose fields begin with IDs, of this many bytes together, and a serial number.
 fn read_count(fields: &[u8], id_len: usize) -> u32
     requires { id_len + 8 ≤ length fields.now }
     ensures { result ≡ big_number 4 (drop (id_len + 4) fields.now) }
 {
     BigEndian::read_u32(&fields[id_len + 4..])
+}
+
+/// The INSTANCE DUMP whose fields these bytes begin with, unless they run out.
+fn read_instance(fields: &[u8], id_size: IdSize, offset: u64) -> Option<Front<'_>>
+    requires { offset + 25 < 2 ^ 64 }
+    ensures { MatchOption result (IsStuck id_size (0x21 ∷ fields.now) ShortSub) (λ f. BeginsWithSub id_size offset (0x21 ∷ fields.now) (row_view [] f.row) f.after.now) }
+{
+    let id_len = id_size.bytes();
+    if fields.len() < 2 * id_len + 8 {
+        return None;
+    }
+    let count = read_count(fields, 2 * id_len);
+    let len = 2 * id_len + 8 + count as usize;
+    if fields.len() < len {
+        return None;
+    }
+    let row = Row {
+        id: id_size.read(fields),
+        class: id_size.read(&fields[id_len + 4..]),
+        offset,
+        count,
+        kind: kind_of_instance(id_size),
+    };
+    Some(Front {
+        row,
+        after: &fields[len..],
+    })
 }
 
 /// The OBJECT ARRAY DUMP whose fields these bytes begin with, unless they run out.
@@ -172,6 +209,7 @@ fn read_row(tag: u8, fields: &[u8], id_size: IdSize, offset: u64) -> Result<Fron
     ensures err { IfErr result (λ why. IsNoRow id_size tag fields.now why) }
 {
     let front = match tag {
+        0x21 => read_instance(fields, id_size, offset),
         0x22 => read_array(fields, id_size, offset),
         0x23 => return read_primitive_array(fields, id_size, offset),
         _ => match root_kind(tag) {
@@ -262,7 +300,7 @@ pub fn read_segment_into(
 /// The sub-records of a segment's body, or the first fault from left to right.
 ///
 /// `base` is the place of the body, an offset into the file in bytes, and places of sub-records are counted from it. The
-/// faults are `UnknownSub` at a tag that is not read, `UnknownType` at the tag of a primitive array whose elements have
+/// faults are `UnknownSub` at a tag that no sub-record has, `UnknownType` at the tag of a primitive array whose elements have
 /// none of the types 4 to 11 or of a class with a constant, a static or a field of none of the types 1, 2 and 4 to 11,
 /// and `ShortSub` at the tag of a sub-record that runs past the body; the fields of one sub-record are read from left
 /// to right. `OutOfMemory` comes only where the list, or a list of a class, could not grow by something whose bytes are

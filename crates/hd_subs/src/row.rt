@@ -3,20 +3,22 @@ ghost use Rattle.std.specs.Prelude.{◌+◌, ◌<◌, ◌^◌};
 
 use hd_terms::RootKind;
 
-/// What a row is of. An object array's kind says how long its IDs are too, a primitive array's of what type its elements
-/// are.
+/// What a row is of. The kind of an instance or an object array says how long IDs are too, a primitive array's of what type
+/// its elements are.
 #[derive(Clone, Copy, Debug, PartialEq, Eq)]
 pub enum Kind {
     Root(RootKind),
     Class,
+    InstanceOfFour,
+    InstanceOfEight,
     ArrayOfFour,
     ArrayOfEight,
     PrimArray(u8),
 }
 
-/// A sub-record in 32 bytes: `offset` is the place of its tag, `count` is an array's. `class` is
-/// the ID of an object array's class, and of a class its place among the classes of the list.
-/// The IDs of an array's elements lie 17 or 25 bytes behind it.
+/// A sub-record in 32 bytes: `offset` is the place of its tag, `count` is an array's, and of an instance the bytes of its
+/// values. `class` is the ID of the class of an instance or an object array, and of a class its place among the classes of
+/// the list. The values of an instance and the IDs of an array's elements lie 17 or 25 bytes behind the tag.
 #[derive(Clone, Copy, Debug)]
 pub struct Row {
     pub id: u64,

@@ -9,6 +9,8 @@ pub enum Item<'a> {
     Root(RootKind, u64),
     /// A class object.
     Class(&'a ClassDump),
+    /// An instance: its ID, the ID of its class, and where in the file the values of its fields lie.
+    Instance { id: u64, class: u64, values: Span },
     /// An object array: its ID, the ID of its class, and where in the file the IDs of its elements lie.
     ObjArray { id: u64, class: u64, elements: Span },
     /// A primitive array: its ID, the type of its elements as HPROF numbers the basic types (4 to 11), and how many

@@ -1,7 +1,7 @@
 //! A list of sub-records.
 ghost use Rattle.std.specs.Prelude.{◌≡◌, ◌↔◌, ◌+◌, ◌^◌, ◌<◌, ◌≤◌, [], ◌∷◌, ◌++◌, length, take, slice_get, IsTrue, Some, OnOk, OnErr};
-ghost use Rattle.hd_terms.specs.SubRecords.{Class};
-ghost use Rattle.hd_subs.specs.Views.{sub_view, class_view};
+ghost use Rattle.hd_terms.specs.SubRecords.{Class, Instance, ObjArray};
+ghost use Rattle.hd_subs.specs.Views.{item_view, sub_view, class_view};
 ghost use Rattle.hd_subs.specs.Rows.{row_view, IsRowOver};
 
 use crate::class::ClassDump;
@@ -32,6 +32,31 @@ impl Model for Subs {
     ghost invariant = { λ s. All (IsRowOver (length s.classes.items)) s.rows.items };
 }
 
+/// The instance of a row, whose values lie at this place.
+fn instance_of(row: Row, start: u64) -> Item<'static>
+    ensures { item_view result ≡ Instance row.id row.class (record { start = start; len = row.count }) }
+{
+    Item::Instance {
+        id: row.id,
+        class: row.class,
+        values: Span {
+            start,
+            len: u64::from(row.count),
+        },
+    }
+}
+
+/// The object array of a row, whose IDs lie at this place and have so many bytes.
+fn array_of(row: Row, start: u64, len: u64) -> Item<'static>
+    ensures { item_view result ≡ ObjArray row.id row.class (record { start = start; len = len }) }
+{
+    Item::ObjArray {
+        id: row.id,
+        class: row.class,
+        elements: Span { start, len },
+    }
+}
+
 /// What a row says, over the classes of its list.
 fn sub_of(row: Row, classes: &[ClassDump]) -> Sub<'_>
     requires { IsRowOver (length classes.now) row }
@@ -40,22 +65,10 @@ fn sub_of(row: Row, classes: &[ClassDump]) -> Sub<'_>
     let item = match row.kind {
         Kind::Root(kind) => Item::Root(kind, row.id),
         Kind::Class => Item::Class(&classes[row.class as usize]),
-        Kind::ArrayOfFour => Item::ObjArray {
-            id: row.id,
-            class: row.class,
-            elements: Span {
-                start: row.offset + 17,
-                len: 4 * u64::from(row.count),
-            },
-        },
-        Kind::ArrayOfEight => Item::ObjArray {
-            id: row.id,
-            class: row.class,
-            elements: Span {
-                start: row.offset + 25,
-                len: 8 * u64::from(row.count),
-            },
-        },
+        Kind::InstanceOfFour => instance_of(row, row.offset + 17),
+        Kind::InstanceOfEight => instance_of(row, row.offset + 25),
+        Kind::ArrayOfFour => array_of(row, row.offset + 17, 4 * u64::from(row.count)),
+        Kind::ArrayOfEight => array_of(row, row.offset + 25, 8 * u64::from(row.count)),
         Kind::PrimArray(element) => Item::PrimArray {
             id: row.id,
             element,

@@ -42,6 +42,14 @@ const WIDE_ROOTS: &[u8; 121] =
 /// An array of one element of type 4 with room for eight bytes, with identifiers of four bytes. The type stands at 13.
 const TYPED: &[u8; 22] = b"\x23\0\0\0\x06\0\0\0\0\0\0\0\x01\x04\0\0\0\0\0\0\0\0";
 
+/// An instance of five bytes of values, and a root, with identifiers of four bytes.
+const INSTANCE: &[u8; 27] =
+    b"\x21\0\0\0\x20\0\0\0\x77\0\0\0\x11\0\0\0\x05\0\0\0\x09\x01\xff\0\0\0\x20";
+
+/// An instance of three bytes of values, and a root, with identifiers of eight bytes.
+const WIDE_INSTANCE: &[u8; 37] =
+    b"\x21\0\0\0\0\0\0\0\x20\0\0\0\x77\0\0\0\0\0\0\0\x11\0\0\0\x03\x01\x02\x03\xff\0\0\0\0\0\0\0\x20";
+
 fn root(offset: u64, kind: RootKind, id: u64) -> Sub<'static> {
     Sub {
         offset,
@@ -56,27 +64,38 @@ fn primitive_array(offset: u64, id: u64, element: u8, count: u32) -> Sub<'static
     }
 }
 
+fn instance(offset: u64, id: u64, class: u64, values: Span) -> Sub<'static> {
+    Sub {
+        offset,
+        item: Item::Instance { id, class, values },
+    }
+}
+
+/// Of an instance or an object array, whether it is an instance, its ID, its class and its span.
+fn spanned(item: Item) -> Option<(bool, u64, u64, Span)> {
+    match item {
+        Item::Instance { id, class, values } => Some((true, id, class, values)),
+        Item::ObjArray {
+            id,
+            class,
+            elements,
+        } => Some((false, id, class, elements)),
+        _ => None,
+    }
+}
+
 /// Whether two sub-records are the same, neither of which is a class.
 fn is_same(sub: Sub, wanted: Sub) -> bool {
     if sub.offset != wanted.offset {
         return false;
     }
+    if let (Some(parts), Some(wanted_parts)) = (spanned(sub.item), spanned(wanted.item)) {
+        return parts == wanted_parts;
+    }
     match (sub.item, wanted.item) {
         (Item::Root(kind, id), Item::Root(wanted_kind, wanted_id)) => {
             kind == wanted_kind && id == wanted_id
         }
-        (
-            Item::ObjArray {
-                id,
-                class,
-                elements,
-            },
-            Item::ObjArray {
-                id: wanted_id,
-                class: wanted_class,
-                elements: wanted_elements,
-            },
-        ) => id == wanted_id && class == wanted_class && elements == wanted_elements,
         (
             Item::PrimArray { id, element, count },
             Item::PrimArray {
@@ -243,6 +262,54 @@ fn short_roots(rt: HostRuntime) {
         let cause = Cause::ShortSub;
         assert_eq!(rt; fault, Some(ReadFault { cause, offset }));
     }
+}
+
+#[test]
+fn instances(rt: HostRuntime) -> Result<(), Fail> {
+    let list = read_segment(rt.alloc(), INSTANCE, IdSize::Four, 40)
+        .ok()
+        .ok_or("these are sub-records")?;
+    let wanted = [
+        instance(40, 0x20, 0x11, Span { start: 57, len: 5 }),
+        root(62, RootKind::Unknown, 0x20),
+    ];
+    assert!(rt; is_list(&list, &wanted));
+    let list = read_segment(rt.alloc(), WIDE_INSTANCE, IdSize::Eight, 0)
+        .ok()
+        .ok_or("these are sub-records too")?;
+    let wanted = [
+        instance(0, 0x20, 0x11, Span { start: 25, len: 3 }),
+        root(28, RootKind::Unknown, 0x20),
+    ];
+    assert!(rt; is_list(&list, &wanted));
+    let empty = b"\x21\0\0\0\x01\0\0\0\0\0\0\0\x02\0\0\0\0";
+    let list = read_segment(rt.alloc(), empty, IdSize::Four, 40)
+        .ok()
+        .ok_or("there may be no values")?;
+    assert!(rt; is_list(&list, &[instance(40, 1, 2, Span { start: 57, len: 0 })]));
+    Ok(())
+}
+
+#[test]
+fn short_instances(rt: HostRuntime) -> Result<(), Fail> {
+    for (body, whole, id_size) in [
+        (INSTANCE.as_slice(), 22, IdSize::Four),
+        (WIDE_INSTANCE.as_slice(), 28, IdSize::Eight),
+    ] {
+        for len in 1..whole {
+            let short = body.get(..len).ok_or("the instance is longer")?;
+            let fault = read_segment(rt.alloc(), short, id_size, 40).err();
+            let wanted = ReadFault {
+                cause: Cause::ShortSub,
+                offset: 40,
+            };
+            assert_eq!(rt; fault, Some(wanted));
+        }
+    }
+    // as many values as can be written, which are missing
+    let none = b"\x21\0\0\0\x01\0\0\0\0\0\0\0\0\xff\xff\xff\xff";
+    assert!(rt; has_fault(rt.alloc(), none, Cause::ShortSub));
+    Ok(())
 }
 
 #[test]

@@ -1,25 +1,24 @@
 -- A file has at most one fault, and one that has a dump has none.
-use Rattle.std.proofs.Common.{◌≡◌, ◌≢◌, ◌∙◌, ℕ, ◌+◌, ◌<◌, Bool, true, false, List, [], ◌∷◌, ◌++◌, length, slice_get, Option, Some, None, subst, sym, ap, refl, append_assoc, arith}
-use Rattle.std.specs.List.{flat_map, find, AllZip}
-use Rattle.std.specs.Option.{IsNone}
+use Rattle.std.proofs.Common.{◌≡◌, ◌≢◌, ◌∙◌, ℕ, ◌+◌, ◌<◌, Bool, true, false, List, [], ◌∷◌, ◌++◌, length, slice_get, Some, subst, sym, ap, refl, append_assoc, arith}
+use Rattle.std.specs.List.{flat_map, AllZip}
 use Rattle.std.proofs.lemmas.List.{append-nil}
 use Rattle.hd_terms.specs.declared.IdSize.{IdSize}
 use Rattle.hd_terms.specs.declared.IdSize.TheVariants as sizes
 use Rattle.hd_terms.specs.declared.Span.{Span}
 use Rattle.hd_terms.specs.declared.errors.Cause.{Cause}
-use Rattle.hd_terms.specs.declared.errors.Cause.TheVariants as causes
 use Rattle.hd_terms.specs.declared.errors.ReadFault.{ReadFault}
 use Rattle.hd_terms.specs.Records.{id_len, id_size_of, header_len, Record, IsFramed, least_body, IsRecord, record_text, HasHeader, AreRecords, segment_spans}
 use Rattle.hd_terms.specs.declared.RootKind.{RootKind}
 use Rattle.hd_terms.specs.declared.RootKind.TheVariants as roots
 use Rattle.hd_terms.specs.Types.{is_element_type, is_type}
-use Rattle.hd_terms.specs.SubRecords.{SubRecord, RootOf, ClassDump, ObjectArray, PrimitiveArray, Sub, root_tag, sub_record_text, is_known_tag, IsSubRecord, AreSubRecords, AreDumpSubRecords, dump_subs_at}
-use Rattle.hd_terms.specs.Objects.{is_null_object, IsDumpOf}
+use Rattle.hd_terms.specs.SubRecords.{SubRecord, RootOf, ClassDump, InstanceDump, ObjectArray, PrimitiveArray, root_tag, sub_record_text, is_known_tag, IsSubRecord, AreSubRecords, AreDumpSubRecords, dump_subs_at}
+use Rattle.hd_terms.specs.Objects.{classes_of, IsDumpOf}
+use Rattle.hd_terms.specs.HeapFaults.{class_faults, object_faults}
 use Rattle.hd_terms.specs.Dump.{Dump}
-use Rattle.hd_terms.specs.ReadFaults.{fault, IsRecordsFault, too_large, no_header, other_text, other_id_size, in_a_record, IsCutOff, IsStuckRecord, IsRecordFault, IsStuck, unknown, short, other_type, IsBeforeType, other_class_type, IsSegmentFault, IsSubRecordsFault, IsReadFault, in_records, in_sub_records, in_objects}
+use Rattle.hd_terms.specs.ReadFaults.{fault, IsRecordsFault, too_large, no_header, other_text, other_id_size, in_a_record, IsCutOff, IsStuckRecord, IsRecordFault, IsStuck, unknown, short, other_type, IsBeforeType, other_class_type, IsSegmentFault, IsSubRecordsFault, IsReadFault, in_records, in_sub_records, in_classes, in_objects}
 use Rattle.hd_terms.proofs.Spellings.{same_tag, behind_tag, IsEnd, same_texts, whole_has_no_end, cut_off_ends}
 use Rattle.hd_terms.proofs.Classes.{no_class}
-use Rattle.hd_terms.proofs.OneReading.{framed_apart, records_apart, no_record, root_or_class, root_or_primitive, primitive_fields, primitive_fronts, sub_records_apart, no_sub_record, same_file, same_size, same_bodies}
+use Rattle.hd_terms.proofs.OneReading.{framed_apart, records_apart, no_record, root_or_class, root_or_primitive, primitive_fields, primitive_fronts, sub_records_apart, no_sub_record, same_file, same_size, same_reading}
 
 -- the records
 
@@ -128,6 +127,7 @@ root_known roots.Thread = refl
 known : (size : IdSize) (s : SubRecord) (tag : ℕ) (more z : List ℕ) → tag ∷ more ≡ sub_record_text s ++ z → is_known_tag tag ≡ true
 known size (RootOf kind id rest) tag more z e = ap is_known_tag (same_tag tag (root_tag kind) _ _ e) ∙ root_known kind
 known size (ClassDump head constants statics fields) tag more z e = let same : tag ≡ 0x20 = cc in ap is_known_tag same
+known size (InstanceDump id serial class count values) tag more z e = let same : tag ≡ 0x21 = cc in ap is_known_tag same
 known size (ObjectArray id serial count class elements) tag more z e = let same : tag ≡ 0x22 = cc in ap is_known_tag same
 known size (PrimitiveArray id serial count element elements) tag more z e = let same : tag ≡ 0x23 = cc in ap is_known_tag same
 
@@ -148,6 +148,7 @@ no_other_type : (size : IdSize) (s : SubRecord) (id serial count : List ℕ) (el
     → length id ≡ id_len size → length serial ≡ 4 → length count ≡ 4 → is_element_type element ≡ false → 0x23 ∷ id ++ serial ++ count ++ element ∷ more ≡ sub_record_text s ++ z → ⊥
 no_other_type size (RootOf kind id' rest) id serial count element more z is li ls lc other e = root_or_primitive kind (sym (same_tag _ _ _ _ e))
 no_other_type size (ClassDump head constants statics fields) id serial count element more z is li ls lc other e = let differ : ◌≡◌ {A = ℕ} 0x23 0x20 = same_tag _ _ _ _ e in omega arith
+no_other_type size (InstanceDump id' serial' class count' values) id serial count element more z is li ls lc other e = let differ : ◌≡◌ {A = ℕ} 0x23 0x21 = same_tag _ _ _ _ e in omega arith
 no_other_type size (ObjectArray id' serial' count' class elements) id serial count element more z is li ls lc other e = let differ : ◌≡◌ {A = ℕ} 0x23 0x22 = same_tag _ _ _ _ e in omega arith
 no_other_type size (PrimitiveArray id' serial' count' element' elements) id serial count element more z is li ls lc other e =
     let same = primitive_fronts id id' serial serial' count count' element element' more (elements ++ z)
@@ -160,6 +161,7 @@ no_other_class_type : (size : IdSize) (s : SubRecord) (before : List ℕ) (code 
 no_other_class_type size (RootOf kind id rest) before code more z is front other e = root_or_class kind (sym (same_tag _ _ _ _ e))
 no_other_class_type size (ClassDump head constants statics fields) before code more z is front other e =
     no_class size before code more head constants statics fields z front other (behind_tag _ _ _ _ e) is.0 is.1 is.2 is.3
+no_other_class_type size (InstanceDump id serial class count values) before code more z is front other e = let differ : ◌≡◌ {A = ℕ} 0x20 0x21 = same_tag _ _ _ _ e in omega arith
 no_other_class_type size (ObjectArray id serial count class elements) before code more z is front other e = let differ : ◌≡◌ {A = ℕ} 0x20 0x22 = same_tag _ _ _ _ e in omega arith
 no_other_class_type size (PrimitiveArray id serial count element elements) before code more z is front other e = let differ : ◌≡◌ {A = ℕ} 0x20 0x23 = same_tag _ _ _ _ e in omega arith
 
@@ -291,51 +293,69 @@ same_sub_records_fault size rs f g h k =
 moved : (a b : IdSize) (rs ss : List Record) (f : ReadFault) → a ≡ b → rs ≡ ss → IsSubRecordsFault a rs f → IsSubRecordsFault b ss f
 moved a b rs ss f size records h = subst (λ (xs : List Record). IsSubRecordsFault b xs f) records (subst (λ (x : IdSize). IsSubRecordsFault x rs f) size h)
 
--- the first null object of another reading
-null_at : (a b : IdSize) (rs ss : List Record) (us vs : List (List SubRecord)) → a ≡ b → rs ≡ ss → us ≡ vs
-    → find is_null_object (dump_subs_at a (segment_spans header_len rs) us) ≡ find is_null_object (dump_subs_at b (segment_spans header_len ss) vs)
-null_at a b rs ss us vs size records segments =
-    ap (λ (x : IdSize). find is_null_object (dump_subs_at x (segment_spans header_len rs) us)) size
-    ∙ ap (λ (xs : List Record). find is_null_object (dump_subs_at b (segment_spans header_len xs) us)) records
-    ∙ ap (λ (xs : List (List SubRecord)). find is_null_object (dump_subs_at b (segment_spans header_len ss) xs)) segments
+-- the faults of the classes of a reading, and of its objects
+abbrev faulty_classes : List ℕ → IdSize → List Record → List (List SubRecord) → List ReadFault
+faulty_classes bytes size rs segments = class_faults (classes_of bytes size rs segments) (dump_subs_at size (segment_spans header_len rs) segments)
 
--- one element found
-same_found : (s t : Sub) → Some s ≡ Some t → s ≡ t
-same_found s t e = cc
+abbrev faulty_objects : List ℕ → IdSize → List Record → List (List SubRecord) → List ReadFault
+faulty_objects bytes size rs segments = object_faults (classes_of bytes size rs segments) size (dump_subs_at size (segment_spans header_len rs) segments)
 
--- none found
-not_found : (o : Option Sub) (s : Sub) → IsNone o → o ≡ Some s → ⊥
-not_found None s none e = cc
-not_found (Some t) s none e = cc
+-- a list with a first one has some
+some_first : (fs gs : List ReadFault) (f : ReadFault) → slice_get fs 0 ≡ Some f → fs ≡ gs → gs ≡ [] → ⊥
+some_first [] gs f first same none = cc
+some_first (h ∷ fs) gs f first same none = cc
+
+-- and has one first
+one_first_fault : (fs gs : List ReadFault) (f g : ReadFault) → slice_get fs 0 ≡ Some f → fs ≡ gs → slice_get gs 0 ≡ Some g → f ≡ g
+one_first_fault fs gs f g first same first' = let both : Some f ≡ Some g = sym first ∙ ap (λ (xs : List ReadFault). slice_get xs 0) same ∙ first' in cc
+
+-- a fault in the sub-records isn't one of a file whose segments are whole
+whole_segments : (bytes : List ℕ) (f : ReadFault) (a b : IdSize) (rs ss : List Record) (segments : List (List SubRecord)) → HasHeader a bytes → AreRecords a bytes rs → AreDumpSubRecords a rs segments
+    → HasHeader b bytes → AreRecords b bytes ss → IsSubRecordsFault b ss f → ⊥
+whole_segments bytes f a b rs ss segments header whole bodies header' whole' h =
+    let size : b ≡ a = same_size b a bytes header' header in
+    no_sub_records_fault a rs segments f bodies (moved b a ss rs f size (same_file b a bytes ss rs size whole' whole) h)
 
 -- a file that reads without fault has none
 pub no_fault : (bytes : List ℕ) (dump : Dump) (f : ReadFault) → IsDumpOf bytes dump → IsReadFault bytes f → ⊥
 no_fault bytes dump f is (in_records h) = no_records_fault bytes is.size is.records f is.reads.header is.reads.whole h
 no_fault bytes dump f is (in_sub_records size rs header whole h) =
-    no_sub_records_fault is.size is.records is.segments f is.reads.bodies
-    (moved size is.size rs is.records f (same_size size is.size bytes header is.reads.header) (same_file size is.size bytes rs is.records (same_size size is.size bytes header is.reads.header) whole is.reads.whole) h)
-no_fault bytes dump f is (in_objects size rs segments s header whole bodies found) =
-    let same : size ≡ is.size = same_size size is.size bytes header is.reads.header in
-    let records : rs ≡ is.records = same_file size is.size bytes rs is.records same whole is.reads.whole in
-    let lists : segments ≡ is.segments = same_bodies size is.size rs is.records segments is.segments same records bodies is.reads.bodies in
-    not_found (find is_null_object (dump_subs_at is.size (segment_spans header_len is.records) is.segments)) s is.reads.no_null
-    (sym (null_at size is.size rs is.records segments is.segments same records lists) ∙ found)
+    whole_segments bytes f is.size size is.records rs is.segments is.reads.header is.reads.whole is.reads.bodies header whole h
+no_fault bytes dump f is (in_classes size rs segments header whole bodies found) =
+    some_first (faulty_classes bytes size rs segments) (faulty_classes bytes is.size is.records is.segments) f found
+    (same_reading (faulty_classes bytes) bytes size is.size rs is.records segments is.segments header is.reads.header whole is.reads.whole bodies is.reads.bodies) is.reads.classes
+no_fault bytes dump f is (in_objects size rs segments header whole bodies none found) =
+    some_first (faulty_objects bytes size rs segments) (faulty_objects bytes is.size is.records is.segments) f found
+    (same_reading (faulty_objects bytes) bytes size is.size rs is.records segments is.segments header is.reads.header whole is.reads.whole bodies is.reads.bodies) is.reads.objects
 
 -- a file has one fault
 pub same_read_fault : (bytes : List ℕ) (f g : ReadFault) → IsReadFault bytes f → IsReadFault bytes g → f ≡ g
 same_read_fault bytes f g (in_records h) (in_records k) = same_records_fault bytes f g h k
 same_read_fault bytes f g (in_records h) (in_sub_records size rs header whole k) = absurd (no_records_fault bytes size rs f header whole h)
-same_read_fault bytes f g (in_records h) (in_objects size rs segments s header whole bodies found) = absurd (no_records_fault bytes size rs f header whole h)
+same_read_fault bytes f g (in_records h) (in_classes size rs segments header whole bodies found) = absurd (no_records_fault bytes size rs f header whole h)
+same_read_fault bytes f g (in_records h) (in_objects size rs segments header whole bodies none found) = absurd (no_records_fault bytes size rs f header whole h)
 same_read_fault bytes f g (in_sub_records size rs header whole h) (in_records k) = absurd (no_records_fault bytes size rs g header whole k)
 same_read_fault bytes f g (in_sub_records size rs header whole h) (in_sub_records size' rs' header' whole' k) =
     same_sub_records_fault size' rs' f g (moved size size' rs rs' f (same_size size size' bytes header header') (same_file size size' bytes rs rs' (same_size size size' bytes header header') whole whole') h) k
-same_read_fault bytes f g (in_sub_records size rs header whole h) (in_objects size' rs' segments s header' whole' bodies found) =
-    absurd (no_sub_records_fault size' rs' segments f bodies (moved size size' rs rs' f (same_size size size' bytes header header') (same_file size size' bytes rs rs' (same_size size size' bytes header header') whole whole') h))
-same_read_fault bytes f g (in_objects size rs segments s header whole bodies found) (in_records k) = absurd (no_records_fault bytes size rs g header whole k)
-same_read_fault bytes f g (in_objects size rs segments s header whole bodies found) (in_sub_records size' rs' header' whole' k) =
-    absurd (no_sub_records_fault size rs segments g bodies (moved size' size rs' rs g (same_size size' size bytes header' header) (same_file size' size bytes rs' rs (same_size size' size bytes header' header) whole' whole) k))
-same_read_fault bytes f g (in_objects size rs segments s header whole bodies found) (in_objects size' rs' segments' s' header' whole' bodies' found') =
-    let same : size ≡ size' = same_size size size' bytes header header' in
-    let records : rs ≡ rs' = same_file size size' bytes rs rs' same whole whole' in
-    let lists : segments ≡ segments' = same_bodies size size' rs rs' segments segments' same records bodies bodies' in
-    ap (λ (t : Sub). fault causes.NullObject t.offset) (same_found s s' (sym found ∙ null_at size size' rs rs' segments segments' same records lists ∙ found'))
+same_read_fault bytes f g (in_sub_records size rs header whole h) (in_classes size' rs' segments header' whole' bodies found) =
+    absurd (whole_segments bytes f size' size rs' rs segments header' whole' bodies header whole h)
+same_read_fault bytes f g (in_sub_records size rs header whole h) (in_objects size' rs' segments header' whole' bodies none found) =
+    absurd (whole_segments bytes f size' size rs' rs segments header' whole' bodies header whole h)
+same_read_fault bytes f g (in_classes size rs segments header whole bodies found) (in_records k) = absurd (no_records_fault bytes size rs g header whole k)
+same_read_fault bytes f g (in_classes size rs segments header whole bodies found) (in_sub_records size' rs' header' whole' k) =
+    absurd (whole_segments bytes g size size' rs rs' segments header whole bodies header' whole' k)
+same_read_fault bytes f g (in_classes size rs segments header whole bodies found) (in_classes size' rs' segments' header' whole' bodies' found') =
+    one_first_fault (faulty_classes bytes size rs segments) (faulty_classes bytes size' rs' segments') f g found
+    (same_reading (faulty_classes bytes) bytes size size' rs rs' segments segments' header header' whole whole' bodies bodies') found'
+same_read_fault bytes f g (in_classes size rs segments header whole bodies found) (in_objects size' rs' segments' header' whole' bodies' none found') =
+    absurd (some_first (faulty_classes bytes size rs segments) (faulty_classes bytes size' rs' segments') f found
+    (same_reading (faulty_classes bytes) bytes size size' rs rs' segments segments' header header' whole whole' bodies bodies') none)
+same_read_fault bytes f g (in_objects size rs segments header whole bodies none found) (in_records k) = absurd (no_records_fault bytes size rs g header whole k)
+same_read_fault bytes f g (in_objects size rs segments header whole bodies none found) (in_sub_records size' rs' header' whole' k) =
+    absurd (whole_segments bytes g size size' rs rs' segments header whole bodies header' whole' k)
+same_read_fault bytes f g (in_objects size rs segments header whole bodies none found) (in_classes size' rs' segments' header' whole' bodies' found') =
+    absurd (some_first (faulty_classes bytes size' rs' segments') (faulty_classes bytes size rs segments) g found'
+    (same_reading (faulty_classes bytes) bytes size' size rs' rs segments' segments header' header whole' whole bodies' bodies) none)
+same_read_fault bytes f g (in_objects size rs segments header whole bodies none found) (in_objects size' rs' segments' header' whole' bodies' none' found') =
+    one_first_fault (faulty_objects bytes size rs segments) (faulty_objects bytes size' rs' segments') f g found
+    (same_reading (faulty_objects bytes) bytes size size' rs rs' segments segments' header header' whole whole' bodies bodies') found'

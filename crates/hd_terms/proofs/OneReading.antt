@@ -1,13 +1,13 @@
 -- A file has one reading: one list of records, one list of sub-records of each segment, one dump.
 use Rattle.std.proofs.Common.{◌≡◌, ◌∙◌, ℕ, ◌*◌, Bool, true, false, ◌==◌, ◌||◌, if◌then◌else◌, List, [], ◌∷◌, ◌++◌, length, subst, sym, ap, refl, append_assoc, arith}
-use Rattle.std.specs.List.{flat_map, concat, filter, AllByRecursion, AllZip}
+use Rattle.std.specs.List.{concat, filter, AllByRecursion, AllZip}
 use Rattle.byteorder.specs.Endian.{big_number}
 use Rattle.hd_terms.specs.declared.IdSize.{IdSize}
 use Rattle.hd_terms.specs.declared.IdSize.TheVariants as sizes
 use Rattle.hd_terms.specs.Records.{id_len, Record, IsFramed, IsRecord, record_text, HasHeader, AreRecords, is_segment}
 use Rattle.hd_terms.specs.declared.RootKind.{RootKind}
 use Rattle.hd_terms.specs.declared.RootKind.TheVariants as roots
-use Rattle.hd_terms.specs.SubRecords.{SubRecord, RootOf, ClassDump, ObjectArray, PrimitiveArray, root_tag, root_more, sub_record_text, AreElements, IsSubRecord, AreSubRecords, AreDumpSubRecords}
+use Rattle.hd_terms.specs.SubRecords.{SubRecord, RootOf, ClassDump, InstanceDump, ObjectArray, PrimitiveArray, root_tag, root_more, sub_record_text, AreElements, IsSubRecord, AreSubRecords, AreDumpSubRecords}
 use Rattle.hd_terms.specs.Types.{element_len}
 use Rattle.hd_terms.specs.Objects.{dump_of, IsDumpOf}
 use Rattle.hd_terms.specs.Dump.{Dump}
@@ -84,7 +84,7 @@ same_kind a b same = sym (kind_of_its_tag a) ∙ ap kind_of same ∙ kind_of_its
 
 -- no root has the tag of an object's sub-record
 is_object_tag : ℕ → Bool
-is_object_tag tag = (tag == 0x20) || (tag == 0x22) || (tag == 0x23)
+is_object_tag tag = (tag == 0x20) || (tag == 0x21) || (tag == 0x22) || (tag == 0x23)
 
 root_is_no_object : (kind : RootKind) → is_object_tag (root_tag kind) ≡ false
 unfolding is_object_tag
@@ -98,9 +98,9 @@ root_is_no_object roots.ThreadBlock = refl
 root_is_no_object roots.MonitorUsed = refl
 root_is_no_object roots.Thread = refl
 
-object_tags : (is_object_tag 0x20 ≡ true) × (is_object_tag 0x22 ≡ true) × (is_object_tag 0x23 ≡ true)
+object_tags : (is_object_tag 0x20 ≡ true) × (is_object_tag 0x21 ≡ true) × (is_object_tag 0x22 ≡ true) × (is_object_tag 0x23 ≡ true)
 unfolding is_object_tag
-object_tags = (refl, refl, refl)
+object_tags = (refl, refl, refl, refl)
 
 true_not_false : (b : Bool) → b ≡ true → b ≡ false → ⊥
 true_not_false b holds fails = cc
@@ -108,11 +108,14 @@ true_not_false b holds fails = cc
 pub root_or_class : (kind : RootKind) → root_tag kind ≡ 0x20 → ⊥
 root_or_class kind same = true_not_false (is_object_tag (root_tag kind)) (ap is_object_tag same ∙ object_tags.0) (root_is_no_object kind)
 
+pub root_or_instance : (kind : RootKind) → root_tag kind ≡ 0x21 → ⊥
+root_or_instance kind same = true_not_false (is_object_tag (root_tag kind)) (ap is_object_tag same ∙ object_tags.1) (root_is_no_object kind)
+
 pub root_or_array : (kind : RootKind) → root_tag kind ≡ 0x22 → ⊥
-root_or_array kind same = true_not_false (is_object_tag (root_tag kind)) (ap is_object_tag same ∙ object_tags.1) (root_is_no_object kind)
+root_or_array kind same = true_not_false (is_object_tag (root_tag kind)) (ap is_object_tag same ∙ object_tags.2) (root_is_no_object kind)
 
 pub root_or_primitive : (kind : RootKind) → root_tag kind ≡ 0x23 → ⊥
-root_or_primitive kind same = true_not_false (is_object_tag (root_tag kind)) (ap is_object_tag same ∙ object_tags.2) (root_is_no_object kind)
+root_or_primitive kind same = true_not_false (is_object_tag (root_tag kind)) (ap is_object_tag same ∙ object_tags.3) (root_is_no_object kind)
 
 -- ROOTs of the same fields are one
 same_root : (kind kind' : RootKind) (id id' more more' : List ℕ) → kind ≡ kind' → id ≡ id' → more ≡ more' → RootOf kind id more ≡ RootOf kind' id' more'
@@ -126,6 +129,21 @@ roots_apart size kind kind' id id' more more' x y tag e li lm lm' =
     let a = same_front id id' (more ++ x) (more' ++ y) li (sym (append_assoc id more x) ∙ e ∙ append_assoc id' more' y) in
     let b = same_front more more' x y (lm ∙ ap (root_more size) kinds ∙ sym lm') a.1 in
     (same_root kind kind' id id' more more' kinds a.0 b.0, b.1)
+
+-- INSTANCE DUMPs of the same fields are one
+same_instance : (id id' serial serial' class class' count count' values values' : List ℕ) → id ≡ id' → serial ≡ serial' → class ≡ class' → count ≡ count' → values ≡ values' → InstanceDump id serial class count values ≡ InstanceDump id' serial' class' count' values'
+same_instance id id' serial serial' class class' count count' values values' a b c d e = cc
+
+-- INSTANCE DUMPs
+instances_apart : (id id' serial serial' class class' count count' values values' x y : List ℕ) → (id ++ serial ++ class ++ count ++ values) ++ x ≡ (id' ++ serial' ++ class' ++ count' ++ values') ++ y → length id ≡ length id' → length serial ≡ length serial' → length class ≡ length class' → length count ≡ length count' → length values ≡ big_number 4 count → length values' ≡ big_number 4 count' → (InstanceDump id serial class count values ≡ InstanceDump id' serial' class' count' values') × (x ≡ y)
+instances_apart id id' serial serial' class class' count count' values values' x y e li ls lk lc lv lv' =
+    let a = same_front id id' (serial ++ (class ++ (count ++ (values ++ x)))) (serial' ++ (class' ++ (count' ++ (values' ++ y)))) li
+    (sym (five id serial class count values x) ∙ e ∙ five id' serial' class' count' values' y) in
+    let b = same_front serial serial' (class ++ (count ++ (values ++ x))) (class' ++ (count' ++ (values' ++ y))) ls a.1 in
+    let c = same_front class class' (count ++ (values ++ x)) (count' ++ (values' ++ y)) lk b.1 in
+    let d = same_front count count' (values ++ x) (values' ++ y) lc c.1 in
+    let f = same_front values values' x y (lv ∙ ap (big_number 4) d.0 ∙ sym lv') d.1 in
+    (same_instance id id' serial serial' class class' count count' values values' a.0 b.0 c.0 d.0 f.0, f.1)
 
 -- OBJECT ARRAY DUMPs of the same fields are one
 same_array : (id id' serial serial' count count' class class' : List ℕ) (elements elements' : List (List ℕ)) → id ≡ id' → serial ≡ serial' → count ≡ count' → class ≡ class' → elements ≡ elements' → ObjectArray id serial count class elements ≡ ObjectArray id' serial' count' class' elements'
@@ -181,26 +199,46 @@ class_or_array xs ys e = cc
 class_or_primitive : (xs ys : List ℕ) → 0x20 ∷ xs ≡ 0x23 ∷ ys → ⊥
 class_or_primitive xs ys e = cc
 
+class_or_instance : (xs ys : List ℕ) → 0x20 ∷ xs ≡ 0x21 ∷ ys → ⊥
+class_or_instance xs ys e = cc
+
+instance_or_array : (xs ys : List ℕ) → 0x21 ∷ xs ≡ 0x22 ∷ ys → ⊥
+instance_or_array xs ys e = cc
+
+instance_or_primitive : (xs ys : List ℕ) → 0x21 ∷ xs ≡ 0x23 ∷ ys → ⊥
+instance_or_primitive xs ys e = cc
+
 -- no sub-record's text begins another's
 pub sub_records_apart : (size : IdSize) (s t : SubRecord) (x y : List ℕ) → sub_record_text s ++ x ≡ sub_record_text t ++ y → IsSubRecord size s → IsSubRecord size t → (s ≡ t) × (x ≡ y)
 sub_records_apart size (RootOf kind id more) (RootOf kind' id' more') x y e is it =
     roots_apart size kind kind' id id' more more' x y (same_tag _ _ _ _ e) (behind_tag _ _ _ _ e) (is.0 ∙ sym it.0) is.1 it.1
 sub_records_apart size (RootOf kind id more) (ClassDump head constants statics fields) x y e is it = absurd (root_or_class kind (same_tag _ _ _ _ e))
+sub_records_apart size (RootOf kind id more) (InstanceDump id' serial class count values) x y e is it = absurd (root_or_instance kind (same_tag _ _ _ _ e))
 sub_records_apart size (RootOf kind id more) (ObjectArray id' serial count class elements) x y e is it = absurd (root_or_array kind (same_tag _ _ _ _ e))
 sub_records_apart size (RootOf kind id more) (PrimitiveArray id' serial count element elements) x y e is it = absurd (root_or_primitive kind (same_tag _ _ _ _ e))
 sub_records_apart size (ClassDump head constants statics fields) (RootOf kind id more) x y e is it = absurd (root_or_class kind (sym (same_tag _ _ _ _ e)))
 sub_records_apart size (ClassDump head constants statics fields) (ClassDump head' constants' statics' fields') x y e is it =
     classes_apart size head head' constants constants' statics statics' fields fields' x y (behind_tag _ _ _ _ e) is.0 it.0 is.1 it.1 is.2 it.2 is.3 it.3
+sub_records_apart size (ClassDump head constants statics fields) (InstanceDump id serial class count values) x y e is it = absurd (class_or_instance _ _ e)
 sub_records_apart size (ClassDump head constants statics fields) (ObjectArray id serial count class elements) x y e is it = absurd (class_or_array _ _ e)
 sub_records_apart size (ClassDump head constants statics fields) (PrimitiveArray id serial count element elements) x y e is it = absurd (class_or_primitive _ _ e)
+sub_records_apart size (InstanceDump id serial class count values) (RootOf kind id' more) x y e is it = absurd (root_or_instance kind (sym (same_tag _ _ _ _ e)))
+sub_records_apart size (InstanceDump id serial class count values) (ClassDump head constants statics fields) x y e is it = absurd (class_or_instance _ _ (sym e))
+sub_records_apart size (InstanceDump id serial class count values) (InstanceDump id' serial' class' count' values') x y e is it =
+    instances_apart id id' serial serial' class class' count count' values values' x y (behind_tag _ _ _ _ e)
+    (is.0 ∙ sym it.0) (is.1 ∙ sym it.1) (is.2 ∙ sym it.2) (is.3 ∙ sym it.3) is.4 it.4
+sub_records_apart size (InstanceDump id serial class count values) (ObjectArray id' serial' count' class' elements) x y e is it = absurd (instance_or_array _ _ e)
+sub_records_apart size (InstanceDump id serial class count values) (PrimitiveArray id' serial' count' element elements) x y e is it = absurd (instance_or_primitive _ _ e)
 sub_records_apart size (ObjectArray id serial count class elements) (RootOf kind id' more) x y e is it = absurd (root_or_array kind (sym (same_tag _ _ _ _ e)))
 sub_records_apart size (ObjectArray id serial count class elements) (ClassDump head constants statics fields) x y e is it = absurd (class_or_array _ _ (sym e))
+sub_records_apart size (ObjectArray id serial count class elements) (InstanceDump id' serial' class' count' values) x y e is it = absurd (instance_or_array _ _ (sym e))
 sub_records_apart size (ObjectArray id serial count class elements) (ObjectArray id' serial' count' class' elements') x y e is it =
     arrays_apart (id_len size) id id' serial serial' count count' class class' elements elements' x y (behind_tag _ _ _ _ e)
     (is.0 ∙ sym it.0) (is.1 ∙ sym it.1) (is.2 ∙ sym it.2) (is.3 ∙ sym it.3) is.4 it.4
 sub_records_apart size (ObjectArray id serial count class elements) (PrimitiveArray id' serial' count' element elements') x y e is it = absurd (tags_differ _ _ e)
 sub_records_apart size (PrimitiveArray id serial count element elements) (RootOf kind id' more) x y e is it = absurd (root_or_primitive kind (sym (same_tag _ _ _ _ e)))
 sub_records_apart size (PrimitiveArray id serial count element elements) (ClassDump head constants statics fields) x y e is it = absurd (class_or_primitive _ _ (sym e))
+sub_records_apart size (PrimitiveArray id serial count element elements) (InstanceDump id' serial' class count' values) x y e is it = absurd (instance_or_primitive _ _ (sym e))
 sub_records_apart size (PrimitiveArray id serial count element elements) (ObjectArray id' serial' count' class elements') x y e is it = absurd (tags_differ _ _ (sym e))
 sub_records_apart size (PrimitiveArray id serial count element elements) (PrimitiveArray id' serial' count' element' elements') x y e is it =
     primitives_apart id id' serial serial' count count' element element' elements elements' x y (behind_tag _ _ _ _ e)
@@ -210,6 +248,7 @@ sub_records_apart size (PrimitiveArray id serial count element elements) (Primit
 pub no_sub_record : (size : IdSize) → IsEnd SubRecord sub_record_text (IsSubRecord size) (sub_records_apart size) []
 no_sub_record size (RootOf kind id more) z is e = cc
 no_sub_record size (ClassDump head constants statics fields) z is e = cc
+no_sub_record size (InstanceDump id serial class count values) z is e = cc
 no_sub_record size (ObjectArray id serial count class elements) z is e = cc
 no_sub_record size (PrimitiveArray id serial count element elements) z is e = cc
 
@@ -255,14 +294,18 @@ same_bodies a b rs ss us vs size records hu hv =
     let at_records : AreDumpSubRecords a rs vs = subst (λ (xs : List Record). AreDumpSubRecords a xs vs) (sym records) at_size in
     same_segments a (filter is_segment rs) us vs hu at_records
 
+-- whatever is made of what a file is read as, two readings make one of it
+pub same_reading : {X : Type 0} (made : IdSize → List Record → List (List SubRecord) → X) (bytes : List ℕ) (a b : IdSize) (rs ss : List Record) (us vs : List (List SubRecord)) → HasHeader a bytes → HasHeader b bytes
+    → AreRecords a bytes rs → AreRecords b bytes ss → AreDumpSubRecords a rs us → AreDumpSubRecords b ss vs → made a rs us ≡ made b ss vs
+same_reading made bytes a b rs ss us vs ha hb hr hs hu hv =
+    let size : a ≡ b = same_size a b bytes ha hb in
+    let records : rs ≡ ss = same_file a b bytes rs ss size hr hs in
+    let segments : us ≡ vs = same_bodies a b rs ss us vs size records hu hv in
+    ap (λ (x : IdSize). made x rs us) size ∙ ap (λ (xs : List Record). made b xs us) records ∙ ap (made b ss) segments
+
 -- a file has one dump
 pub same_dump : (bytes : List ℕ) (a b : Dump) → IsDumpOf bytes a → IsDumpOf bytes b → a ≡ b
 same_dump bytes a b ha hb =
-    let size : ha.size ≡ hb.size = same_size ha.size hb.size bytes ha.reads.header hb.reads.header in
-    let records : ha.records ≡ hb.records = same_file ha.size hb.size bytes ha.records hb.records size ha.reads.whole hb.reads.whole in
-    let segments : ha.segments ≡ hb.segments = same_bodies ha.size hb.size ha.records hb.records ha.segments hb.segments size records ha.reads.bodies hb.reads.bodies in
     ha.is
-    ∙ ap (λ (x : IdSize). dump_of x ha.records (flat_map (λ (ss : List SubRecord). ss) ha.segments)) size
-    ∙ ap (λ (rs : List Record). dump_of hb.size rs (flat_map (λ (ss : List SubRecord). ss) ha.segments)) records
-    ∙ ap (λ (xs : List (List SubRecord)). dump_of hb.size hb.records (flat_map (λ (ss : List SubRecord). ss) xs)) segments
+    ∙ same_reading (dump_of bytes) bytes ha.size hb.size ha.records hb.records ha.segments hb.segments ha.reads.header hb.reads.header ha.reads.whole hb.reads.whole ha.reads.bodies hb.reads.bodies
     ∙ sym hb.is

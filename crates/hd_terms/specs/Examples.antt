@@ -1,7 +1,8 @@
 -- The worked examples of docs/DEFINITIONS.md as data: files, dumps, logs and lines. What the definitions say of them is
 -- proved in `examples`.
 -- Source: this project.
-use Rattle.std.specs.Prelude.{ℕ, ◌+◌, ◌*◌, List, [], ◌∷◌, ◌++◌, length, drop, replicate, Some, None}
+use Rattle.std.specs.Prelude.{ℕ, ◌+◌, ◌*◌, ◌/◌, ◌%◌, List, [], ◌∷◌, ◌++◌, length, drop, replicate, codes, Some, None}
+use Rattle.std.specs.List.{flat_map}
 use Rattle.hd_terms.specs.declared.Slot.{Slot}
 use Rattle.hd_terms.specs.declared.Slot.TheVariants as slots
 use Rattle.hd_terms.specs.declared.EdgeKind.{EdgeKind}
@@ -81,17 +82,24 @@ repeated_id_file =
 abbrev pub two_mistakes_file : List ℕ
 two_mistakes_file = head_of 4 ++ segment_head 1 ++ 0x09 ∷ 0x00 ∷ 0x00 ∷ 0x00 ∷ []
 
--- a UTF8 record of one byte of text
-abbrev pub text_record : ℕ → ℕ → List ℕ
-text_record id byte = 0x01 ∷ four 0 ++ four 5 ++ four id ++ byte ∷ []
+-- a number below 65536 in four bytes, and in eight
+abbrev pub narrow : ℕ → List ℕ
+narrow n = 0x00 ∷ 0x00 ∷ n / 256 ∷ n % 256 ∷ []
+
+abbrev pub wide : ℕ → List ℕ
+wide n = four 0 ++ narrow n
+
+-- a UTF8 record
+abbrev pub text_record : ℕ → List ℕ → List ℕ
+text_record id text = 0x01 ∷ four 0 ++ four (4 + length text) ++ narrow id ++ text
 
 -- a LOAD CLASS record
 abbrev pub load_record : ℕ → ℕ → List ℕ
-load_record class name = 0x02 ∷ four 0 ++ four 16 ++ four 1 ++ four class ++ four 0 ++ four name
+load_record class name = 0x02 ∷ four 0 ++ four 16 ++ four 1 ++ narrow class ++ four 0 ++ narrow name
 
 -- two texts of one ID, and a class that is loaded twice
 abbrev pub repeated_strings_and_loads_file : List ℕ
-repeated_strings_and_loads_file = head_of 4 ++ text_record 0xc1 0x41 ++ text_record 0xc1 0x42 ++ load_record 0x11 0xc1 ++ load_record 0x11 0xc1
+repeated_strings_and_loads_file = head_of 4 ++ text_record 0xc1 (0x41 ∷ []) ++ text_record 0xc1 (0x42 ∷ []) ++ load_record 0x11 0xc1 ++ load_record 0x11 0xc1
 
 -- a UTF8 record of three bytes, fewer than an ID has
 abbrev pub short_record_file : List ℕ
@@ -176,6 +184,117 @@ unknown_static_file = head_of 4 ++ segment_head 62 ++ class_front ++ class_const
 abbrev pub unknown_field_file : List ℕ
 unknown_field_file = head_of 4 ++ segment_head 73 ++ class_front ++ class_constants ++ class_statics ++ two 1 ++ name 3 ++ 0x0c ∷ []
 
+-- a HEAP DUMP SEGMENT whose body has less than 65536 bytes
+abbrev pub segment_of : List ℕ → List ℕ
+segment_of body = 0x1c ∷ four 0 ++ narrow (length body) ++ body
+
+-- sub-records by the way in which IDs are spelled. Of a class its super class, and the names and types of the fields that it
+-- declares; of an instance its class and its values; of an object array its class and its elements
+abbrev pub root_of : (ℕ → List ℕ) → ℕ → List ℕ
+root_of spell id = 0xff ∷ spell id
+
+abbrev pub class_of : (ℕ → List ℕ) → ℕ → ℕ → List (ℕ × ℕ) → List ℕ
+class_of spell id super fields =
+    0x20 ∷ spell id ++ four 0 ++ spell super ++ spell 0 ++ spell 0 ++ spell 0 ++ spell 0 ++ spell 0 ++ four 4
+    ++ two 0 ++ two 0 ++ two (length fields) ++ flat_map (λ (f : ℕ × ℕ). spell f.0 ++ f.1 ∷ []) fields
+
+abbrev pub instance_of : (ℕ → List ℕ) → ℕ → ℕ → List ℕ → List ℕ
+instance_of spell id class values = 0x21 ∷ spell id ++ four 0 ++ spell class ++ four (length values) ++ values
+
+abbrev pub array_of : (ℕ → List ℕ) → ℕ → ℕ → List ℕ → List ℕ
+array_of spell id class elements = 0x22 ∷ spell id ++ four 0 ++ four (length elements) ++ spell class ++ flat_map spell elements
+
+-- a class that is its own super class
+abbrev pub cycle_file : List ℕ
+cycle_file = head_of 4 ++ segment_of (class_of narrow 0x11 0x11 [])
+
+-- a class above which there is a cycle of two
+abbrev pub cycle_above_file : List ℕ
+cycle_above_file = head_of 4 ++ segment_of (class_of narrow 1 2 [] ++ class_of narrow 2 3 [] ++ class_of narrow 3 2 [])
+
+-- a class above which there is one that isn't there
+abbrev pub absent_super_file : List ℕ
+absent_super_file = head_of 4 ++ segment_of (class_of narrow 1 2 [] ++ class_of narrow 2 9 [])
+
+-- a class with ID 0, and behind it one that is its own super class
+abbrev pub null_class_before_a_cycle_file : List ℕ
+null_class_before_a_cycle_file = head_of 4 ++ segment_of (class_of narrow 0 5 [] ++ class_of narrow 5 5 [])
+
+-- a class with ID 0 alone
+abbrev pub null_class_file : List ℕ
+null_class_file = head_of 4 ++ segment_of (class_of narrow 0 5 [])
+
+-- an instance with one byte of values, and its class, which declares no fields
+abbrev pub misfit_file : List ℕ
+misfit_file = head_of 4 ++ segment_of (instance_of narrow 0x20 0x11 (0x00 ∷ []) ++ class_of narrow 0x11 0 [])
+
+-- the same, and then a byte that is no tag
+abbrev pub misfit_before_unknown_file : List ℕ
+misfit_before_unknown_file = head_of 4 ++ segment_of (instance_of narrow 0x20 0x11 (0x00 ∷ []) ++ class_of narrow 0x11 0 [] ++ 0x09 ∷ [])
+
+-- a misfit that repeats the ID of an instance that fits its class
+abbrev pub repeated_misfit_file : List ℕ
+repeated_misfit_file = head_of 4 ++ segment_of (class_of narrow 0x11 0 ((0x107, 2) ∷ []) ++ instance_of narrow 2 0x11 (four 5) ++ instance_of narrow 2 0x11 (0x00 ∷ []))
+
+-- behind an instance and its root, with identifiers of eight bytes: its super class, its class, and two arrays
+abbrev pub behind_instance : List ℕ
+behind_instance =
+    root_of wide 0x20 ++ class_of wide 0x11 0 ((0x107, 2) ∷ []) ++ class_of wide 0x12 0x11 ((0x108, 2) ∷ (0x109, 4) ∷ [])
+    ++ array_of wide 5 0 [] ++ array_of wide 6 0 []
+
+-- an instance with a reference and a boolean of its class and a reference of its super class
+abbrev pub wide_instance_file : List ℕ
+wide_instance_file = head_of 8 ++ segment_of (instance_of wide 0x20 0x12 (wide 5 ++ 0x01 ∷ wide 6) ++ behind_instance)
+
+-- the same without the last byte of its values
+abbrev pub wide_misfit_file : List ℕ
+wide_misfit_file = head_of 8 ++ segment_of (instance_of wide 0x20 0x12 (wide 5 ++ 0x01 ∷ four 0 ++ 0x00 ∷ 0x00 ∷ 0x00 ∷ []) ++ behind_instance)
+
+-- an object array of a class that isn't there, an instance that is there twice, and one of a class that isn't there
+abbrev pub opaque_and_repeated_file : List ℕ
+opaque_and_repeated_file =
+    head_of 4
+    ++ segment_of (
+    root_of narrow 1
+    ++ array_of narrow 1 0x99 (2 ∷ 3 ∷ [])
+    ++ class_of narrow 0x11 0 []
+    ++ instance_of narrow 2 0x11 []
+    ++ instance_of narrow 2 0x11 []
+    ++ instance_of narrow 3 0x98 (four 5)
+    )
+
+-- the class Reference, whose field has a name, the class WeakReference below it, and the names of both
+abbrev pub reference_names : List ℕ → List ℕ → List ℕ
+reference_names reference weak =
+    text_record 0x101 reference ++ text_record 0x103 weak ++ text_record 0x107 (codes "referent") ++ load_record 0x11 0x101 ++ load_record 0x13 0x103
+
+abbrev pub reference_classes : List ℕ
+reference_classes = class_of narrow 0x11 0 ((0x107, 2) ∷ []) ++ class_of narrow 0x13 0x11 []
+
+-- a weak reference to an array
+abbrev pub weak_reference_file : List ℕ
+weak_reference_file =
+    head_of 4 ++ reference_names (codes "java/lang/ref/Reference") (codes "java/lang/ref/WeakReference")
+    ++ segment_of (reference_classes ++ instance_of narrow 0x21 0x13 (four 5) ++ array_of narrow 5 0 [])
+
+-- the same, with dots in the names of the classes
+abbrev pub dotted_names_file : List ℕ
+dotted_names_file =
+    head_of 4 ++ reference_names (codes "java.lang.ref.Reference") (codes "java.lang.ref.WeakReference")
+    ++ segment_of (reference_classes ++ instance_of narrow 0x21 0x13 (four 5) ++ array_of narrow 5 0 [])
+
+-- the same, where that class is loaded under another name before
+abbrev pub other_name_first_file : List ℕ
+other_name_first_file =
+    head_of 4 ++ load_record 0x13 0x107 ++ reference_names (codes "java/lang/ref/Reference") (codes "java/lang/ref/WeakReference")
+    ++ segment_of (reference_classes ++ instance_of narrow 0x21 0x13 (four 5) ++ array_of narrow 5 0 [])
+
+-- a weak reference of a class below WeakReference that declares another field of the same name
+abbrev pub two_referents_file : List ℕ
+two_referents_file =
+    head_of 4 ++ reference_names (codes "java/lang/ref/Reference") (codes "java/lang/ref/WeakReference")
+    ++ segment_of (reference_classes ++ class_of narrow 0x14 0x13 ((0x107, 2) ∷ []) ++ instance_of narrow 0x22 0x14 (four 6 ++ four 5) ++ array_of narrow 5 0 [] ++ array_of narrow 6 0 [])
+
 -- dumps
 
 -- a slot of kind strong
@@ -204,6 +323,16 @@ class_object id super = record {
   group = groups.Classes;
   bytes = 0;
   slots = strong slots.Super super ∷ strong slots.Loader 0 ∷ strong slots.Signers 0 ∷ strong slots.Domain 0 ∷ [];
+  referent = None;
+}
+
+-- (id of class: slots), with so many bytes of values
+abbrev pub instance : ℕ → ℕ → ℕ → List SlotEntry → Object
+instance id class bytes slots_of_fields = record {
+  id = id;
+  group = groups.Class class;
+  bytes = bytes;
+  slots = slots_of_fields ++ strong slots.OfClass class ∷ [];
   referent = None;
 }
 
@@ -309,6 +438,89 @@ two_arrays = record {
 -- [1: 2]  [2:]
 abbrev pub repeated_id : Dump
 repeated_id = record { objects = array 1 (2 ∷ []) ∷ array 2 [] ∷ []; roots = []; repeated = record { objects = 1; strings = 0; loads = 0 }; opaque = 0 }
+
+-- <1: 2>  <2: 9>
+abbrev pub absent_super : Dump
+absent_super = record { objects = class_object 1 2 ∷ class_object 2 9 ∷ []; roots = []; repeated = none_repeated; opaque = 0 }
+
+-- <11: 0>  (2 of 11: 5)
+abbrev pub repeated_misfit : Dump
+repeated_misfit = record {
+  objects = class_object 0x11 0 ∷ instance 2 0x11 4 (strong (slots.Field 0) 5 ∷ []) ∷ [];
+  roots = [];
+  repeated = record { objects = 1; strings = 0; loads = 0 };
+  opaque = 0;
+}
+
+-- root 20  (20 of 12: 5 6)  <11: 0>  <12: 11>  [5:]  [6:]
+abbrev pub wide_instance : Dump
+wide_instance = record {
+  objects =
+      instance 0x20 0x12 17 (strong (slots.Field 0) 5 ∷ strong (slots.Field 2) 6 ∷ []) ∷ class_object 0x11 0 ∷ class_object 0x12 0x11 ∷ array 5 [] ∷ array 6 [] ∷ [];
+  roots = root 0x20 ∷ [];
+  repeated = none_repeated;
+  opaque = 0;
+}
+
+-- root 1  [1 of 99: 2 3]  <11: 0>  (2 of 11:)  (3 of 98:)
+abbrev pub opaque_and_repeated : Dump
+opaque_and_repeated = record {
+  objects =
+      (record {
+        id = 1;
+        group = groups.Class 0x99;
+        bytes = 8;
+        slots = strong (slots.Element 0) 2 ∷ strong (slots.Element 1) 3 ∷ strong slots.OfClass 0x99 ∷ [];
+        referent = None;
+      })
+      ∷ class_object 0x11 0
+      ∷ instance 2 0x11 0 []
+      ∷ instance 3 0x98 4 []
+      ∷ [];
+  roots = root 1 ∷ [];
+  repeated = record { objects = 1; strings = 0; loads = 0 };
+  opaque = 1;
+}
+
+-- <11: 0>  <13: 11>  (21 of 13: weak 5)  [5:]
+abbrev pub weak_reference : Dump
+weak_reference = record {
+  objects = class_object 0x11 0 ∷ class_object 0x13 0x11 ∷ reference 0x21 0x13 kinds.Weak 5 ∷ array 5 [] ∷ [];
+  roots = [];
+  repeated = none_repeated;
+  opaque = 0;
+}
+
+-- <11: 0>  <13: 11>  (21 of 13: 5)  [5:]
+abbrev pub other_name_first : Dump
+other_name_first = record {
+  objects = class_object 0x11 0 ∷ class_object 0x13 0x11 ∷ reference 0x21 0x13 kinds.Strong 5 ∷ array 5 [] ∷ [];
+  roots = [];
+  repeated = record { objects = 0; strings = 0; loads = 1 };
+  opaque = 0;
+}
+
+-- <11: 0>  <13: 11>  <14: 13>  (22 of 14: 6 weak 5)  [5:]  [6:]
+abbrev pub two_referents : Dump
+two_referents = record {
+  objects =
+      class_object 0x11 0
+      ∷ class_object 0x13 0x11
+      ∷ class_object 0x14 0x13
+      ∷ (record {
+        id = 0x22;
+        group = groups.Class 0x14;
+        bytes = 8;
+        slots = strong (slots.Field 0) 6 ∷ (record { slot = slots.Field 1; kind = kinds.Weak; id = 5 }) ∷ strong slots.OfClass 0x14 ∷ [];
+        referent = Some (slots.Field 1);
+      })
+      ∷ array 5 []
+      ∷ array 6 []
+      ∷ [];
+  roots = [];
+  repeated = none_repeated;
+  opaque = 0;
+}
 
 -- refs  root 1  [1: 21 31]  (21 of 13: weak 5)  (31 of 16: final 5)  [5:]
 abbrev pub weak_and_final_referents : Dump

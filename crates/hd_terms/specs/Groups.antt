@@ -1,5 +1,5 @@
 -- Groups and recorded bytes of objects, each from its sub-record alone.
--- Source: HPROF binary format, OBJECT ARRAY DUMP, PRIMITIVE ARRAY DUMP and CLASS DUMP; what counts as the size of an object is this project's choice.
+-- Source: HPROF binary format, INSTANCE DUMP, OBJECT ARRAY DUMP, PRIMITIVE ARRAY DUMP and CLASS DUMP; what counts as the size of an object is this project's choice.
 use Rattle.std.specs.Prelude.{ℕ, ◌*◌, List, length, sum_by}
 use Rattle.byteorder.specs.Endian.{big_number}
 use Rattle.hd_terms.specs.declared.IdSize.{IdSize}
@@ -8,6 +8,14 @@ use Rattle.hd_terms.specs.declared.Group.TheVariants as groups
 use Rattle.hd_terms.specs.Records.{id_len}
 use Rattle.hd_terms.specs.Types.{element_len}
 use Rattle.hd_terms.specs.SubRecords.{ClassValue}
+
+-- an instance is counted under its class
+abbrev pub instance_group : IdSize → List ℕ → Group
+instance_group size class = groups.Class (big_number (id_len size) class)
+
+-- an instance's recorded bytes: those of its values, as its record counts them
+abbrev pub instance_bytes : List ℕ → ℕ
+instance_bytes count = big_number 4 count
 
 -- an object array is counted under its array class
 abbrev pub array_group : IdSize → List ℕ → Group

@@ -6,6 +6,9 @@ pub mod Settled
 pub mod Records
 pub mod Types
 pub mod SubRecords
+pub mod FirstRecords
+pub mod Classes
+pub mod HeapFaults
 pub mod Dump
 pub mod Groups
 pub mod Slots

@@ -1,16 +1,18 @@
--- The read fault of a file: the first one of the first phase that has any. Phases go records, sub-records, objects.
+-- The read fault of a file: the first one of the first phase that has any. Phases go records, sub-records, classes,
+-- objects.
 -- Source: HPROF binary format for what is a fault; their order and places are this project's choice.
 use Rattle.std.specs.Prelude.{◌≡◌, ◌≢◌, ℕ, ◌+◌, ◌≤◌, ◌<◌, false, List, [], ◌∷◌, ◌++◌, length, take, drop, slice_get, Some}
-use Rattle.std.specs.List.{flat_map, filter, find, AllByRecursion, AllZip}
+use Rattle.std.specs.List.{flat_map, filter, AllByRecursion, AllZip}
 use Rattle.hd_terms.specs.declared.IdSize.{IdSize}
 use Rattle.hd_terms.specs.declared.Span.{Span}
 use Rattle.hd_terms.specs.declared.errors.Cause.{Cause}
 use Rattle.hd_terms.specs.declared.errors.Cause.TheVariants as causes
 use Rattle.hd_terms.specs.declared.errors.ReadFault.{ReadFault}
 use Rattle.hd_terms.specs.Records.{id_len, id_size_of, largest_file, header_len, magic, Record, IsFramed, least_body, IsRecord, record_text, HasHeader, AreRecords, is_segment, segment_spans}
-use Rattle.hd_terms.specs.SubRecords.{SubRecord, ClassHead, ClassValue, ClassField, Counted, IsClassHead, IsClassValue, IsClassField, IsCounted, IsBegun, class_head_text, counted_text, value_text, field_text, Sub, IsSubRecord, sub_record_text, is_known_tag, AreSubRecords, AreDumpSubRecords, dump_subs_at}
+use Rattle.hd_terms.specs.SubRecords.{SubRecord, ClassHead, ClassValue, ClassField, Counted, IsClassHead, IsClassValue, IsClassField, IsCounted, IsBegun, class_head_text, counted_text, value_text, field_text, IsSubRecord, sub_record_text, is_known_tag, AreSubRecords, AreDumpSubRecords, dump_subs_at}
 use Rattle.hd_terms.specs.Types.{is_element_type, is_type}
-use Rattle.hd_terms.specs.Objects.{is_null_object}
+use Rattle.hd_terms.specs.Objects.{classes_of}
+use Rattle.hd_terms.specs.HeapFaults.{class_faults, object_faults}
 
 -- a fault of a cause at a place
 abbrev pub fault : Cause → ℕ → ReadFault
@@ -97,8 +99,14 @@ pub data IsReadFault (bytes : List ℕ) : ReadFault → Type 0 where
   in_records : {f : ReadFault} → IsRecordsFault bytes f → IsReadFault bytes f
   in_sub_records : {f : ReadFault} (size : IdSize) (records : List Record) → HasHeader size bytes → AreRecords size bytes records
       → IsSubRecordsFault size records f → IsReadFault bytes f
-  -- the first object with ID 0
-  in_objects : (size : IdSize) (records : List Record) (segments : List (List SubRecord)) (s : Sub)
+  -- the first class whose chain never ends
+  in_classes : {f : ReadFault} (size : IdSize) (records : List Record) (segments : List (List SubRecord))
       → HasHeader size bytes → AreRecords size bytes records → AreDumpSubRecords size records segments
-      → find is_null_object (dump_subs_at size (segment_spans header_len records) segments) ≡ Some s
-      → IsReadFault bytes (fault causes.NullObject s.offset)
+      → slice_get (class_faults (classes_of bytes size records segments) (dump_subs_at size (segment_spans header_len records) segments)) 0 ≡ Some f
+      → IsReadFault bytes f
+  -- the first object with ID 0 or instance that doesn't fit its class, where no chain never ends
+  in_objects : {f : ReadFault} (size : IdSize) (records : List Record) (segments : List (List SubRecord))
+      → HasHeader size bytes → AreRecords size bytes records → AreDumpSubRecords size records segments
+      → class_faults (classes_of bytes size records segments) (dump_subs_at size (segment_spans header_len records) segments) ≡ []
+      → slice_get (object_faults (classes_of bytes size records segments) size (dump_subs_at size (segment_spans header_len records) segments)) 0 ≡ Some f
+      → IsReadFault bytes f

@@ -5,13 +5,14 @@ use Rattle.std.specs.List.{filter_map}
 use Rattle.byteorder.specs.Endian.{big_number}
 use Rattle.hd_terms.specs.declared.IdSize.{IdSize}
 use Rattle.hd_terms.specs.Records.{id_len}
-use Rattle.hd_terms.specs.SubRecords.{SubRecord, RootOf, ClassDump, ObjectArray, PrimitiveArray}
+use Rattle.hd_terms.specs.SubRecords.{SubRecord, RootOf, ClassDump, InstanceDump, ObjectArray, PrimitiveArray}
 use Rattle.hd_terms.specs.Dump.{Root}
 
 -- the root of a root sub-record
 abbrev pub root_of : IdSize → SubRecord → Option Root
 root_of size (RootOf kind id more) = Some (record { kind = kind; id = big_number (id_len size) id })
 root_of size (ClassDump head constants statics fields) = None
+root_of size (InstanceDump id serial class count values) = None
 root_of size (ObjectArray id serial count class elements) = None
 root_of size (PrimitiveArray id serial count element elements) = None
 

@@ -1,6 +1,5 @@
 -- Sub-records of a segment, one after another.
--- Source: HPROF binary format, HEAP DUMP and HEAP DUMP SEGMENT. So far all sub-records but
--- INSTANCE DUMP (0x21) are read; any other tag is unknown.
+-- Source: HPROF binary format, HEAP DUMP and HEAP DUMP SEGMENT. Any other tag than theirs is unknown.
 use Rattle.std.specs.Prelude.{◌≡◌, ◌<◌, ℕ, ◌+◌, ◌*◌, Bool, true, ◌||◌, ◌==◌, nat_le, ◌&&◌, List, [], ◌∷◌, ◌++◌, length, map}
 use Rattle.std.specs.List.{flat_map, concat, filter, zip, AllZip, AllByRecursion}
 use Rattle.byteorder.specs.Endian.{big_number}
@@ -116,6 +115,8 @@ pub data SubRecord : Type 0 where
   RootOf : (kind : RootKind) → (id more : List ℕ) → SubRecord
   -- CLASS DUMP: its head, constants, statics, and the instance fields that it declares
   ClassDump : (head : ClassHead) → (constants statics : Counted ClassValue) → (fields : Counted ClassField) → SubRecord
+  -- INSTANCE DUMP: ID, u4 stack trace serial, ID of the class, u4 bytes of the values, the values of the instance fields
+  InstanceDump : (id serial class count values : List ℕ) → SubRecord
   -- OBJECT ARRAY DUMP: ID, u4 stack trace serial, u4 count, ID of the array class, the element IDs
   ObjectArray : (id serial count class : List ℕ) → (elements : List (List ℕ)) → SubRecord
   -- PRIMITIVE ARRAY DUMP: ID, u4 stack trace serial, u4 count, u1 type of the elements, the elements
@@ -126,6 +127,7 @@ abbrev pub sub_record_text : SubRecord → List ℕ
 sub_record_text (RootOf kind id more) = root_tag kind ∷ id ++ more
 sub_record_text (ClassDump head constants statics fields) =
     0x20 ∷ class_head_text head ++ counted_text value_text constants ++ counted_text value_text statics ++ counted_text field_text fields
+sub_record_text (InstanceDump id serial class count values) = 0x21 ∷ id ++ serial ++ class ++ count ++ values
 sub_record_text (ObjectArray id serial count class elements) = 0x22 ∷ id ++ serial ++ count ++ class ++ concat elements
 sub_record_text (PrimitiveArray id serial count element elements) = 0x23 ∷ id ++ serial ++ count ++ element ∷ elements
 
@@ -139,6 +141,8 @@ abbrev pub IsSubRecord : IdSize → SubRecord → Type 0
 IsSubRecord size (RootOf kind id more) = (length id ≡ id_len size) × (length more ≡ root_more size kind)
 IsSubRecord size (ClassDump head constants statics fields) =
     IsClassHead size head × IsCounted (IsClassValue size 2) constants × IsCounted (IsClassValue size (id_len size)) statics × IsCounted (IsClassField size) fields
+IsSubRecord size (InstanceDump id serial class count values) =
+    (length id ≡ id_len size) × (length serial ≡ 4) × (length class ≡ id_len size) × (length count ≡ 4) × (length values ≡ big_number 4 count)
 IsSubRecord size (ObjectArray id serial count class elements) =
     (length id ≡ id_len size) × (length serial ≡ 4) × (length count ≡ 4) × (length class ≡ id_len size)
     × AreElements (id_len size) count elements
@@ -153,7 +157,7 @@ pub record AreSubRecords (size : IdSize) (body : List ℕ) (subs : List SubRecor
 
 -- a tag that is read
 abbrev pub is_known_tag : ℕ → Bool
-is_known_tag tag = (tag == 0xff) || (nat_le 0x01 tag && nat_le tag 0x08) || (tag == 0x20) || (tag == 0x22) || (tag == 0x23)
+is_known_tag tag = (tag == 0xff) || (nat_le 0x01 tag && nat_le tag 0x08) || (tag == 0x20) || (tag == 0x21) || (tag == 0x22) || (tag == 0x23)
 
 -- a constant: its type, and where its value lies in the file
 pub record ConstantItem : Type 0 where
@@ -210,11 +214,12 @@ class_item size at head constants statics fields = record {
   fields = map (field_item size) fields.items;
 }
 
--- what a sub-record holds: numbers are what their bytes read as, element IDs a span of the file. Of a primitive array
--- its elements' type and how many there are
+-- what a sub-record holds: numbers are what their bytes read as, values and element IDs a span of the file. Of a primitive
+-- array its elements' type and how many there are
 pub data Item : Type 0 where
   Root : (kind : RootKind) (id : ℕ) → Item
   Class : (class : ClassItem) → Item
+  Instance : (id class : ℕ) (values : Span) → Item
   ObjArray : (id class : ℕ) (elements : Span) → Item
   PrimArray : (id element count : ℕ) → Item
 
@@ -227,6 +232,8 @@ pub record Sub : Type 0 where
 abbrev pub item_at : IdSize → ℕ → SubRecord → Item
 item_at size at (RootOf kind id more) = Root kind (big_number (id_len size) id)
 item_at size at (ClassDump head constants statics fields) = Class (class_item size at head constants statics fields)
+item_at size at (InstanceDump id serial class count values) =
+    Instance (big_number (id_len size) id) (big_number (id_len size) class) (record { start = at + 9 + 2 * id_len size; len = big_number 4 count })
 item_at size at (ObjectArray id serial count class elements) =
     ObjArray (big_number (id_len size) id) (big_number (id_len size) class)
     (record { start = at + 9 + 2 * id_len size; len = id_len size * big_number 4 count })

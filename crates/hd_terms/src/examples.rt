@@ -63,6 +63,26 @@ pub fn class_examples()
     ensures unknown_field { IsReadFault examples.unknown_field_file (fault causes.UnknownType 40) }
 {}
 
+/// What instances are read as, the faults of classes and instances, and which field is a referent.
+pub fn instance_examples()
+    ensures cycle { IsReadFault examples.cycle_file (fault causes.ClassCycle 40) }
+    ensures cycle_above { IsReadFault examples.cycle_above_file (fault causes.ClassCycle 40) }
+    ensures absent_super { IsDumpOf examples.absent_super_file examples.absent_super }
+    ensures null_class_before_a_cycle { IsReadFault examples.null_class_before_a_cycle_file (fault causes.ClassCycle 83) }
+    ensures null_class { IsReadFault examples.null_class_file (fault causes.NullObject 40) }
+    ensures misfit { IsReadFault examples.misfit_file (fault causes.InstanceSize 40) }
+    ensures misfit_before_unknown { IsReadFault examples.misfit_before_unknown_file (fault causes.UnknownSub 101) }
+    ensures repeated_misfit { IsDumpOf examples.repeated_misfit_file examples.repeated_misfit }
+    ensures wide_instance { IsDumpOf examples.wide_instance_file examples.wide_instance }
+    ensures wide_misfit { IsReadFault examples.wide_misfit_file (fault causes.InstanceSize 40) }
+    ensures opaque_and_repeated { IsDumpOf examples.opaque_and_repeated_file examples.opaque_and_repeated }
+    ensures counts { counts_of examples.opaque_and_repeated ≡ record { objects = 4; roots = 1; edges = 3; unresolved = 2; repeated_objects = 1; repeated_strings = 0; repeated_loads = 0; opaque = 1 } }
+    ensures weak_reference { IsDumpOf examples.weak_reference_file examples.weak_reference }
+    ensures dotted_names { IsDumpOf examples.dotted_names_file examples.weak_reference }
+    ensures other_name_first { IsDumpOf examples.other_name_first_file examples.other_name_first }
+    ensures two_referents { IsDumpOf examples.two_referents_file examples.two_referents }
+{}
+
 /// Edges, and the strengths of objects by their numbers, under logs.
 pub fn heap_examples()
     ensures one_edge { edges examples.two_arrays ≡ examples.strong_edge 0 (slots.Element 0) 1 ∷ [] }

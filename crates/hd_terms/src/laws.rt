@@ -1,5 +1,5 @@
 //! Laws over the definitions. Each is the contract of a function with an empty body.
-ghost use Rattle.std.specs.Prelude.{ℕ, List, [], ◌∷◌, ◌++◌, None, Some, ◌≡◌, ◌≢◌};
+ghost use Rattle.std.specs.Prelude.{ℕ, List, [], ◌∷◌, ◌++◌, None, Some, true, ◌≡◌, ◌≢◌};
 ghost use Rattle.hd_terms.specs.declared.IdSize.{IdSize};
 ghost use Rattle.hd_terms.specs.declared.Event.{Event};
 ghost use Rattle.hd_terms.specs.declared.errors.LogFault.{LogFault};
@@ -7,7 +7,8 @@ ghost use Rattle.hd_terms.specs.declared.errors.ReadFault.{ReadFault};
 ghost use Rattle.hd_terms.specs.declared.Strength.{Strength};
 ghost use Rattle.hd_terms.specs.declared.Strength.TheVariants as strengths;
 ghost use Rattle.hd_terms.specs.Records.{Record, AreRecords};
-ghost use Rattle.hd_terms.specs.SubRecords.{SubRecord, AreSubRecords};
+ghost use Rattle.hd_terms.specs.SubRecords.{SubRecord, ClassItem, AreSubRecords};
+ghost use Rattle.hd_terms.specs.Classes.{IsClassChain, NeverEnds, chain_of, never_ends};
 ghost use Rattle.hd_terms.specs.Dump.{Dump};
 ghost use Rattle.hd_terms.specs.Objects.{IsDumpOf};
 ghost use Rattle.hd_terms.specs.ReadFaults.{IsReadFault};
@@ -33,6 +34,14 @@ pub fn one_reading()
     ensures dumps { (bytes : List ℕ) (a b : Dump) → IsDumpOf bytes a → IsDumpOf bytes b → a ≡ b }
     ensures no_fault { (bytes : List ℕ) (dump : Dump) (f : ReadFault) → IsDumpOf bytes dump → IsReadFault bytes f → ⊥ }
     ensures faults { (bytes : List ℕ) (f g : ReadFault) → IsReadFault bytes f → IsReadFault bytes g → f ≡ g }
+{}
+
+/// A class has one chain at most, and `chain_of` finds it; a chain never ends exactly where `never_ends` says so.
+pub fn class_chains()
+    ensures found { (classes : List ClassItem) (id : ℕ) (chain : List ClassItem) → IsClassChain classes id chain → chain_of classes id ≡ Some chain }
+    ensures is_chain { (classes : List ClassItem) (id : ℕ) (chain : List ClassItem) → chain_of classes id ≡ Some chain → IsClassChain classes id chain }
+    ensures cycle { (classes : List ClassItem) (id : ℕ) → NeverEnds classes id → never_ends classes id ≡ true }
+    ensures never_ends { (classes : List ClassItem) (id : ℕ) → never_ends classes id ≡ true → NeverEnds classes id }
 {}
 
 /// A lawful log takes exactly the events that leave it lawful.

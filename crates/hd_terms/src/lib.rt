@@ -18,11 +18,13 @@ ghost use Rattle.hd_terms.specs.Records.{id_len};
 use byteorder::{BigEndian, ByteOrder};
 pub use errors::{Cause, LogFault, NoMemory, ReadFault, Refusal};
 pub use examples::{
-    class_examples, edit_examples, file_examples, heap_examples, line_examples, log_examples,
-    reply_examples,
+    class_examples, edit_examples, file_examples, heap_examples, instance_examples, line_examples,
+    log_examples, reply_examples,
 };
-pub use laws::{lawful_logs, one_reading, one_strength, settled_supports_give_strengths};
-pub use types::{element_len, is_id_type};
+pub use laws::{
+    class_chains, lawful_logs, one_reading, one_strength, settled_supports_give_strengths,
+};
+pub use types::{element_len, is_id_type, value_len};
 
 /// How well an object can be reached, the worst first.
 ///

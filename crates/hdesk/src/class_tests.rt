@@ -1,15 +1,11 @@
 //! Runs over dumps of classes, primitive arrays and roots of all kinds, written out by hand, with the answers that the
 //! formats demand.
-use crate::run::{RunFault, run_bytes};
-use crate::sample::SAMPLE;
-use crate::stat::stat_bytes;
+use crate::run::RunFault;
+use crate::spellings::{self, Dump, Part, dump_fault, dump_of, stats};
 use hd_graph::open_plain;
-use hd_terms::{Cause, Group, ReadFault, RootKind};
+use hd_terms::{Cause, Group, IdSize, RootKind};
 use std::alloc::{AllocError, Global};
 use std::test::Fail;
-
-/// The header of the sample: an ID size of 4 and time 0.
-const HEADER: usize = 31;
 
 /// A class with a constant and two statics, a sticky root on it, three empty object arrays, and two ints in an array.
 const CLASS_AND_INTS: [u8; 146] = [
@@ -21,13 +17,8 @@ const CLASS_AND_INTS: [u8; 146] = [
 ];
 
 /// A file with 4-byte IDs and one segment with this body.
-fn segment_file(alloc: Global, body: &[u8]) -> Result<Vec<u8>, AllocError> {
-    let mut file = Vec::from_slice(alloc, &SAMPLE[..HEADER])?;
-    file.extend_from_slice(&[0x1c, 0, 0, 0, 0, 0, 0])?;
-    let len = body.len().min(65535) as u16;
-    file.extend_from_slice(&len.to_be_bytes())?;
-    file.extend_from_slice(body)?;
-    Ok(file)
+fn segment_file(alloc: Global, body: &[u8]) -> Result<Dump, AllocError> {
+    dump_of(alloc, IdSize::Four, &[Part::Bytes(body)])
 }
 
 /// Whether a session over a segment is answered so.
@@ -38,19 +29,13 @@ fn answers(
     expected: &[u8],
 ) -> Result<bool, AllocError> {
     let file = segment_file(rt.alloc(), body)?;
-    let mut written = Vec::new(rt.alloc());
-    let mut rest = input;
-    let ended = run_bytes(rt, file.as_slice(), 1, &mut rest, &mut written);
-    Ok(ended.is_ok() && written.as_slice() == expected)
+    Ok(spellings::answers(rt, file.as_slice(), input, expected))
 }
 
 /// How opening a segment ends.
 fn opened(rt: &HostRuntime, body: &[u8]) -> Result<Result<(), RunFault>, AllocError> {
     let file = segment_file(rt.alloc(), body)?;
-    let mut written = Vec::new(rt.alloc());
-    let mut rest = b"".as_slice();
-    let ended = run_bytes(rt, file.as_slice(), 1, &mut rest, &mut written);
-    Ok(ended)
+    Ok(spellings::opened(rt, file.as_slice()))
 }
 
 #[test]
@@ -73,12 +58,9 @@ fn class_object_and_primitive_array(rt: HostRuntime) -> Result<(), Fail> {
 #[test]
 fn stat_of_a_class_and_ints(rt: HostRuntime) -> Result<(), Fail> {
     let file = segment_file(rt.alloc(), &CLASS_AND_INTS)?;
-    let mut written = Vec::new(rt.alloc());
-    let ended = stat_bytes(&rt, file.as_slice(), 1, &mut written);
-    assert!(rt; ended.is_ok());
     let expected = "objects 5\nroots 1\nedges 3\nunresolved 0\nrepeated 0 0 0\nopaque 0\n\
         STRONG 4 8\nSOFT 0 0\nWEAK 0 0\nFINAL 0 0\nPHANTOM 0 0\nUNREACHABLE 1 8\n";
-    assert_eq!(rt; written.as_slice(), expected.as_bytes());
+    assert!(rt; stats(&rt, file.as_slice(), expected));
     Ok(())
 }
 
@@ -171,10 +153,7 @@ fn strengths_by_all_kinds_of_roots(rt: HostRuntime) -> Result<(), Fail> {
 
 #[test]
 fn types_that_there_are_not(rt: HostRuntime) -> Result<(), Fail> {
-    let unknown = Err(RunFault::Dump(ReadFault {
-        cause: Cause::UnknownType,
-        offset: 40,
-    }));
+    let unknown = dump_fault(Cause::UnknownType, 40);
     let array = [0x23, 0, 0, 0, 1, 0, 0, 0, 0, 0, 0, 0, 0, 2];
     assert_eq!(rt; opened(&rt, &array)?, unknown);
     let mut class = Vec::from_slice(rt.alloc(), &CLASS_AND_INTS[5..73])?;

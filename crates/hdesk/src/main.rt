@@ -7,6 +7,8 @@ mod class_tests;
 mod command;
 mod edit;
 mod file;
+#[cfg(test)]
+mod instance_tests;
 mod program;
 #[cfg(test)]
 mod program_tests;
@@ -18,6 +20,8 @@ mod serve;
 #[cfg(test)]
 mod session_tests;
 mod slots;
+#[cfg(test)]
+mod spellings;
 mod stat;
 #[cfg(test)]
 mod tests;

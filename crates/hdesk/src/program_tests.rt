@@ -3,6 +3,7 @@ use crate::program::{BAD_DUMP, DONE, FAILED, USAGE, program};
 use crate::run::RunFault;
 use crate::sample::SAMPLE;
 use crate::serve::ServeFault;
+use crate::spellings::stats;
 use crate::stat::stat_bytes;
 use std::alloc::{AllocError, Global};
 use std::fs;
@@ -145,13 +146,6 @@ fn file_too_large(rt: HostRuntime) -> io::Result<()> {
     assert!(rt; ends(&rt, &["run", path], BAD_DUMP, b"", large)?);
     fs::remove_file(&rt, path)?;
     Ok(())
-}
-
-/// Whether `stat` over these bytes writes this.
-fn stats(rt: &HostRuntime, bytes: &[u8], expected: &str) -> bool {
-    let mut written = Vec::new(rt.alloc());
-    let ended = stat_bytes(rt, bytes, 1, &mut written);
-    ended.is_ok() && written.as_slice() == expected.as_bytes()
 }
 
 #[test]

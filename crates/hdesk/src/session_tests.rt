@@ -1,15 +1,13 @@
 //! Sessions with edits and undos, over dumps that are written out by hand, with the answers that the definitions demand.
-use crate::run::{RunFault, run_bytes};
+use crate::run::run_bytes;
 use crate::sample::SAMPLE;
+use crate::spellings::{HEADER, answers};
 use hd_graph::open_plain;
 use hd_state::{Done, State};
 use hd_terms::{EdgeKind, Edit, Event, LogFault, Slot, SlotMode, SlotRow, Strength, What};
 use std::alloc::{AllocError, Global};
 use std::sync::Arc;
 use std::test::Fail;
-
-/// The header of the sample: an ID size of 4 and time 0.
-const HEADER: usize = 31;
 
 /// A dump of one segment: a root on the object with ID 1, and object arrays of these IDs and elements, without a class.
 /// All IDs are below 256.
@@ -26,14 +24,6 @@ fn dump_of(alloc: Global, arrays: &[(u8, &[u8])]) -> Result<Vec<u8>, AllocError>
     file.extend_from_slice(&[0x1c, 0, 0, 0, 0, 0, 0, 0, body.len().min(255) as u8])?;
     file.extend_from_slice(body.as_slice())?;
     Ok(file)
-}
-
-/// Checks that a run over a dump ends well and writes this.
-fn answers(rt: &HostRuntime, dump: &[u8], input: &[u8], expected: &[u8]) -> bool {
-    let mut written = Vec::new(rt.alloc());
-    let mut rest = input;
-    let ended: Result<(), RunFault> = run_bytes(rt, dump, 1, &mut rest, &mut written);
-    ended.is_ok() && written.as_slice() == expected
 }
 
 #[test]

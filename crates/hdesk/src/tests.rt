@@ -3,6 +3,7 @@ use crate::program::{BAD_DUMP, DONE, FAILED, program};
 use crate::run::{RunFault, run_bytes};
 use crate::sample::SAMPLE;
 use crate::serve::ServeFault;
+use crate::spellings::{self, HEADER, dump_fault, run};
 use hd_graph::open_plain;
 use hd_log::Front;
 use hd_strength::{Strengths, from_scratch};
@@ -10,9 +11,6 @@ use hd_terms::{Cause, EdgeKind, ReadFault, RootKind, Slot, Strength, Support};
 use std::alloc::{AllocError, Global};
 use std::io::{self, BufRead, Read, Write};
 use std::test::Fail;
-
-/// The header of the sample: an ID size of 4 and time 0.
-const HEADER: usize = 31;
 
 /// The place of a first sub-record: after the header and the head of one record.
 const FIRST: u64 = 40;
@@ -22,19 +20,6 @@ fn file_of(alloc: Global, records: &[u8]) -> Result<Vec<u8>, AllocError> {
     let mut file = Vec::from_slice(alloc, &SAMPLE[..HEADER])?;
     file.extend_from_slice(records)?;
     Ok(file)
-}
-
-/// What a run over a dump writes, and how it ends.
-fn run(rt: &HostRuntime, dump: &[u8], input: &[u8]) -> (Vec<u8>, Result<(), RunFault>) {
-    let mut written = Vec::new(rt.alloc());
-    let mut rest = input;
-    let ended = run_bytes(rt, dump, 1, &mut rest, &mut written);
-    (written, ended)
-}
-
-/// A dump's fault.
-fn dump_fault(cause: Cause, offset: u64) -> Result<(), RunFault> {
-    Err(RunFault::Dump(ReadFault { cause, offset }))
 }
 
 #[test]
@@ -108,8 +93,7 @@ fn every_prefix(rt: HostRuntime) {
 /// How opening a header and these bytes ends, with nothing to serve.
 fn opened(rt: &HostRuntime, records: &[u8]) -> Result<Result<(), RunFault>, AllocError> {
     let file = file_of(rt.alloc(), records)?;
-    let (_, ended) = run(rt, file.as_slice(), b"");
-    Ok(ended)
+    Ok(spellings::opened(rt, file.as_slice()))
 }
 
 #[test]

@@ -1,4 +1,5 @@
 use Rattle.std.proofs.Common.{◌∙◌, ℕ, ap, sym, arith, length, List, take}
+use Rattle.hd_classes.specs.Known.{known_at}
 use Rattle.hd_graph.specs.Building.{columns}
 use Rattle.hd_graph.proofs.RowLemmas.{fill-next, weight-at, few-shapes}
 use Rattle.hd_graph.proofs.OpenLemmas.{length-le-weight}
@@ -9,12 +10,15 @@ use Rattle.hd_graph.proofs.build.fill_rows.Goals as goal
 pub fill_one-requires-clause-room : goal.fill_one-requires-clause-room
 fill_one-requires-clause-room c =
     let few = weight-at c.args.list.now c.loop-i.i _ c.get.ensures in
-    omega (arith, few, c.loop-i.invariant.few, c.requires.within.few, c.requires.few, ap (λ (xs : List ℕ). length xs) (c.loop-i.invariant.ids_are ∙ sym c.requires.ids))
+    omega (arith, few, c.loop-i.invariant.0.few, c.requires.within.few, c.requires.few, ap (λ (xs : List ℕ). length xs) (c.loop-i.invariant.0.ids_are ∙ sym c.requires.ids))
 
 pub loop-i-preserved : goal.loop-i-preserved
-loop-i-preserved c = fill-next c.args.bytes.now c.args.id_size c.args.list.now c.loop-i.i _ c.get.ensures (columns c.loop-i.references c.loop-i.shapes) (columns c.fill_one.new.references c.fill_one.new.shapes) c.loop-i.invariant c.in_ok-fill_one.ensures
+loop-i-preserved c = (
+  fill-next (known_at c.args.classes.now) c.args.bytes.now c.args.id_size c.args.list.now c.loop-i.i _ c.get.ensures (columns c.loop-i.references c.loop-i.shapes.objects) (columns c.fill_one.new.references c.fill_one.new.shapes.objects) c.loop-i.invariant.0 c.in_ok-fill_one.ensures.filled,
+  rw c.in_ok-fill_one.ensures.kept c.loop-i.invariant.1,
+)
 
 pub fill_one-requires-clause-few : goal.fill_one-requires-clause-few
 fill_one-requires-clause-few c =
-    let few = few-shapes c.args.bytes.now c.args.id_size (take c.loop-i.i c.args.list.now) (object_ids c.args.list.now) (columns c.loop-i.references c.loop-i.shapes) c.loop-i.invariant in
+    let few = few-shapes (known_at c.args.classes.now) c.args.bytes.now c.args.id_size (take c.loop-i.i c.args.list.now) (object_ids c.args.list.now) (columns c.loop-i.references c.loop-i.shapes.objects) c.loop-i.invariant.0 in
     omega (arith, few, length-take c.loop-i.i c.args.list.now, length-le-weight c.args.list.now, c.requires.within.few)

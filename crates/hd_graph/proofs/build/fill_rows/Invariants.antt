@@ -1,9 +1,10 @@
 use Rattle.std.proofs.Common.{take}
+use Rattle.hd_classes.specs.Known.{known_at}
 use Rattle.hd_graph.specs.ArrayRows.{object_ids}
 use Rattle.hd_graph.proofs.RowLemmas.{IsFilledSoFar}
-use Rattle.hd_graph.specs.Building.{columns}
+use Rattle.hd_graph.specs.Building.{columns, AreLayouts}
 use Rattle.hd_graph.proofs.build.fill_rows.Given as goal
 
--- the rows and shapes of the arrays so far
+-- the rows and shapes of the objects so far, over the same layouts
 abbrev pub invariant-loop-i : goal.invariant-loop-i
-invariant-loop-i l = IsFilledSoFar l.bytes l.id_size (take l.i l.list) (object_ids l.list) (columns l.references l.shapes)
+invariant-loop-i l = IsFilledSoFar (known_at l.classes) l.bytes l.id_size (take l.i l.list) (object_ids l.list) (columns l.references l.shapes.objects) × AreLayouts l.id_size l.classes l.shapes.layouts

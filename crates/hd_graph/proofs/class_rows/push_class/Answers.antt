@@ -6,6 +6,7 @@ use Rattle.hd_subs.specs.declared.class.Static.{Static}
 use Rattle.hd_subs.specs.declared.class.Constant.{Constant}
 use Rattle.hd_subs.specs.Views.{static_view, constant_view}
 use Rattle.hd_graph.specs.ArrayRows.{values_of_statics, values_of_constants, value_ids, value_names, static_bytes}
+use Rattle.hd_graph.specs.KeptShapes.{ShapeLists}
 use Rattle.hd_graph.specs.Building.{GrowsBy}
 use Rattle.hd_graph.proofs.ValueLemmas.{length-static-values, length-constant-values}
 use Rattle.hd_graph.proofs.AddedLemmas.{grown-room, class-added}
@@ -45,10 +46,10 @@ push_links-requires c =
       c.requires.room,
     )
 
-pub returns : goal.returns
-returns c =
+pub returns-clause-added : goal.returns-clause-added
+returns-clause-added c =
     class-added c.args.bytes.now c.args.id_size c.args.class.now c.args.references.now c.push_statics.new.references c.push_constants.new.references c.push_links.new.references c.end_row.new.self
-    c.args.shapes.now c.push_class.new.self c.push_statics.new.names.items c.push_constants.new.names.items c.push_links.new.names.items c.bytes_of_statics-bytes.result
+    c.args.shapes.now.objects c.push_class.new.self.objects c.push_statics.new.names.items c.push_constants.new.names.items c.push_links.new.names.items c.bytes_of_statics-bytes.result
     c.requires.filled
     (subst (λ (xs : List Static). GrowsBy (value_ids c.args.bytes.now c.args.id_size (values_of_statics (map static_view xs))) c.args.references.now c.push_statics.new.references) c.as_slice.ensures.value c.in_ok-push_statics.ensures.row)
     (subst (λ (xs : List Constant). GrowsBy (value_ids c.args.bytes.now c.args.id_size (values_of_constants (map constant_view xs))) c.push_statics.new.references c.push_constants.new.references) c.as_slice-2.ensures.value c.in_ok-push_constants.ensures.row)
@@ -58,4 +59,7 @@ returns c =
     (c.in_ok-push_constants.ensures.names ∙ ap (λ (xs : List Constant). c.push_statics.new.names.items ++ value_names (λ i. slots.Const i) 0 (values_of_constants (map constant_view xs))) c.as_slice-2.ensures.value)
     c.in_ok-push_links.ensures.names
     (c.bytes_of_statics-bytes.ensures ∙ ap (λ (xs : List Static). static_bytes (map static_view xs)) c.as_slice-3.ensures.value)
-    c.in_ok-push_class.ensures
+    (ap (λ (s : ShapeLists). s.objects) c.in_ok-push_class.ensures)
+
+pub returns-clause-kept : goal.returns-clause-kept
+returns-clause-kept c = ap (λ (s : ShapeLists). s.layouts) c.in_ok-push_class.ensures

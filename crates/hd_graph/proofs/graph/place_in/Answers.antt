@@ -11,3 +11,9 @@ returns-in-Class c =
     c.place_among.ensures
     ∙ ap (λ (names : List Slot). position (λ (name : Slot). same_slot name c.args.slot) names) c.as_slice.ensures.value
     ∙ ap (λ s. shape_place (shape_view s) c.args.len c.args.slot) (sym c.in-Class.is)
+
+pub returns-in-Instance : goal.returns-in-Instance
+returns-in-Instance c =
+    c.place_among-in-Instance.ensures
+    ∙ ap (λ (names : List Slot). position (λ (name : Slot). same_slot name c.args.slot) names) c.as_slice-in-Instance.ensures.value
+    ∙ ap (λ s. shape_place (shape_view s) c.args.len c.args.slot) (sym c.in-Instance.is)

@@ -106,7 +106,8 @@ returns-clause-class_object_and_primitive_array c = record {
       },
       tt,
     );
-    no_null = refl;
+    classes = refl;
+    objects = refl;
   };
   is = refl;
 }

@@ -5,7 +5,7 @@ use Rattle.hd_terms.specs.declared.IdSize.TheVariants as sizes
 use Rattle.hd_terms.specs.declared.RootKind.TheVariants as roots
 use Rattle.hd_terms.specs.declared.errors.Cause.TheVariants as causes
 use Rattle.hd_terms.specs.Records.{Record, IsFramed, IsRecord, record_text}
-use Rattle.hd_terms.specs.SubRecords.{SubRecord, RootOf, ObjectArray, PrimitiveArray, ObjArray, sub_record_text}
+use Rattle.hd_terms.specs.SubRecords.{SubRecord, RootOf, ObjectArray, PrimitiveArray, sub_record_text}
 use Rattle.hd_terms.specs.ReadFaults.{IsReadFault, fault, no_header, other_text, other_id_size, in_a_record, IsStuckRecord, IsStuck, in_records, in_sub_records, in_objects}
 use Rattle.hd_terms.specs.Examples.{head_of, four}
 use Rattle.hd_terms.specs.Examples as examples
@@ -39,7 +39,8 @@ returns-clause-empty_dump c = record {
     header = record { fits = lit≤ tt; long = lit≤ tt; magic = refl; id_size = refl };
     whole = record { whole = refl; each = tt };
     bodies = tt;
-    no_null = refl;
+    classes = refl;
+    objects = refl;
   };
   is = refl;
 }
@@ -68,7 +69,8 @@ returns-clause-two_arrays c = record {
       },
       tt,
     );
-    no_null = refl;
+    classes = refl;
+    objects = refl;
   };
   is = refl;
 }
@@ -77,10 +79,10 @@ pub returns-clause-null_object : goal.returns-clause-null_object
 returns-clause-null_object c =
     in_objects sizes.Four (segment 17 (0x22 ∷ four 0 ++ four 0 ++ four 0 ++ four 0) ∷ [])
     ((ObjectArray (four 0) (four 0) (four 0) (four 0) [] ∷ []) ∷ [])
-    (record { offset = 40; item = ObjArray 0 0 (record { start = 57; len = 0 }) })
     (record { fits = lit≤ tt; long = lit≤ tt; magic = refl; id_size = refl })
     (record { whole = refl; each = (record { framed = record { time = refl; size = refl; body = refl }; fields = lit≤ tt }, tt) })
     (record { whole = refl; each = ((refl, refl, refl, refl, record { many = refl; each = tt }), tt) }, tt)
+    refl
     refl
 
 pub returns-clause-unknown_sub_record : goal.returns-clause-unknown_sub_record
@@ -224,7 +226,8 @@ returns-clause-repeated_strings_and_loads c = record {
     header = record { fits = lit≤ tt; long = lit≤ tt; magic = refl; id_size = refl };
     whole = record { whole = refl; each = (text_is 0x41, (text_is 0x42, (load_is, (load_is, tt)))) };
     bodies = tt;
-    no_null = refl;
+    classes = refl;
+    objects = refl;
   };
   is = refl;
 }
@@ -250,7 +253,8 @@ returns-clause-skipped_record c = record {
       },
       tt,
     );
-    no_null = refl;
+    classes = refl;
+    objects = refl;
   };
   is = refl;
 }
@@ -282,7 +286,8 @@ returns-clause-repeated_id c = record {
       },
       tt,
     );
-    no_null = refl;
+    classes = refl;
+    objects = refl;
   };
   is = refl;
 }
@@ -380,7 +385,8 @@ returns-clause-root_kinds c = record {
       },
       tt,
     );
-    no_null = refl;
+    classes = refl;
+    objects = refl;
   };
   is = refl;
 }
@@ -398,7 +404,8 @@ returns-clause-primitive_array c = record {
     header = record { fits = lit≤ tt; long = lit≤ tt; magic = refl; id_size = refl };
     whole = record { whole = refl; each = (record { framed = record { time = refl; size = refl; body = refl }; fields = lit≤ tt }, tt) };
     bodies = (record { whole = refl; each = ((refl, refl, refl, refl, refl), tt) }, tt);
-    no_null = refl;
+    classes = refl;
+    objects = refl;
   };
   is = refl;
 }

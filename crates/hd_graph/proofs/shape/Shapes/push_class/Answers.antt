@@ -1,8 +1,11 @@
-use Rattle.std.proofs.Common.{◌∙◌}
+use Rattle.std.proofs.Common.{◌∙◌, List, map, ap}
+use Rattle.hd_graph.specs.Shapes.{ObjectShape}
+use Rattle.hd_graph.specs.KeptShapes.{ShapeLists, layout_view}
 use Rattle.hd_graph.proofs.KeptLemmas.{class-push}
 use Rattle.hd_graph.proofs.shape.Shapes.push_class.Goals as goal
 
 pub returns : goal.returns
 returns c =
     rw (c.in_ok-push.ensures.items, c.push_reserved.ensures.items, c.in_ok-reserve.ensures.items, ← c.self.view_is)
-    (class-push c.self.inside.classes.items c.args.class c.self.inside.kept.items _ c.self.invariant.over (c.len-place.ensures ∙ c.self.inside.classes.ok.0))
+    (ap (λ (ss : List ObjectShape). let s : ShapeLists = record { objects = ss; layouts = map layout_view c.self.inside.layouts.items } in s)
+    (class-push c.self.inside.layouts.items c.self.inside.classes.items c.args.class c.self.inside.kept.items _ c.self.invariant.over (c.len-place.ensures ∙ c.self.inside.classes.ok.0)))

@@ -1,0 +1,7 @@
+use Rattle.std.proofs.Common.{take}
+use Rattle.hd_classes.specs.Sources.{HasFirstTexts}
+use Rattle.hd_classes.proofs.names.first_texts.Given as goal
+
+-- the texts so far
+abbrev pub invariant-loop-text : goal.invariant-loop-text
+invariant-loop-text l = HasFirstTexts (take l.text-index l.text-items) l.texts.entries

@@ -1,0 +1,66 @@
+-- What classes are found out from: the file, and its texts and classes by their IDs.
+use Rattle.std.specs.Prelude.{◌≡◌, ℕ, ◌==◌, List, length, codes, map, slice_get, unwrap_or, if◌then◌else◌, Option, Some, None, All}
+use Rattle.std.specs.Option.{option_map}
+use Rattle.std.specs.List.{filter_map, find}
+use Rattle.std.specs.Map.{lookup}
+use Rattle.std.specs.Str.{bytes_eq}
+use Rattle.hd_terms.specs.declared.Span.{Span}
+use Rattle.hd_terms.specs.declared.Text.{Text}
+use Rattle.hd_terms.specs.declared.Load.{Load}
+use Rattle.hd_terms.specs.declared.EdgeKind.{EdgeKind}
+use Rattle.hd_terms.specs.declared.EdgeKind.TheVariants as kinds
+use Rattle.hd_terms.specs.SubRecords.{Sub}
+use Rattle.hd_terms.specs.Classes.{ClassTable, KnownClass, class_table, slashed, reference_kind, referent_in}
+use Rattle.hd_records.specs.declared.records.Records.{Records}
+use Rattle.hd_classes.specs.declared.source.Source.{Source}
+use Rattle.hd_classes.specs.declared.chains.Walk.{Walk}
+use Rattle.hd_classes.specs.Known.{field_view, IsTextWithin}
+use Rattle.hd_classes.specs.Standing.{HasStanding}
+
+-- the first text of each ID is kept by the ID
+abbrev pub HasFirstTexts : List Text → List (ℕ × Span) → Type 0
+HasFirstTexts texts entries = (id : ℕ) → lookup (λ (x : ℕ). id == x) entries ≡ option_map (λ (x : Text). x.text) (find (λ (x : Text). id == x.id) texts)
+
+-- the name of the first LOAD CLASS of each class is kept by the class's ID
+abbrev pub HasFirstNames : List Load → List (ℕ × ℕ) → Type 0
+HasFirstNames loads entries = (id : ℕ) → lookup (λ (x : ℕ). id == x) entries ≡ option_map (λ (l : Load). l.name) (find (λ (l : Load). id == l.class) loads)
+
+-- the texts, loaded classes and class objects of a file
+abbrev pub table_of : Source → ClassTable
+table_of s = class_table s.bytes.now s.records.now.strings s.records.now.loads s.list.now
+
+-- texts and classes are kept by their IDs, and texts lie within the file
+pub record IsSource (s : Source) : Type 0 where
+  pub texts : HasFirstTexts s.records.now.strings s.texts.entries
+  pub names : HasFirstNames s.records.now.loads s.names.entries
+  pub within : All (IsTextWithin (length s.bytes.now)) s.records.now.strings
+  pub classes : HasStanding s.list.now s.classes.entries
+
+-- and they are those of this file
+pub record IsSourceOf (bytes : List ℕ) (records : Records) (list : List Sub) (s : Source) : Type 0 where
+  pub of_bytes : s.bytes.now ≡ bytes
+  pub of_records : s.records.now ≡ records
+  pub of_list : s.list.now ≡ list
+  pub kept : IsSource s
+
+-- the kind of a class of this name, if it is one of the four
+abbrev pub kind_called : List ℕ → Option EdgeKind
+kind_called name =
+    if bytes_eq (map slashed name) (codes "java/lang/ref/SoftReference") then Some kinds.Soft
+    else if bytes_eq (map slashed name) (codes "java/lang/ref/WeakReference") then Some kinds.Weak
+    else if bytes_eq (map slashed name) (codes "java/lang/ref/FinalReference") then Some kinds.Final
+    else if bytes_eq (map slashed name) (codes "java/lang/ref/PhantomReference") then Some kinds.Phantom
+    else None
+
+-- the kind of a chain, by the IDs of its classes
+abbrev pub kind_among : ClassTable → List ℕ → EdgeKind
+kind_among t chain = unwrap_or (slice_get (filter_map (reference_kind t) chain) 0) kinds.Strong
+
+-- what is known of a class whose chain is walked to its end
+abbrev pub known_of_walk : ClassTable → Walk → KnownClass
+known_of_walk t w = record {
+  chain = w.chain.items;
+  layout = map field_view w.layout.items;
+  referent = referent_in t (map field_view w.layout.items);
+  kind = kind_among t w.chain.items;
+}

@@ -1,0 +1,127 @@
+//! Classes as they are looked up.
+ghost use Rattle.std.specs.Prelude.{◌≡◌, ◌<◌, ◌↔◌, [], length, map, None, Some, MatchOption, IsTrue};
+ghost use Rattle.hd_classes.specs.Known.{name_at, number_of, known_by_number, chain_at, layout_at, referent_at, kind_at, field_view, known_view};
+ghost use Rattle.hd_classes.specs.Building.{rows_view};
+
+use crate::known::{KnownClass, LayoutField};
+use hd_terms::{EdgeKind, Span};
+use indexmap::IndexMap;
+use std::marker::Model;
+
+/// The names of classes, and the classes whose chains are whole, numbered from 0.
+#[derive(Drop)]
+pub struct Classes {
+    /// Where the first text of each ID lies.
+    texts: IndexMap<u64, Span>,
+    /// The ID of the text that is a class's name, by the class's ID.
+    names: IndexMap<u64, u64>,
+    known: IndexMap<u64, KnownClass>,
+}
+
+impl Model for Classes {
+    ghost use Rattle.hd_classes.specs.Known.{Known};
+
+    ghost Value = { Known };
+
+    ghost use Rattle.hd_classes.specs.Inside.{known_of};
+
+    ghost view = { known_of };
+}
+
+impl Classes {
+    /// Classes of which this is known.
+    pub(crate) fn new(
+        texts: IndexMap<u64, Span>,
+        names: IndexMap<u64, u64>,
+        known: IndexMap<u64, KnownClass>,
+    ) -> Classes
+        ensures { result ≡ record { texts = texts.entries; names = names.entries; classes = rows_view known.entries } }
+    {
+        Classes {
+            texts,
+            names,
+            known,
+        }
+    }
+
+    /// How many classes have a whole chain.
+    pub fn len(&self) -> usize
+        ensures { result ≡ length self.now.classes }
+    {
+        self.known.len()
+    }
+
+    /// Whether there is none.
+    pub fn is_empty(&self) -> bool
+        ensures { IsTrue result ↔ (self.now.classes ≡ []) }
+    {
+        self.known.is_empty()
+    }
+
+    /// The number of the class of an ID, if its chain is whole.
+    pub fn index_of(&self, id: u64) -> Option<usize>
+        ensures { result ≡ number_of self.now id }
+    {
+        self.known.get_index_of(&id)
+    }
+
+    /// What is known of the class of a number.
+    pub fn get(&self, i: usize) -> &KnownClass
+        requires { i < length self.now.classes }
+        ensures { known_by_number self.now i ≡ Some (known_view result.now) }
+    {
+        &self.known[i]
+    }
+
+    /// The IDs of a class's chain, its own first, if the chain is whole.
+    pub fn chain(&self, id: u64) -> Option<&[u64]>
+        ensures { MatchOption result (chain_at self.now id ≡ None) (λ chain. chain_at self.now id ≡ Some chain.now) }
+    {
+        match self.known.get(&id) {
+            Some(class) => Some(class.chain.as_slice()),
+            None => None,
+        }
+    }
+
+    /// The instance fields of a class's chain, its own first, if the chain is whole.
+    pub fn layout(&self, id: u64) -> Option<&[LayoutField]>
+        ensures { MatchOption result (layout_at self.now id ≡ None) (λ layout. layout_at self.now id ≡ Some (map field_view layout.now)) }
+    {
+        match self.known.get(&id) {
+            Some(class) => Some(class.layout.as_slice()),
+            None => None,
+        }
+    }
+
+    /// The number of the referent field in a class's layout, if it has one.
+    pub fn referent(&self, id: u64) -> Option<u32>
+        ensures { result ≡ referent_at self.now id }
+    {
+        match self.known.get(&id) {
+            Some(class) => class.referent,
+            None => None,
+        }
+    }
+
+    /// The kind of the reference in a class's referent field: that of the first class of its chain that is one of the four,
+    /// strong where none is.
+    pub fn kind_of(&self, id: u64) -> EdgeKind
+        ensures { result ≡ kind_at self.now id }
+    {
+        match self.known.get(&id) {
+            Some(class) => class.kind,
+            None => EdgeKind::Strong,
+        }
+    }
+
+    /// Where the name of the class of an ID lies in the file, if it has one.
+    pub fn name(&self, id: u64) -> Option<Span>
+        ensures { result ≡ name_at self.now id }
+    {
+        let name = self.names.get(&id)?;
+        match self.texts.get(name) {
+            Some(text) => Some(*text),
+            None => None,
+        }
+    }
+}

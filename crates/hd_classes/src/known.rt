@@ -1,0 +1,26 @@
+//! What is known of a class whose chain is whole.
+use hd_terms::EdgeKind;
+
+/// An instance field in a layout.
+#[derive(Clone, Copy, Debug, PartialEq, Eq)]
+pub struct LayoutField {
+    /// The ID of the class that declares it.
+    pub owner: u64,
+    /// The ID of the text that is its name.
+    pub name: u64,
+    /// Its type, as HPROF numbers the basic types: 1 or 2 for an ID, or 4 to 11.
+    pub code: u8,
+}
+
+/// A class whose chain goes up to a class without a super class.
+#[derive(Debug, Drop)]
+pub struct KnownClass {
+    /// The IDs of the classes of its chain: its own, its super class's, and so on.
+    pub chain: Vec<u64>,
+    /// The instance fields of these classes, its own before its super class's.
+    pub layout: Vec<LayoutField>,
+    /// The number of the referent field in the layout, if it has one.
+    pub referent: Option<u32>,
+    /// The kind of the reference in that field.
+    pub kind: EdgeKind,
+}

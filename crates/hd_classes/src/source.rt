@@ -1,0 +1,90 @@
+//! What classes are found out from.
+ghost use Rattle.std.specs.Prelude.{◌≡◌, length, map, All, IfOk};
+ghost use Rattle.std.specs.Option.{option_map, option_copied};
+ghost use Rattle.hd_terms.specs.Classes.{class_at, text_of_id, name_of, bytes_of_span};
+ghost use Rattle.hd_subs.specs.Views.{class_view};
+ghost use Rattle.hd_classes.specs.Known.{IsTextWithin};
+ghost use Rattle.hd_classes.specs.Sources.{IsSourceOf, IsSource, table_of};
+
+use crate::names::{bytes_of, first_names, first_texts};
+use crate::standing::{Standing, standing_classes};
+use hd_records::Records;
+use hd_subs::{ClassDump, Subs};
+use hd_terms::Span;
+use indexmap::IndexMap;
+use std::alloc::{AllocError, Global};
+
+/// A file with its records and sub-records, and its texts and classes by their IDs.
+#[derive(Drop)]
+pub(crate) struct Source<'a> {
+    pub(crate) bytes: &'a [u8],
+    pub(crate) records: &'a Records,
+    pub(crate) list: &'a Subs,
+    /// Where the first text of each ID lies.
+    pub(crate) texts: IndexMap<u64, Span>,
+    /// The ID of the text that is a class's name, by the class's ID.
+    pub(crate) names: IndexMap<u64, u64>,
+    /// The classes that stand, in file order.
+    pub(crate) classes: IndexMap<u64, Standing<'a>>,
+}
+
+/// What the classes of a file are found out from.
+pub(crate) fn source_of<'a>(
+    alloc: Global,
+    bytes: &'a [u8],
+    records: &'a Records,
+    list: &'a Subs,
+) -> Result<Source<'a>, AllocError>
+    requires { All (IsTextWithin (length bytes.now)) records.now.strings }
+    ensures { IfOk result (λ s. IsSourceOf bytes.now records.now list.now s) }
+{
+    let texts = first_texts(alloc, &records.strings)?;
+    let names = first_names(alloc, &records.loads)?;
+    let classes = standing_classes(alloc, list)?;
+    Ok(Source {
+        bytes,
+        records,
+        list,
+        texts,
+        names,
+        classes,
+    })
+}
+
+impl<'a> Source<'a> {
+    /// The class of an ID, if there is one; none has the ID 0.
+    pub(crate) fn class_of(&self, id: u64) -> Option<&'a ClassDump>
+        requires { IsSource self.now }
+        ensures { option_map (λ class. class_view class.now) result ≡ class_at (table_of self.now).classes id }
+    {
+        if id == 0 {
+            return None;
+        }
+        match self.classes.get(&id) {
+            Some(standing) => Some(standing.class),
+            None => None,
+        }
+    }
+
+    /// The text of an ID, if there is one.
+    pub(crate) fn text_of(&self, id: u64) -> Option<&'a [u8]>
+        requires { IsSource self.now }
+        ensures { option_copied result ≡ option_map (bytes_of_span self.now.bytes.now) (text_of_id (table_of self.now) id) }
+    {
+        match self.texts.get(&id) {
+            Some(text) => Some(bytes_of(self.bytes, *text)),
+            None => None,
+        }
+    }
+
+    /// The name of the class of an ID, if it has one.
+    pub(crate) fn name_of(&self, id: u64) -> Option<&'a [u8]>
+        requires { IsSource self.now }
+        ensures { option_copied result ≡ option_map (bytes_of_span self.now.bytes.now) (name_of (table_of self.now) id) }
+    {
+        match self.names.get(&id) {
+            Some(name) => self.text_of(*name),
+            None => None,
+        }
+    }
+}

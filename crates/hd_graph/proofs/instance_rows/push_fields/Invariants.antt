@@ -1,0 +1,6 @@
+use Rattle.hd_graph.proofs.LayoutLemmas.{ArePushed}
+use Rattle.hd_graph.proofs.instance_rows.push_fields.Given as goal
+
+-- the IDs in the fields so far were added
+abbrev pub invariant-loop-i : goal.invariant-loop-i
+invariant-loop-i l = ArePushed l.bytes l.id_size l.start l.layout l.i l.initial.references l.references l.at

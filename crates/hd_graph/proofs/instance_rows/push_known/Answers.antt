@@ -1,0 +1,28 @@
+use Rattle.std.proofs.Common.{ap, arith, length, map}
+use Rattle.std.proofs.lemmas.List.{length-map}
+use Rattle.hd_classes.specs.Known.{field_view}
+use Rattle.hd_graph.specs.KeptShapes.{ShapeLists, shape_at}
+use Rattle.hd_graph.specs.Table.{Table}
+use Rattle.hd_graph.specs.ArrayRows.{placed_fields, value_ids}
+use Rattle.hd_graph.proofs.LayoutLemmas.{placed-few}
+use Rattle.hd_graph.proofs.AddedLemmas.{instance-added}
+use Rattle.hd_graph.proofs.instance_rows.push_known.Goals as goal
+
+pub push-requires : goal.push-requires
+push-requires c =
+    omega (
+      arith,
+      placed-few c.args.bytes.now c.args.id_size c.args.start (map field_view c.args.layout.now),
+      length-map c.args.layout.now field_view,
+      ap (λ (t : Table). t.count) c.in_ok-push_fields.ensures,
+      ap (λ (t : Table). length t.ids) c.in_ok-push_fields.ensures,
+      c.requires.room,
+    )
+
+pub returns-clause-added : goal.returns-clause-added
+returns-clause-added c =
+    instance-added (value_ids c.args.bytes.now c.args.id_size (placed_fields c.args.id_size c.args.start (map field_view c.args.layout.now))) c.args.class _ (shape_at c.args.shapes.now.layouts c.args.number)
+    c.args.references.now c.push_fields.new.references c.push.new.self c.end_row.new.self c.args.shapes.now.objects c.push_instance.new.self.objects
+    c.requires.filled c.in_ok-push_fields.ensures c.in_ok-push.ensures c.in_ok-end_row.ensures
+    (omega (arith, placed-few c.args.bytes.now c.args.id_size c.args.start (map field_view c.args.layout.now), length-map c.args.layout.now field_view))
+    (ap (λ (s : ShapeLists). s.objects) c.in_ok-push_instance.ensures)

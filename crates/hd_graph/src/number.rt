@@ -1,0 +1,166 @@
+//! Numbering objects: each ID gets its number, and what is wrong with an object is found.
+ghost use Rattle.std.specs.Prelude.{◌≡◌, ◌+◌, ◌<◌, ◌^◌, ℕ, true, not, if◌then◌else◌, length, All, IfOk, IfErr, OnOk};
+ghost use Rattle.hd_terms.specs.Classes as classes_of;
+ghost use Rattle.hd_terms.specs.SubRecords.{Instance};
+ghost use Rattle.hd_classes.specs.Known.{known_at};
+ghost use Rattle.hd_subs.specs.Views.{sub_view};
+ghost use Rattle.hd_graph.specs.Noted.{is_noted, NotesId};
+ghost use Rattle.hd_graph.specs.Numbering.{IsNumbered, NumbersOneMore, IsObjectFaultOrMemory, NotesObject, IsObjectStop, IsNullIdOrMemory, StopsAt, length_of};
+
+use crate::graph::RootRow;
+use crate::id_hasher::IdHasher;
+use crate::layouts::bytes_of_layout;
+use crate::noted::note_id;
+use hd_classes::Classes;
+use hd_subs::{Item, Sub, Subs};
+use hd_terms::{Cause, IdSize, ReadFault, Span};
+use indexmap::IndexSet;
+use std::alloc::Global;
+
+/// What is counted of objects.
+#[derive(Clone, Copy)]
+pub(crate) struct Tally {
+    /// How many sub-records of objects have the ID of an earlier one.
+    pub(crate) repeated: u64,
+    /// How many instances have a class that isn't known.
+    pub(crate) opaque: u64,
+}
+
+/// The numbers of the objects, and the roots.
+#[derive(Drop)]
+pub(crate) struct Numbered {
+    pub(crate) ids: IndexSet<u64, IdHasher>,
+    pub(crate) roots: Vec<RootRow>,
+    pub(crate) tally: Tally,
+}
+
+/// How many bytes the values of instances of a class have, if the class is known.
+fn length_of_values(classes: &Classes, id_size: IdSize, class: u64) -> Option<u64>
+    requires { All (λ (p : ℕ × classes_of.KnownClass). length p.1.layout < 2 ^ 29) classes.now.classes }
+    ensures { result ≡ length_of id_size (known_at classes.now class) }
+{
+    match classes.index_of(class) {
+        Some(i) => {
+            let layout = classes.get(i).layout.as_slice();
+            Some(u64::from(bytes_of_layout(id_size, layout)))
+        }
+        None => None,
+    }
+}
+
+/// Numbers an object by its ID, if that is new, and counts it as repeated if it isn't. The ID 0 is a fault. Answers whether
+/// it is new.
+fn number_object(
+    ids: &mut IndexSet<u64, IdHasher>,
+    tally: &mut Tally,
+    id: u64,
+    offset: u64,
+) -> Result<bool, ReadFault>
+    requires { tally.old.repeated + 1 < 2 ^ 64 }
+    ensures noted { OnOk result ((0 < id) × NotesId id ids.old.keys tally.old.repeated ids.new.keys tally.new.repeated) }
+    ensures is_new { IfOk result (λ new. new ≡ not (is_noted ids.old.keys id)) }
+    ensures opaque { OnOk result (tally.new.opaque ≡ tally.old.opaque) }
+    ensures err { IfErr result (λ f. IsNullIdOrMemory id offset f) }
+{
+    if id == 0 {
+        return Err(ReadFault {
+            cause: Cause::NullObject,
+            offset,
+        });
+    }
+    let new = note_id(ids, &mut tally.repeated, id)?;
+    Ok(new)
+}
+
+/// Numbers an instance. If its ID is new, it has to fit its class's layout, and it is counted if its class isn't known.
+fn number_instance(
+    ids: &mut IndexSet<u64, IdHasher>,
+    tally: &mut Tally,
+    classes: &Classes,
+    id_size: IdSize,
+    id: u64,
+    class: u64,
+    values: Span,
+    offset: u64,
+) -> Result<(), ReadFault>
+    requires repeated { tally.old.repeated + 1 < 2 ^ 64 }
+    requires opaque { tally.old.opaque + 1 < 2 ^ 64 }
+    requires short { All (λ (p : ℕ × classes_of.KnownClass). length p.1.layout < 2 ^ 29) classes.now.classes }
+    ensures ok { OnOk result (NotesObject (known_at classes.now) id_size (Instance id class values) id ids.old.keys tally.old ids.new.keys tally.new) }
+    ensures err { IfErr result (λ f. IsObjectStop (known_at classes.now) id_size (Instance id class values) id offset ids.old.keys f) }
+{
+    if !number_object(ids, tally, id, offset)? {
+        return Ok(());
+    }
+    match length_of_values(classes, id_size, class) {
+        None => tally.opaque += 1,
+        Some(len) => {
+            if len != values.len {
+                return Err(ReadFault {
+                    cause: Cause::InstanceSize,
+                    offset,
+                });
+            }
+        }
+    }
+    Ok(())
+}
+
+/// Numbers an object, or keeps a root.
+fn number_one(
+    ids: &mut IndexSet<u64, IdHasher>,
+    roots: &mut Vec<RootRow>,
+    tally: &mut Tally,
+    classes: &Classes,
+    id_size: IdSize,
+    sub: Sub<'_>,
+) -> Result<(), ReadFault>
+    requires repeated { tally.old.repeated + 1 < 2 ^ 64 }
+    requires opaque { tally.old.opaque + 1 < 2 ^ 64 }
+    requires short { All (λ (p : ℕ × classes_of.KnownClass). length p.1.layout < 2 ^ 29) classes.now.classes }
+    ensures ok { OnOk result (NumbersOneMore (known_at classes.now) id_size (sub_view sub.entry) ids.old.keys roots.old.items tally.old ids.new.keys roots.new.items tally.new) }
+    ensures err { IfErr result (λ f. StopsAt (known_at classes.now) id_size (sub_view sub.entry) ids.old.keys f) }
+{
+    let offset = sub.offset;
+    match sub.item {
+        Item::Root(kind, id) => roots.push(RootRow { kind, id })?,
+        Item::Class(class) => {
+            number_object(ids, tally, class.id, offset)?;
+        }
+        Item::Instance { id, class, values } => {
+            number_instance(ids, tally, classes, id_size, id, class, values, offset)?;
+        }
+        Item::ObjArray { id, .. } => {
+            number_object(ids, tally, id, offset)?;
+        }
+        Item::PrimArray { id, .. } => {
+            number_object(ids, tally, id, offset)?;
+        }
+    }
+    Ok(())
+}
+
+/// Numbers the objects by their IDs, each ID once, counts those that are repeated or opaque, and collects the roots. An object
+/// with ID 0, and an instance that doesn't fit its class's layout, are faults.
+pub(crate) fn number(
+    alloc: Global,
+    list: &Subs,
+    classes: &Classes,
+    id_size: IdSize,
+) -> Result<Numbered, ReadFault>
+    requires short { All (λ (p : ℕ × classes_of.KnownClass). length p.1.layout < 2 ^ 29) classes.now.classes }
+    ensures ok { IfOk result (λ n. IsNumbered (known_at classes.now) id_size list.now n.ids.keys n.roots.items n.tally) }
+    ensures err { IfErr result (λ f. IsObjectFaultOrMemory (known_at classes.now) id_size list.now f) }
+{
+    let mut ids = IndexSet::with_capacity_and_hasher(alloc, list.len(), IdHasher::new())?;
+    let mut roots = Vec::new(alloc);
+    let mut tally = Tally {
+        repeated: 0,
+        opaque: 0,
+    };
+    for i in 0..list.len() {
+        let sub = list.get(i);
+        number_one(&mut ids, &mut roots, &mut tally, classes, id_size, sub)?;
+    }
+    Ok(Numbered { ids, roots, tally })
+}
