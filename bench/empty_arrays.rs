@@ -1,4 +1,4 @@
-//! Writes the dump of a size that has the most objects: object arrays without elements alone, with identifiers of four
+//! Writes the dump of a size that has the most object arrays: those without elements alone, with identifiers of four
 //! bytes, and a root on the first: `empty_arrays FILE BYTES`.
 //!
 //! The file has as many arrays as fit into so many bytes. It prints on standard error how many bytes and objects it has.

@@ -1,11 +1,12 @@
-//! Writes a synthetic heap dump of object arrays, for measuring.
+//! Writes a synthetic heap dump of object arrays, or of instances too, for measuring.
 //!
 //! Build:  rustc --edition 2021 -O generate.rs
-//! Run:    generate PATH BYTES ID_SIZE SEED [absent|present]
+//! Run:    generate PATH BYTES ID_SIZE SEED [absent|present|instances]
 //!
 //! The file is in the HPROF binary format, format name JAVA PROFILE 1.0.2: a header, HEAP DUMP SEGMENT records with
-//! bodies of at most 1 MiB, and a HEAP DUMP END. The only sub-records are ROOT UNKNOWN and OBJECT ARRAY DUMP. The same
-//! words always give the same bytes. The file is never larger than BYTES, and less than 1 MiB smaller.
+//! bodies of at most 1 MiB, and a HEAP DUMP END. The only sub-records are ROOT UNKNOWN and OBJECT ARRAY DUMP, and with
+//! `instances` CLASS DUMP and INSTANCE DUMP. The same words always give the same bytes. The file is never larger than
+//! BYTES, and less than 1 MiB smaller.
 //!
 //! Standard output gets the ID of the first object, which is reachable; standard error gets the counts.
 //!
@@ -23,6 +24,10 @@
 //! - Every eighth object is held by its like alone, so nothing reaches it. Roots reach about two thirds of all.
 //! - Before every thousandth object stands a root on it, and after every hundredth such root one on an absent ID.
 //! - Array classes are 64 IDs that no object has. With `present` they are the objects 1 to 64 instead.
+//! - With `instances` they are class objects, which stand before all others. So are the classes of instances: one for
+//!   each number of references, up to 24, with an int and so many references as fields. All these have one super class,
+//!   which has no fields. Every node of a list is an instance then, and so are three quarters of the other objects with
+//!   up to 24 elements; their elements are those fields. No class has a name, so all references are strong.
 
 use std::env;
 use std::fs::File;
@@ -34,7 +39,14 @@ const RECORD_HEAD_LEN: u64 = 9;
 const HEAP_DUMP_SEGMENT: u8 = 0x1c;
 const HEAP_DUMP_END: u8 = 0x2c;
 const ROOT_UNKNOWN: u8 = 0xff;
+const CLASS_DUMP: u8 = 0x20;
+const INSTANCE_DUMP: u8 = 0x21;
 const OBJECT_ARRAY_DUMP: u8 = 0x22;
+
+/// Types of fields, and the bytes of an int.
+const REFERENCE: u8 = 2;
+const INT: u8 = 10;
+const INT_LEN: u64 = 4;
 
 /// The most bytes of a segment's body. The longest array, of 100,000 elements, fits.
 const BODY_LIMIT: u64 = 1 << 20;
@@ -47,9 +59,26 @@ const OBJECTS_PER_ROOT: u64 = 1_000;
 const ROOTS_PER_ABSENT_ROOT: u64 = 100;
 const CLASSES: u64 = 64;
 
+/// The most references of an instance.
+const FIELDS: u64 = 24;
+
+/// The number of the super class of all classes, behind those of arrays and those of instances.
+const TOP_CLASS: u64 = CLASSES + FIELDS + 1;
+
 /// The most bytes of a file that can be opened.
 const LARGEST_FILE: u64 = 2_147_483_647;
 const SMALLEST_FILE: u64 = 2_000;
+
+/// The same where there are instances, and so classes.
+const SMALLEST_WITH_CLASSES: u64 = 20_000;
+
+/// What the IDs of classes are.
+#[derive(Clone, Copy, PartialEq)]
+enum Classes {
+    Absent,
+    Arrays,
+    ClassObjects,
+}
 
 /// What the words ask for.
 struct Order {
@@ -57,7 +86,7 @@ struct Order {
     bytes: u64,
     id_size: u64,
     seed: u64,
-    classes_are_absent: bool,
+    classes: Classes,
 }
 
 /// What was written.
@@ -144,6 +173,12 @@ fn elements_of(seed: u64, i: u64) -> u64 {
     }
 }
 
+/// Whether an object with so many elements is an instance, where there are instances.
+fn can_be_instance(seed: u64, i: u64, elements: u64) -> bool {
+    let is_chosen = is_list_node(i) || scatter(seed, i, u64::MAX - 1) & 3 > 0;
+    i > 0 && elements <= FIELDS && is_chosen
+}
+
 /// How many of an object's elements, from the first on, hold nodes of lists.
 fn linked_elements_of(i: u64) -> u64 {
     if i == 0 {
@@ -163,7 +198,7 @@ struct Ids {
     base: u64,
     step: u64,
     size: u64,
-    classes_are_absent: bool,
+    classes: Classes,
 }
 
 impl Ids {
@@ -177,7 +212,7 @@ impl Ids {
             base,
             step,
             size: order.id_size,
-            classes_are_absent: order.classes_are_absent,
+            classes: order.classes,
         }
     }
 
@@ -191,10 +226,10 @@ impl Ids {
     }
 
     fn of_class(&self, class: u64) -> u64 {
-        if self.classes_are_absent {
-            self.base - self.step * (class + 1)
-        } else {
+        if self.classes == Classes::Arrays {
             self.of_object(class + 1)
+        } else {
+            self.base - self.step * (class + 1)
         }
     }
 
@@ -214,16 +249,25 @@ impl Ids {
         9 + 2 * self.size + elements * self.size
     }
 
-    /// The bytes of an object's sub-record and of the roots before it.
+    /// Whether an object with so many elements is an instance.
+    fn is_instance(&self, seed: u64, i: u64, elements: u64) -> bool {
+        self.classes == Classes::ClassObjects && can_be_instance(seed, i, elements)
+    }
+
+    /// The bytes of an object's sub-record and of the roots before it. An instance has as many as an array and its int.
     fn subs_len(&self, seed: u64, i: u64) -> u64 {
         let roots = u64::from(has_root(i)) + u64::from(has_absent_root(i));
-        roots * self.root_len() + self.array_len(elements_of(seed, i))
+        let elements = elements_of(seed, i);
+        let int = u64::from(self.is_instance(seed, i, elements)) * INT_LEN;
+        roots * self.root_len() + self.array_len(elements) + int
     }
 }
 
-/// How many objects fit. It takes the same steps as `write_dump`, without the bytes.
+/// How many objects fit that aren't classes. It takes the same steps as `write_dump`, without the bytes.
 fn count_objects(order: &Order, ids: &Ids) -> u64 {
-    let (mut before, mut body, mut i) = (HEADER_LEN, 0, 0);
+    let mut classes = Vec::new();
+    put_classes(ids, &mut classes);
+    let (mut before, mut body, mut i) = (HEADER_LEN, classes.len() as u64, 0);
     loop {
         let len = ids.subs_len(order.seed, i);
         if body > 0 && body + len > BODY_LIMIT {
@@ -283,12 +327,63 @@ fn put_root(ids: &Ids, body: &mut Vec<u8>, id: u64) {
     ids.put(body, id);
 }
 
-fn put_array(order: &Order, ids: &Ids, objects: u64, body: &mut Vec<u8>, i: u64, elements: u64) {
+/// Puts a class. Those of instances have an int and references as fields.
+fn put_class(ids: &Ids, body: &mut Vec<u8>, class: u64) {
+    let fields = if (CLASSES..TOP_CLASS).contains(&class) {
+        class - CLASSES + 1
+    } else {
+        0
+    };
+    body.push(CLASS_DUMP);
+    ids.put(body, ids.of_class(class));
+    body.extend_from_slice(&0u32.to_be_bytes());
+    let is_top = class == TOP_CLASS;
+    ids.put(body, if is_top { 0 } else { ids.of_class(TOP_CLASS) });
+    (0..5).for_each(|_| ids.put(body, 0));
+    body.extend_from_slice(&0u32.to_be_bytes());
+    // no constants, no statics
+    body.extend_from_slice(&[0; 4]);
+    body.extend_from_slice(&(fields as u16).to_be_bytes());
+    for field in 0..fields {
+        ids.put(body, 1 + field);
+        body.push(if field == 0 { INT } else { REFERENCE });
+    }
+}
+
+/// Puts the class objects, if there are any, and answers how many.
+fn put_classes(ids: &Ids, body: &mut Vec<u8>) -> u64 {
+    if ids.classes != Classes::ClassObjects {
+        return 0;
+    }
+    (0..=TOP_CLASS).for_each(|class| put_class(ids, body, class));
+    TOP_CLASS + 1
+}
+
+/// Puts what stands before the values of an instance: its int is the first of these.
+fn put_instance_head(ids: &Ids, body: &mut Vec<u8>, i: u64, elements: u64) {
+    body.push(INSTANCE_DUMP);
+    ids.put(body, ids.of_object(i));
+    body.extend_from_slice(&0u32.to_be_bytes());
+    ids.put(body, ids.of_class(CLASSES + elements));
+    let len = INT_LEN + elements * ids.size;
+    body.extend_from_slice(&(len as u32).to_be_bytes());
+    body.extend_from_slice(&(i as u32).to_be_bytes());
+}
+
+fn put_array_head(ids: &Ids, body: &mut Vec<u8>, i: u64, elements: u64) {
     body.push(OBJECT_ARRAY_DUMP);
     ids.put(body, ids.of_object(i));
     body.extend_from_slice(&0u32.to_be_bytes());
     body.extend_from_slice(&(elements as u32).to_be_bytes());
     ids.put(body, ids.of_class(class_of(i)));
+}
+
+fn put_object(order: &Order, ids: &Ids, objects: u64, body: &mut Vec<u8>, i: u64, elements: u64) {
+    if ids.is_instance(order.seed, i, elements) {
+        put_instance_head(ids, body, i, elements);
+    } else {
+        put_array_head(ids, body, i, elements);
+    }
     let linked = linked_elements_of(i);
     for element in 0..linked {
         ids.put(body, linked_id(ids, objects, i, element));
@@ -316,6 +411,7 @@ fn write_dump(order: &Order, ids: &Ids, objects: u64, file: &mut impl Write) -> 
     file.write_all(&(order.id_size as u32).to_be_bytes())?;
     file.write_all(&[0; 8])?;
     let mut body = Vec::with_capacity(BODY_LIMIT as usize);
+    counts.objects += put_classes(ids, &mut body);
     for i in 0..objects {
         if !body.is_empty() && body.len() as u64 + ids.subs_len(order.seed, i) > BODY_LIMIT {
             put_record(file, &mut counts, HEAP_DUMP_SEGMENT, &body)?;
@@ -331,7 +427,7 @@ fn write_dump(order: &Order, ids: &Ids, objects: u64, file: &mut impl Write) -> 
             counts.roots += 1;
         }
         let elements = elements_of(order.seed, i);
-        put_array(order, ids, objects, &mut body, i, elements);
+        put_object(order, ids, objects, &mut body, i, elements);
         counts.elements += elements;
     }
     put_record(file, &mut counts, HEAP_DUMP_SEGMENT, &body)?;
@@ -342,9 +438,10 @@ fn write_dump(order: &Order, ids: &Ids, objects: u64, file: &mut impl Write) -> 
 }
 
 fn read_order(words: &[String]) -> Option<Order> {
-    let classes_are_absent = match words.get(4).map(String::as_str) {
-        None | Some("absent") => true,
-        Some("present") => false,
+    let classes = match words.get(4).map(String::as_str) {
+        None | Some("absent") => Classes::Absent,
+        Some("present") => Classes::Arrays,
+        Some("instances") => Classes::ClassObjects,
         Some(_) => return None,
     };
     let order = Order {
@@ -352,10 +449,15 @@ fn read_order(words: &[String]) -> Option<Order> {
         bytes: words.get(1)?.parse().ok()?,
         id_size: words.get(2)?.parse().ok()?,
         seed: words.get(3)?.parse().ok()?,
-        classes_are_absent,
+        classes,
+    };
+    let smallest = if classes == Classes::ClassObjects {
+        SMALLEST_WITH_CLASSES
+    } else {
+        SMALLEST_FILE
     };
     let is_right = words.len() <= 5
-        && (SMALLEST_FILE..=LARGEST_FILE).contains(&order.bytes)
+        && (smallest..=LARGEST_FILE).contains(&order.bytes)
         && (order.id_size == 4 || order.id_size == 8);
     is_right.then_some(order)
 }
@@ -376,8 +478,9 @@ fn generate(order: &Order) -> io::Result<()> {
 fn main() -> ExitCode {
     let words: Vec<String> = env::args().skip(1).collect();
     let Some(order) = read_order(&words) else {
-        eprintln!("usage: generate PATH BYTES ID_SIZE SEED [absent|present]");
-        eprintln!("BYTES is {SMALLEST_FILE} to {LARGEST_FILE}, ID_SIZE is 4 or 8");
+        eprintln!("usage: generate PATH BYTES ID_SIZE SEED [absent|present|instances]");
+        eprintln!("BYTES is {SMALLEST_FILE} to {LARGEST_FILE}, with instances at least {SMALLEST_WITH_CLASSES}");
+        eprintln!("ID_SIZE is 4 or 8");
         return ExitCode::from(64);
     };
     match generate(&order) {

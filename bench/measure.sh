@@ -166,7 +166,8 @@ measure_dump() {
     best_of_runs 'sum [0-9]+' "$room/read" "$dump" || return
     read_time=$best
     row="| $id_size-byte IDs, seed $seed | $bytes | $objects | $(seconds "$cat_time") | $(seconds "$read_time")"
-    if ! best_of_runs "$id STRONG objects $objects roots $roots reached [0-9]+" "$room/plain" "$dump" "$id"; then
+    if ! best_of_runs "$id STRONG" "$room/plain" "$dump" "$id" || ! printed_line "objects $objects" plain \
+        || ! printed_line "roots $roots" plain; then
         echo "$row | failed | | | | | |"
         return 1
     fi
