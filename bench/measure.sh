@@ -5,10 +5,11 @@
 #
 #   bench/measure.sh PROGRAM [SIZE..]
 #
-# PROGRAM is run as `PROGRAM FILE ID`. It opens FILE, computes the strengths and prints several lines, as hd_bench does.
-# One has to be `strength Strong`, which is right for the ID that the generator gives, and one `objects N`, where N is
-# how many objects the generator wrote. A SIZE is a number of bytes, or a number and M or G (2^20, 2^30 bytes); without
-# any they are 100M and 1G. Each size is measured with 4-byte and with 8-byte identifiers.
+# PROGRAM is run as `PROGRAM FILE ID WORKERS`. It opens FILE, computes the strengths and prints several lines, as
+# hd_bench does. One has to be `strength Strong`, which is right for the ID that the generator gives, and one
+# `objects N`, where N is how many objects the generator wrote. The plain program gets as many workers. A SIZE is a
+# number of bytes, or a number and M or G (2^20, 2^30 bytes); without any they are 100M and 1G. Each size is measured
+# with 4-byte and with 8-byte identifiers.
 #
 # The answers of the plain programs are checked too. Where an answer is wrong or a status not 0, the row says `failed`
 # or is left out, standard error tells why, and the script's status is 1.
@@ -21,6 +22,7 @@ export LC_ALL=C
 
 readonly runs=3
 readonly seed=1
+readonly workers=4
 
 complain() {
     printf 'measure: %s\n' "$*" >&2
@@ -166,14 +168,15 @@ measure_dump() {
     best_of_runs 'sum [0-9]+' "$room/read" "$dump" || return
     read_time=$best
     row="| $id_size-byte IDs, seed $seed | $bytes | $objects | $(seconds "$cat_time") | $(seconds "$read_time")"
-    if ! best_of_runs "$id STRONG" "$room/plain" "$dump" "$id" || ! printed_line "objects $objects" plain \
+    if ! best_of_runs "$id STRONG" "$room/plain" "$dump" "$id" "$workers" || ! printed_line "objects $objects" plain \
         || ! printed_line "roots $roots" plain; then
         echo "$row | failed | | | | | |"
         return 1
     fi
     plain_time=$best plain_peak=$peak_kilobytes
     row+=" | $(seconds "$plain_time")"
-    if ! best_of_runs 'strength Strong' "$program" "$dump" "$id" || ! printed_line "objects $objects" "$program"; then
+    if ! best_of_runs 'strength Strong' "$program" "$dump" "$id" "$workers" \
+        || ! printed_line "objects $objects" "$program"; then
         echo "$row | failed | | | | $(peak_to_file "$plain_peak") |"
         return 1
     fi

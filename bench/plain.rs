@@ -2,18 +2,26 @@
 //! passes and about the same layout in memory, with no proofs and no contracts.
 //!
 //! Build:  rustc --edition 2021 -O plain.rs
-//! Run:    plain FILE [ID..]
+//! Run:    plain FILE [ID..] [WORKERS]
+//!
+//! WORKERS is how many threads read the segments at once, one without it. The IDs in slots are resolved by as many as
+//! there are processors. What is printed on standard output depends on neither.
 //!
 //! It believes that the file is right, and ends with a panic where it isn't. It prints the lines of `hdesk stat FILE`,
-//! and then for each ID a line: the ID and its strength. Standard error gets when each pass ended, in seconds.
+//! and then for each ID, which begins with `0x`, a line: the ID and its strength. Standard error gets when each pass
+//! ended, in seconds.
 
 use std::env;
 use std::fs::File;
 use std::io::{self, Read};
+use std::num::NonZero;
 use std::ops::Range;
+use std::thread;
 use std::time::Instant;
 
 const NULL: u32 = u32::MAX;
+/// What a place in the file is raised by where its ID is no object's. All places and numbers of objects are below this.
+const ABSENT: u32 = 1 << 31;
 const EMPTY: u32 = u32::MAX;
 const HEADER_LEN: usize = 31;
 const RECORD_HEAD_LEN: usize = 9;
@@ -161,15 +169,14 @@ struct Field {
 struct Class {
     id: u64,
     super_id: u64,
-    loader: u64,
-    signers: u64,
-    domain: u64,
+    /// Where the IDs lie of its super class, loader, signers and domain, one behind another.
+    links: u64,
     constants: Vec<Value>,
     statics: Vec<Value>,
     fields: Vec<Field>,
 }
 
-/// All sub-records, and the classes aside.
+/// The sub-records of a share of the segments, and the classes aside.
 #[derive(Default)]
 struct Subs {
     rows: Vec<Row>,
@@ -231,7 +238,9 @@ enum Shape {
 
 const _: () = assert!(size_of::<Shape>() == 8);
 
-/// The slots of all objects, where each object's end, and the objects' shapes.
+/// The slots of all objects, where each object's end, and the objects' shapes. A slot's code is the place of its ID in
+/// the file, until it is resolved: then it is the number of an object, or null, or the number behind all objects that
+/// an absent ID has, which is kept aside.
 struct Slots {
     codes: Vec<u32>,
     ends: Vec<u32>,
@@ -240,16 +249,18 @@ struct Slots {
 }
 
 impl Slots {
-    fn push(&mut self, ids: &Ids, id: u64) {
-        let code = if id == 0 {
-            NULL
-        } else if let Some(object) = ids.get(id) {
-            object
-        } else {
-            self.absent.push(id);
-            (ids.ids.len() + self.absent.len() - 1) as u32
-        };
-        self.codes.push(code);
+    fn with_room(count: usize, objects: usize) -> Slots {
+        Slots {
+            codes: Vec::with_capacity(count),
+            ends: Vec::with_capacity(objects),
+            absent: Vec::new(),
+            shapes: Vec::with_capacity(objects),
+        }
+    }
+
+    /// Adds a slot whose ID lies at a place.
+    fn push(&mut self, at: usize) {
+        self.codes.push(at as u32);
     }
 
     /// Ends an object's slots.
@@ -388,16 +399,13 @@ fn read_fields(bytes: &[u8], id_len: usize, mut at: usize) -> (Vec<Field>, usize
 /// The class whose tag stands at `at`, and where the next sub-record is.
 fn read_class(bytes: &[u8], id_len: usize, at: usize) -> (Class, usize) {
     let links = at + 5 + id_len;
-    let link = |i: usize| number(&bytes[links + i * id_len..], id_len);
     let (constants, next) = read_values(bytes, id_len, 2, links + 6 * id_len + 4);
     let (statics, next) = read_values(bytes, id_len, id_len, next);
     let (fields, next) = read_fields(bytes, id_len, next);
     let class = Class {
         id: number(&bytes[at + 1..], id_len),
-        super_id: link(0),
-        loader: link(1),
-        signers: link(2),
-        domain: link(3),
+        super_id: number(&bytes[links..], id_len),
+        links: links as u64,
         constants,
         statics,
         fields,
@@ -464,11 +472,63 @@ fn read_segment(bytes: &[u8], id_len: usize, segment: &Range<usize>, subs: &mut 
             at = next;
         }
     }
+    assert_eq!(at, segment.end);
+}
+
+fn read_share(bytes: &[u8], id_len: usize, segments: &[Range<usize>]) -> Subs {
+    let mut subs = Subs::default();
+    for segment in segments {
+        read_segment(bytes, id_len, segment, &mut subs);
+    }
+    subs
+}
+
+/// How many of the segments, from the first on, the first of so many workers takes: those whose middle lies within its
+/// part of all their bytes. A last worker takes all.
+fn share_len(segments: &[Range<usize>], workers: usize) -> usize {
+    let bytes: usize = segments.iter().map(Range::len).sum();
+    let mut before = 0;
+    let is_in_part = |segment: &&Range<usize>| {
+        let twice_middle = 2 * before + segment.len();
+        before += segment.len();
+        twice_middle * workers <= 2 * bytes
+    };
+    segments.iter().take_while(is_in_part).count()
+}
+
+/// Shares the segments out in file order, by their bytes. A share can be empty.
+fn share_out(mut segments: &[Range<usize>], workers: usize) -> Vec<&[Range<usize>]> {
+    let mut shares = Vec::new();
+    for workers_left in (1..=workers).rev() {
+        let (share, rest) = segments.split_at(share_len(segments, workers_left));
+        shares.push(share);
+        segments = rest;
+    }
+    shares
+}
+
+/// The sub-records of the segments, read by so many workers at once: the lists of all shares, in file order.
+fn read_segments(
+    bytes: &[u8],
+    id_len: usize,
+    segments: &[Range<usize>],
+    workers: usize,
+) -> Vec<Subs> {
+    thread::scope(|scope| {
+        let start = |share| scope.spawn(move || read_share(bytes, id_len, share));
+        let shares = share_out(segments, workers);
+        let started: Vec<_> = shares.into_iter().map(start).collect();
+        let ended = started.into_iter().map(|worker| worker.join().unwrap());
+        ended.collect()
+    })
 }
 
 /// The first of the items of each ID, with the numbers of the IDs.
-fn first_of_each<T>(items: &[T], id: impl Fn(&T) -> u64) -> (Ids, Vec<&T>) {
-    let (mut ids, mut firsts) = (Ids::with_room(items.len()), Vec::new());
+fn first_of_each<'a, T>(
+    items: impl Iterator<Item = &'a T> + Clone,
+    id: impl Fn(&T) -> u64,
+) -> (Ids, Vec<&'a T>) {
+    let (mut ids, mut firsts) = (Ids::with_room(items.clone().count()), Vec::new());
     for item in items {
         if ids.insert(id(item)) {
             firsts.push(item);
@@ -488,8 +548,8 @@ struct Names<'a> {
 
 impl<'a> Names<'a> {
     fn new(bytes: &'a [u8], records: &'a Records) -> Names<'a> {
-        let (text_ids, texts) = first_of_each(&records.texts, |text| text.id);
-        let (load_ids, loads) = first_of_each(&records.loads, |load| load.class);
+        let (text_ids, texts) = first_of_each(records.texts.iter(), |text| text.id);
+        let (load_ids, loads) = first_of_each(records.loads.iter(), |load| load.class);
         Names {
             bytes,
             text_ids,
@@ -578,9 +638,15 @@ fn layout(names: &Names, id_len: usize, chain: &[&Class]) -> Layout {
     }
 }
 
-fn read_layouts(bytes: &[u8], id_len: usize, records: &Records, subs: &Subs) -> (Layouts, Repeats) {
+fn read_layouts(
+    bytes: &[u8],
+    id_len: usize,
+    records: &Records,
+    lists: &[Subs],
+) -> (Layouts, Repeats) {
     let names = Names::new(bytes, records);
-    let (ids, classes) = first_of_each(&subs.classes, |class| class.id);
+    let all_classes = lists.iter().flat_map(|subs| &subs.classes);
+    let (ids, classes) = first_of_each(all_classes, |class| class.id);
     let layout = |class: &&Class| match chain(&ids, &classes, class) {
         (chain, true) => layout(&names, id_len, &chain),
         (_, false) => Layout {
@@ -621,27 +687,36 @@ fn weigh(row: &Row, subs: &Subs, layouts: &Layouts) -> (usize, bool) {
     }
 }
 
+impl Numbered {
+    /// Counts an object, if its ID is new.
+    fn add(&mut self, row: &Row, subs: &Subs, layouts: &Layouts) {
+        assert_ne!(row.id, 0);
+        let (slots, is_opaque) = weigh(row, subs, layouts);
+        if self.ids.insert(row.id) {
+            self.slots += slots;
+            self.opaque += u64::from(is_opaque);
+        } else {
+            self.repeated += 1;
+        }
+    }
+}
+
 /// Numbers the objects by their IDs, each ID once, and collects the roots.
-fn number_objects(subs: &Subs, layouts: &Layouts) -> Numbered {
+fn number_objects(lists: &[Subs], layouts: &Layouts) -> Numbered {
     let mut numbered = Numbered {
-        ids: Ids::with_room(subs.rows.len()),
+        ids: Ids::with_room(lists.iter().map(|subs| subs.rows.len()).sum()),
         roots: Vec::new(),
         repeated: 0,
         opaque: 0,
         slots: 0,
     };
-    for row in &subs.rows {
-        if row.kind == Kind::Root {
-            numbered.roots.push(row.id);
-            continue;
-        }
-        assert_ne!(row.id, 0);
-        let (slots, is_opaque) = weigh(row, subs, layouts);
-        if numbered.ids.insert(row.id) {
-            numbered.slots += slots;
-            numbered.opaque += u64::from(is_opaque);
-        } else {
-            numbered.repeated += 1;
+    for subs in lists {
+        for row in &subs.rows {
+            if row.kind == Kind::Root {
+                numbered.roots.push(row.id);
+            } else {
+                numbered.add(row, subs, layouts);
+            }
         }
     }
     numbered
@@ -660,45 +735,57 @@ impl Source<'_> {
         number(&self.bytes[at..], self.id_len)
     }
 
+    /// Turns the places of IDs into numbers of objects.
+    fn resolve_part(&self, codes: &mut [u32]) {
+        for code in codes {
+            *code = match self.id_at(*code as usize) {
+                0 => NULL,
+                id => self.ids.get(id).unwrap_or(ABSENT + *code),
+            };
+        }
+    }
+
+    /// Adds slots whose IDs lie one behind another from a place on.
+    fn push_run(&self, at: usize, count: usize, slots: &mut Slots) {
+        for i in 0..count {
+            slots.push(at + i * self.id_len);
+        }
+    }
+
     /// Adds the slots of an array: its elements, then its class.
     fn read_array(&self, row: &Row, slots: &mut Slots) {
-        let start = row.offset as usize + 9 + 2 * self.id_len;
-        let len = row.count as usize * self.id_len;
-        for element in self.bytes[start..start + len].chunks_exact(self.id_len) {
-            slots.push(self.ids, number(element, self.id_len));
-        }
-        slots.push(self.ids, row.class);
-        slots.end(Shape::ObjectArray { bytes: len as u32 });
+        let class = row.offset as usize + 9 + self.id_len;
+        let count = row.count as usize;
+        self.push_run(class + self.id_len, count, slots);
+        slots.push(class);
+        slots.end(Shape::ObjectArray {
+            bytes: (count * self.id_len) as u32,
+        });
     }
 
     /// Adds the slots of an instance: the fields that are IDs, then its class.
     fn read_instance(&self, row: &Row, slots: &mut Slots) {
-        let start = row.offset as usize + 9 + 2 * self.id_len;
+        let class_at = row.offset as usize + 5 + self.id_len;
+        let start = class_at + self.id_len + 4;
         let mut shape = Shape::Opaque { bytes: row.count };
         if let Some(class) = self.layouts.number(row.class) {
             for at in &self.layouts.layouts[class as usize].references {
-                slots.push(self.ids, self.id_at(start + *at as usize));
+                slots.push(start + *at as usize);
             }
             shape = Shape::Instance { class };
         }
-        slots.push(self.ids, row.class);
+        slots.push(class_at);
         slots.end(shape);
-    }
-
-    /// Adds those of the values that are IDs.
-    fn push_values(&self, values: &[Value], slots: &mut Slots) {
-        for value in values.iter().filter(|value| is_id_type(value.code)) {
-            slots.push(self.ids, self.id_at(value.at as usize));
-        }
     }
 
     /// Adds the slots of a class object: its statics and constants, then what it is linked to.
     fn read_class(&self, class: &Class, slots: &mut Slots) {
-        self.push_values(&class.statics, slots);
-        self.push_values(&class.constants, slots);
-        for id in [class.super_id, class.loader, class.signers, class.domain] {
-            slots.push(self.ids, id);
+        for value in class.statics.iter().chain(&class.constants) {
+            if is_id_type(value.code) {
+                slots.push(value.at as usize);
+            }
         }
+        self.push_run(class.links as usize, 4, slots);
         let lens = class
             .statics
             .iter()
@@ -726,18 +813,39 @@ impl Source<'_> {
     }
 }
 
-fn read_slots(source: &Source, subs: &Subs, count: usize) -> Slots {
-    let objects = source.ids.ids.len();
-    let mut slots = Slots {
-        codes: Vec::with_capacity(count),
-        ends: Vec::with_capacity(objects),
-        absent: Vec::new(),
-        shapes: Vec::with_capacity(objects),
-    };
-    for row in &subs.rows {
-        source.read_object(row, subs, &mut slots);
+/// The slots of all objects, none of them resolved.
+fn read_slots(source: &Source, lists: &[Subs], count: usize) -> Slots {
+    let mut slots = Slots::with_room(count, source.ids.ids.len());
+    for subs in lists {
+        for row in &subs.rows {
+            source.read_object(row, subs, &mut slots);
+        }
     }
     slots
+}
+
+/// Resolves the slots in place, by as many threads as there are processors. A slot whose ID is no object's keeps its
+/// place, raised.
+fn resolve(source: &Source, slots: &mut Slots) {
+    let threads = thread::available_parallelism().map_or(1, NonZero::get);
+    let part_len = slots.codes.len().div_ceil(threads).max(1);
+    thread::scope(|scope| {
+        for part in slots.codes.chunks_mut(part_len) {
+            scope.spawn(move || source.resolve_part(part));
+        }
+    });
+}
+
+/// Numbers the absent IDs behind the objects, one for each slot that has such an ID.
+fn number_absent(source: &Source, slots: &mut Slots) {
+    let objects = source.ids.ids.len();
+    for code in &mut slots.codes {
+        if *code >= ABSENT && *code != NULL {
+            let id = source.id_at((*code - ABSENT) as usize);
+            *code = (objects + slots.absent.len()) as u32;
+            slots.absent.push(id);
+        }
+    }
 }
 
 /// Offers what an object refers to and isn't reached yet.
@@ -806,20 +914,18 @@ fn reach(graph: &Graph) -> Vec<Held> {
     kept
 }
 
-fn open(path: &str, passed: impl Fn(&str)) -> io::Result<Graph> {
+fn open(path: &str, workers: usize, passed: impl Fn(&str)) -> io::Result<Graph> {
     let bytes = read_file(path)?;
+    assert!(bytes.len() < ABSENT as usize);
     let id_len = number(&bytes[19..], 4) as usize;
     passed("read");
     let records = read_records(&bytes, id_len);
     passed("records");
-    let mut subs = Subs::default();
-    for segment in &records.segments {
-        read_segment(&bytes, id_len, segment, &mut subs);
-    }
+    let lists = read_segments(&bytes, id_len, &records.segments, workers);
     passed("sub-records");
-    let (layouts, mut repeats) = read_layouts(&bytes, id_len, &records, &subs);
+    let (layouts, mut repeats) = read_layouts(&bytes, id_len, &records, &lists);
     passed("classes");
-    let numbered = number_objects(&subs, &layouts);
+    let numbered = number_objects(&lists, &layouts);
     repeats.objects = numbered.repeated;
     passed("numbers");
     let source = Source {
@@ -828,8 +934,12 @@ fn open(path: &str, passed: impl Fn(&str)) -> io::Result<Graph> {
         ids: &numbered.ids,
         layouts: &layouts,
     };
-    let slots = read_slots(&source, &subs, numbered.slots);
+    let mut slots = read_slots(&source, &lists, numbered.slots);
     passed("slots");
+    resolve(&source, &mut slots);
+    passed("resolving");
+    number_absent(&source, &mut slots);
+    passed("absent");
     Ok(Graph {
         ids: numbered.ids,
         slots,
@@ -876,17 +986,27 @@ fn print_totals(graph: &Graph, kept: &[Held]) {
     }
 }
 
+/// The words before the number of workers, and this number. Without it the last word is an ID, or there is none.
+fn split_workers(words: &[String]) -> (&[String], usize) {
+    match words.split_last() {
+        Some((last, before)) if !last.starts_with("0x") => (before, last.parse().unwrap()),
+        _ => (words, 1),
+    }
+}
+
 fn main() -> io::Result<()> {
     let words: Vec<String> = env::args().collect();
+    let (asked, workers) = split_workers(&words[2..]);
+    assert_ne!(workers, 0);
     let began = Instant::now();
     let passed = |what: &str| eprintln!("{what} {:.3}", began.elapsed().as_secs_f64());
-    let graph = open(&words[1], passed)?;
+    let graph = open(&words[1], workers, passed)?;
     let kept = reach(&graph);
     passed("strengths");
     print_counts(&graph);
     print_totals(&graph, &kept);
     passed("counts");
-    for word in &words[2..] {
+    for word in asked {
         let id = u64::from_str_radix(&word[2..], 16).unwrap();
         let object = graph.ids.get(id).unwrap();
         println!("{word} {}", NAMES[kept[object as usize].rank as usize]);

@@ -1,12 +1,15 @@
-//! Opens a dump and answers the strength of one object, for measuring: `hd_bench FILE ID`. With a third word, as in
-//! `hd_bench FILE ID edits`, it also cuts the object's first reference to an object, and takes that back.
+//! Opens a dump and answers the strength of one object, for measuring: `hd_bench FILE ID WORKERS`. With a fourth word, as in
+//! `hd_bench FILE ID 4 edits`, it also cuts the object's first reference to an object, and takes that back.
 //!
 //! It prints the objects and roots of the dump, the strength, what fell and came back, and the microseconds that each
 //! part took. Without words it does nothing.
 #![tactic(auto)]
 
+ghost use Rattle.std.specs.Prelude.{◌≤◌, IfOk};
+
 use anyhow::{Context, Result, anyhow};
-use hd_graph::{Graph, open_plain};
+use hd_decode::NoGate;
+use hd_graph::{Graph, open_dump};
 use hd_records::check_size;
 use hd_state::State;
 use hd_terms::{Edit, Event, Slot, What};
@@ -14,7 +17,7 @@ use std::env;
 use std::fs::{self, File};
 use std::io::Read;
 use std::rt::{Clock, Env, Files};
-use std::sync::Arc;
+use std::thread::Threads;
 use std::time::Instant;
 
 /// The bytes of a file, read at once into exactly as much memory.
@@ -35,6 +38,17 @@ fn id_of(word: &str) -> Result<u64> {
     let digits = word.strip_prefix("0x").context("an ID begins with 0x")?;
     let id = u64::from_str_radix(digits, 16)?;
     Ok(id)
+}
+
+/// The number of workers that decimal digits spell.
+fn workers_of(word: &str) -> Result<u32>
+    ensures { IfOk result (λ workers. (1 ≤ workers) × (workers ≤ 16)) }
+{
+    let workers: u32 = word.parse()?;
+    if workers == 0 || workers > 16 {
+        return Err(anyhow!("workers are 1 to 16"));
+    }
+    Ok(workers)
 }
 
 /// What took how long since a moment; answers the moment now.
@@ -99,17 +113,22 @@ fn cut_and_undo<R: Clock + Print + AllocGlobal>(rt: &R, state: &State, id: u64) 
 }
 
 /// Opens a dump and computes the strengths of its objects.
-fn opened<R: Files<File = File> + Clock + Print + AllocGlobal>(
+fn opened<R: Files<File = File> + Clock + Print + AllocGlobal + Threads + Sync>(
     rt: &R,
     path: &str,
-) -> Result<State> {
+    workers: u32,
+) -> Result<State>
+    requires some { 1 ≤ workers }
+    requires few { workers ≤ 16 }
+{
     let start = Instant::now(rt)?;
     let bytes = read_file(rt, path)?;
     let read = lap(rt, "read", start)?;
-    let graph = open_plain(rt.alloc(), bytes.as_slice()).map_err(|fault| anyhow!("{fault:?}"))?;
+    let graph = open_dump(rt, rt.alloc(), bytes.as_slice(), workers, &NoGate).map_err(
+        |fault| anyhow!("{fault:?}"),
+    )?;
     drop(bytes);
     let opened = lap(rt, "open", read)?;
-    let graph = Arc::new(rt.alloc(), graph).map_err(|_| anyhow!("out of memory"))?;
     let state = State::open(rt.alloc(), graph).map_err(|_| anyhow!("out of memory"))?;
     let _done = lap(rt, "strengths", opened)?;
     Ok(state)
@@ -118,11 +137,12 @@ fn opened<R: Files<File = File> + Clock + Print + AllocGlobal>(
 fn main(rt: HostRuntime) -> Result<()> {
     let mut words = env::args(&rt)?;
     let _program = words.next();
-    let (Some(path), Some(word)) = (words.next(), words.next()) else {
+    let (Some(path), Some(id), Some(workers)) = (words.next(), words.next(), words.next()) else {
         return Ok(());
     };
-    let id = id_of(word.as_str())?;
-    let state = opened(&rt, path.as_str())?;
+    let id = id_of(id.as_str())?;
+    let workers = workers_of(workers.as_str())?;
+    let state = opened(&rt, path.as_str(), workers)?;
     answer(&rt, &state, id)?;
     if words.next().is_some() {
         cut_and_undo(&rt, &state, id)?;

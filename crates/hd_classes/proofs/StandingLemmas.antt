@@ -26,7 +26,8 @@ use Rattle.hd_subs.specs.Views.{item_view, sub_view}
 use Rattle.hd_classes.specs.declared.standing.Standing as declared_standing
 use Rattle.hd_classes.specs.Standing.{ClassPlace, class_place, class_places, entry_of, place_view, HasStanding, AreStanding}
 use Rattle.hd_classes.specs.Building.{cycle_at}
-use Rattle.hd_classes.proofs.FirstLemmas.{is_known, if_new, firsts_from, first_of_each-firsts, first_of_each-append}
+use Rattle.hd_classes.specs.Firsts.{firsts_from}
+use Rattle.hd_classes.proofs.FirstLemmas.{is_known, if_new, first_of_each-firsts, first_of_each-append}
 use Rattle.hd_classes.proofs.NameLemmas.{none-from_map}
 
 abbrev pub Entry : Type 0

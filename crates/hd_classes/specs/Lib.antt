@@ -1,3 +1,4 @@
+pub mod Firsts
 pub mod Known
 pub mod Inside
 pub mod Standing

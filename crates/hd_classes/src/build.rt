@@ -13,7 +13,7 @@ use crate::known::KnownClass;
 use crate::source::{Source, source_of};
 use crate::standing::Standing;
 use hd_records::Records;
-use hd_subs::Subs;
+use hd_subs::DumpSubs;
 use hd_terms::{Cause, ReadFault};
 use indexmap::IndexMap;
 use std::alloc::Global;
@@ -88,7 +88,7 @@ impl Classes {
         alloc: Global,
         bytes: &[u8],
         records: &Records,
-        list: &Subs,
+        list: &DumpSubs,
     ) -> Result<Classes, ReadFault>
         requires { All (IsTextWithin (length bytes.now)) records.now.strings }
         ensures ok { IfOk result (λ classes. AreClassesOf (class_table bytes.now records.now.strings records.now.loads list.now) classes) }

@@ -9,7 +9,7 @@ ghost use Rattle.hd_classes.specs.Sources.{IsSourceOf, IsSource, table_of};
 use crate::names::{bytes_of, first_names, first_texts};
 use crate::standing::{Standing, standing_classes};
 use hd_records::Records;
-use hd_subs::{ClassDump, Subs};
+use hd_subs::{ClassDump, DumpSubs};
 use hd_terms::Span;
 use indexmap::IndexMap;
 use std::alloc::{AllocError, Global};
@@ -19,7 +19,7 @@ use std::alloc::{AllocError, Global};
 pub(crate) struct Source<'a> {
     pub(crate) bytes: &'a [u8],
     pub(crate) records: &'a Records,
-    pub(crate) list: &'a Subs,
+    pub(crate) list: &'a DumpSubs,
     /// Where the first text of each ID lies.
     pub(crate) texts: IndexMap<u64, Span>,
     /// The ID of the text that is a class's name, by the class's ID.
@@ -33,7 +33,7 @@ pub(crate) fn source_of<'a>(
     alloc: Global,
     bytes: &'a [u8],
     records: &'a Records,
-    list: &'a Subs,
+    list: &'a DumpSubs,
 ) -> Result<Source<'a>, AllocError>
     requires { All (IsTextWithin (length bytes.now)) records.now.strings }
     ensures { IfOk result (λ s. IsSourceOf bytes.now records.now list.now s) }

@@ -4,7 +4,7 @@ ghost use Rattle.std.specs.List.{filter_map};
 ghost use Rattle.hd_subs.specs.Views.{sub_view};
 ghost use Rattle.hd_classes.specs.Standing.{class_place, HasStanding, NotesOneMore};
 
-use hd_subs::{ClassDump, Item, Sub, Subs};
+use hd_subs::{ClassDump, DumpSubs, Item, Sub};
 use indexmap::{IndexMap, IndexSet};
 use std::alloc::{AllocError, Global};
 
@@ -17,7 +17,7 @@ pub(crate) struct Standing<'a> {
 }
 
 /// How many sub-records there are up to the last class.
-fn classes_end(list: &Subs) -> usize
+fn classes_end(list: &DumpSubs) -> usize
     ensures within { result ≤ length list.now }
     ensures none_after { filter_map class_place (drop result list.now) ≡ [] }
 {
@@ -65,7 +65,7 @@ fn note_sub<'a>(
 /// Dumps have their classes at the front, so only the IDs of the objects before the last class are noted.
 pub(crate) fn standing_classes<'a>(
     alloc: Global,
-    list: &'a Subs,
+    list: &'a DumpSubs,
 ) -> Result<IndexMap<u64, Standing<'a>>, AllocError>
     ensures { IfOk result (λ m. HasStanding list.now m.entries) }
 {

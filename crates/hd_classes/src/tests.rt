@@ -3,7 +3,7 @@ ghost use Rattle.hd_classes.specs.Known.{IsTextWithin};
 
 use super::*;
 use hd_records::{Texts, read_records};
-use hd_subs::{Subs, read_segment_into};
+use hd_subs::{DumpSubs, Subs, read_segment_into};
 use hd_terms::{Cause, EdgeKind, ReadFault, Span};
 use std::alloc::{AllocError, Global};
 use std::test::*;
@@ -93,17 +93,19 @@ fn lie_within(texts: &Texts, len: usize) -> bool
 /// The classes of a file.
 fn classes_of(alloc: Global, bytes: &[u8]) -> Result<Classes, ReadFault> {
     let records = read_records(alloc, bytes)?;
-    let mut list = Subs::new(alloc);
+    let mut part = Subs::new(alloc);
     for span in records.segments.as_slice() {
         let rest = bytes.get(span.start as usize..).unwrap_or(&[]);
         let body = rest.get(..span.len as usize).unwrap_or(&[]);
         if span.start <= 2_147_483_647 {
-            read_segment_into(&mut list, body, records.id_size, span.start)?;
+            read_segment_into(&mut part, body, records.id_size, span.start)?;
         }
     }
     if !lie_within(&records.strings, bytes.len()) {
         return Err(ReadFault::NO_MEMORY);
     }
+    let mut list = DumpSubs::new(alloc);
+    list.push(part)?;
     Classes::build(alloc, bytes, &records, &list)
 }
 

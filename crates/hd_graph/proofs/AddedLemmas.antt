@@ -1,5 +1,5 @@
 -- A class object's row and shape, once its IDs and names were added.
-use Rattle.std.proofs.Common.{◌≡◌, ◌∙◌, ℕ, ◌+◌, ◌≤◌, List, [], ◌∷◌, ◌++◌, length, map, refl, sym, ap, arith}
+use Rattle.std.proofs.Common.{◌≡◌, ◌∙◌, ℕ, ◌+◌, ◌≤◌, List, [], ◌∷◌, ◌++◌, length, map, refl, sym, ap, subst, arith}
 use Rattle.std.proofs.lemmas.List.{length-map}
 use Rattle.hd_terms.specs.declared.IdSize.{IdSize}
 use Rattle.hd_terms.specs.declared.Span.{Span}
@@ -7,25 +7,24 @@ use Rattle.hd_terms.specs.declared.Slot.{Slot}
 use Rattle.hd_terms.specs.declared.Slot.TheVariants as slots
 use Rattle.hd_subs.specs.declared.class.ClassDump.{ClassDump}
 use Rattle.hd_subs.specs.Views.{static_view, constant_view, class_view}
-use Rattle.hd_graph.specs.Table.{Table}
+use Rattle.hd_graph.specs.Table.{Table, id_at}
 use Rattle.hd_graph.specs.Shapes.{ObjectShape, ClassObject}
-use Rattle.hd_graph.specs.ArrayRows.{values_of_statics, values_of_constants, value_ids, value_names, static_bytes, class_row, class_names, class_weight}
+use Rattle.hd_graph.specs.ArrayRows.{HasLinks, links_at, values_of_statics, values_of_constants, value_ids, value_names, static_bytes, class_row, class_names, class_weight}
 use Rattle.hd_graph.specs.Building.{Columns, GrowsBy, Adds, columns}
+use Rattle.hd_graph.proofs.GrownLemmas.{IsOver, grown-over, over-both, over-same, ids-over, same_table}
 use Rattle.hd_graph.proofs.ValueLemmas.{ids-le, length-static-values, length-constant-values}
 
 -- a row that has grown by the IDs of values
 pub grown-room : (bytes : List ℕ) (size : IdSize) (vs : List (ℕ × Span)) (t u : Table) → GrowsBy (value_ids bytes size vs) t u → (length u.ids ≡ length t.ids) × (u.count ≤ t.count + length vs)
 grown-room bytes size vs t u e = (ap (λ (x : Table). length x.ids) e, omega (arith, ap (λ (x : Table). x.count) e, ids-le bytes size vs))
 
--- tables of the same parts are one
-same_table : (t u : Table) → t.ids ≡ u.ids → t.rows ≡ u.rows → t.filling ≡ u.filling → t.count ≡ u.count → t ≡ u
-same_table t u ids rows filling count =
-    ap (λ (x : List ℕ). let m : Table = record { ids = x; rows = t.rows; filling = t.filling; count = t.count } in m) ids
-    ∙ ap (λ (x : List (List ℕ)). let m : Table = record { ids = u.ids; rows = x; filling = t.filling; count = t.count } in m) rows
-    ∙ ap (λ (x : List ℕ). let m : Table = record { ids = u.ids; rows = u.rows; filling = x; count = t.count } in m) filling
-    ∙ ap (λ (x : ℕ). let m : Table = record { ids = u.ids; rows = u.rows; filling = u.filling; count = x } in m) count
+module _ (c : ClassDump) (place : ℕ) (first second third fourth last : Table) (shapes shapes' : List ObjectShape) (ns ks all : List Slot) (b : ℕ) where
+  abbrev bytes : List ℕ
+  bytes = first.bytes
 
-module _ (bytes : List ℕ) (size : IdSize) (c : ClassDump) (first second third fourth last : Table) (shapes shapes' : List ObjectShape) (ns ks all : List Slot) (b : ℕ) where
+  abbrev size : IdSize
+  size = first.size
+
   abbrev statics : List (ℕ × Span)
   statics = values_of_statics (map static_view c.statics.items)
 
@@ -38,12 +37,25 @@ module _ (bytes : List ℕ) (size : IdSize) (c : ClassDump) (first second third 
   abbrev names : List Slot
   names = slots.Super ∷ slots.Loader ∷ slots.Signers ∷ slots.Domain ∷ []
 
-  pub class-added : first.filling ≡ [] → GrowsBy (value_ids bytes size statics) first second → GrowsBy (value_ids bytes size constants) second third → GrowsBy ids third fourth
+  -- the links of the class, where they are read by the third table's file
+  links-are : HasLinks bytes size place (class_view c) → IsOver first third → GrowsBy (links_at third.bytes third.size place) third fourth → GrowsBy ids third fourth
+  links-are links over grows =
+      subst (λ (xs : List ℕ). GrowsBy xs third fourth) links.are (over-same (λ (bs : List ℕ) (n : IdSize). GrowsBy (links_at bs n place) third fourth) first third over grows)
+
+  pub class-added : first.filling ≡ [] → HasLinks bytes size place (class_view c) → GrowsBy (value_ids bytes size statics) first second → GrowsBy (value_ids second.bytes second.size constants) second third
+      → GrowsBy (links_at third.bytes third.size place) third fourth
       → last ≡ record fourth { rows = fourth.rows ++ fourth.filling ∷ []; filling = [] }
       → ns ≡ value_names (λ i. slots.Static i) 0 statics → ks ≡ ns ++ value_names (λ i. slots.Const i) 0 constants → all ≡ ks ++ names
       → b ≡ static_bytes (map static_view c.statics.items) → shapes' ≡ shapes ++ ClassObject b all ∷ []
       → Adds (c.id, class_row bytes size (class_view c), ClassObject (static_bytes (map static_view c.statics.items)) (class_names (class_view c))) (class_weight (class_view c)) (columns first shapes) (columns last shapes')
-  class-added empty to_second to_third to_fourth to_last ns_are ks_are all_are b_is shapes_are =
+  class-added empty links to_second grows_third grows_fourth to_last ns_are ks_are all_are b_is shapes_are =
+      let second_over = grown-over (value_ids bytes size statics) first second to_second in
+      let to_third = ids-over constants first second third second_over grows_third in
+      let third_over = over-both first second third second_over (grown-over (value_ids bytes size constants) second third to_third) in
+      let to_fourth = links-are links third_over grows_fourth in
+      let fourth_over = over-both first third fourth third_over (grown-over ids third fourth to_fourth) in
+      let last_over : IsOver first last =
+      over-both first fourth last fourth_over (record { bytes = ap (λ (t : Table). t.bytes) to_last; size = ap (λ (t : Table). t.size) to_last; ids = ap (λ (t : Table). t.ids) to_last }) in
       let A = value_ids bytes size statics in
       let B = value_ids bytes size constants in
       let filling : fourth.filling ≡ class_row bytes size (class_view c) =
@@ -63,7 +75,7 @@ module _ (bytes : List ℕ) (size : IdSize) (c : ClassDump) (first second third 
       ) in
       record {
         table = same_table last (record first { rows = first.rows ++ class_row bytes size (class_view c) ∷ []; count = last.count })
-            (ap (λ (t : Table). t.ids) to_last ∙ ap (λ (t : Table). t.ids) to_fourth ∙ ap (λ (t : Table). t.ids) to_third ∙ ap (λ (t : Table). t.ids) to_second)
+            (record { bytes = last_over.bytes; size = last_over.size; ids = last_over.ids })
             (ap (λ (t : Table). t.rows) to_last ∙ ap (λ (rs : List (List ℕ)). rs ++ fourth.filling ∷ []) rows ∙ ap (λ (f : List ℕ). first.rows ++ f ∷ []) filling)
             (ap (λ (t : Table). t.filling) to_last ∙ sym empty)
             refl;
@@ -74,15 +86,23 @@ module _ (bytes : List ℕ) (size : IdSize) (c : ClassDump) (first second third 
       }
 
 -- an instance's row and shape, once the IDs in its fields were added
-pub instance-added : (ids : List ℕ) (class weight : ℕ) (shape : ObjectShape) (first second third last : Table) (shapes shapes' : List ObjectShape) → first.filling ≡ [] → GrowsBy ids first second
-    → third ≡ record second { filling = second.filling ++ class ∷ []; count = second.count + 1 } → last ≡ record third { rows = third.rows ++ third.filling ∷ []; filling = [] }
-    → length ids + 1 ≤ weight → shapes' ≡ shapes ++ shape ∷ [] → Adds (0, ids ++ class ∷ [], shape) weight (columns first shapes) (columns last shapes')
-instance-added ids class weight shape first second third last shapes shapes' empty to_second to_third to_last few shapes_are =
+pub instance-added : (ids : List ℕ) (place weight : ℕ) (shape : ObjectShape) (first second third last : Table) (shapes shapes' : List ObjectShape) → first.filling ≡ [] → GrowsBy ids first second
+    → third ≡ record second { filling = second.filling ++ id_at second.bytes second.size place ∷ []; count = second.count + 1 } → last ≡ record third { rows = third.rows ++ third.filling ∷ []; filling = [] }
+    → length ids + 1 ≤ weight → shapes' ≡ shapes ++ shape ∷ [] → Adds (0, ids ++ id_at first.bytes first.size place ∷ [], shape) weight (columns first shapes) (columns last shapes')
+instance-added ids place weight shape first second third last shapes shapes' empty to_second grows_third to_last few shapes_are =
+    let class = id_at first.bytes first.size place in
+    let over = grown-over ids first second to_second in
+    let to_third : third ≡ record second { filling = second.filling ++ class ∷ []; count = second.count + 1 } =
+    over-same (λ (bytes : List ℕ) (size : IdSize). third ≡ record second { filling = second.filling ++ id_at bytes size place ∷ []; count = second.count + 1 }) first second over grows_third in
     let filling : third.filling ≡ ids ++ class ∷ [] = ap (λ (t : Table). t.filling) to_third ∙ ap (λ (f : List ℕ). f ++ class ∷ []) (ap (λ (t : Table). t.filling) to_second ∙ ap (λ (f : List ℕ). f ++ ids) empty) in
     let rows : third.rows ≡ first.rows = ap (λ (t : Table). t.rows) to_third ∙ ap (λ (t : Table). t.rows) to_second in
     record {
       table = same_table last (record first { rows = first.rows ++ (ids ++ class ∷ []) ∷ []; count = last.count })
-          (ap (λ (t : Table). t.ids) to_last ∙ ap (λ (t : Table). t.ids) to_third ∙ ap (λ (t : Table). t.ids) to_second)
+          (record {
+            bytes = ap (λ (t : Table). t.bytes) to_last ∙ ap (λ (t : Table). t.bytes) to_third ∙ over.bytes;
+            size = ap (λ (t : Table). t.size) to_last ∙ ap (λ (t : Table). t.size) to_third ∙ over.size;
+            ids = ap (λ (t : Table). t.ids) to_last ∙ ap (λ (t : Table). t.ids) to_third ∙ over.ids;
+          })
           (ap (λ (t : Table). t.rows) to_last ∙ ap (λ (rs : List (List ℕ)). rs ++ third.filling ∷ []) rows ∙ ap (λ (f : List ℕ). first.rows ++ f ∷ []) filling)
           (ap (λ (t : Table). t.filling) to_last ∙ sym empty)
           refl;

@@ -1,5 +1,5 @@
 -- The class object of a CLASS DUMP at a place of the file.
-use Rattle.std.proofs.Common.{◌≡◌, ◌∙◌, ℕ, suc, ◌+◌, ◌≤◌, List, [], ◌∷◌, ◌++◌, length, drop, Bool, true, false, cond, Some, None, refl, sym, ap, subst, arith, append_assoc, length-append, All}
+use Rattle.std.proofs.Common.{◌≡◌, ◌∙◌, ℕ, suc, ◌+◌, ◌*◌, ◌≤◌, List, [], ◌∷◌, ◌++◌, length, drop, Bool, true, false, cond, Some, None, refl, sym, ap, subst, arith, append_assoc, length-append, All}
 use Rattle.std.specs.List.{AllByRecursion, flat_map}
 use Rattle.std.proofs.lemmas.List.{length-drop, drop-drop}
 use Rattle.std.proofs.lemmas.List.Elements.{All-nil, All-cons}
@@ -20,8 +20,10 @@ use Rattle.hd_terms.specs.Groups.{class_bytes}
 use Rattle.hd_terms.specs.Classes.{ClassTable}
 use Rattle.hd_terms.specs.Objects.{object_of}
 use Rattle.hd_terms.specs.Dump.{Object, SlotEntry}
+use Rattle.hd_graph.specs.Table.{id_at}
 use Rattle.hd_graph.specs.Shapes.{ClassObject, named_slots, row_object}
-use Rattle.hd_graph.specs.ArrayRows.{IsValueWithin, IsClassWithin, values_of_statics, values_of_constants, value_ids, value_names, static_bytes, class_row, class_names, class_weight}
+use Rattle.hd_graph.specs.ArrayRows.{IsValueWithin, IsClassWithin, HasLinks, values_of_statics, values_of_constants, value_ids, value_names, static_bytes, class_row, class_names, class_weight}
+use Rattle.hd_graph.proofs.LocatedLemmas.{id-behind}
 use Rattle.hd_graph.proofs.RisingLemmas.{as-many-names}
 
 -- the slots of names and IDs that come in two parts
@@ -30,6 +32,9 @@ named-append [] ys [] more many = refl
 named-append [] ys (id ∷ ids) more many = absurd (omega arith)
 named-append (x ∷ xs) ys [] more many = absurd (omega arith)
 named-append (x ∷ xs) ys (id ∷ ids) more many = ap (λ (ss : List SlotEntry). strong_slot x id ∷ ss) (named-append xs ys ids more (omega arith))
+
+same_links : (a b c d a' b' c' d' : ℕ) → a ≡ a' → b ≡ b' → c ≡ c' → d ≡ d' → (let xs : List ℕ = a ∷ b ∷ c ∷ d ∷ [] in xs) ≡ a' ∷ b' ∷ c' ∷ d' ∷ []
+same_links a b c d a' b' c' d' p q r s = cc
 
 module _ (bytes : List ℕ) (size : IdSize) where
   -- what stands behind some bytes at a place
@@ -244,3 +249,71 @@ module _ (bytes : List ℕ) (size : IdSize) where
       constants = subst (All (IsValueWithin size (length bytes))) (sym (constants-located constants_place constants.items)) (values-within 2 constants_place constants.items (S ++ (F ++ rest)) constants-there is.1.each);
       bytes = omega (arith, class-heavy, length-drop at bytes, ap (λ (xs : List ℕ). length xs) whole, length-append (sub_record_text (ClassDump head constants statics fields)) rest);
     }
+
+    -- the head up to its super class, and up to each ID behind that
+    abbrev to_super : List ℕ
+    to_super = 0x20 ∷ head.id ++ head.serial
+
+    abbrev to_loader : List ℕ
+    to_loader = to_super ++ head.super
+
+    abbrev to_signers : List ℕ
+    to_signers = to_loader ++ head.loader
+
+    abbrev to_domain : List ℕ
+    to_domain = to_signers ++ head.signers
+
+    -- what stands behind those IDs
+    abbrev behind_links : List ℕ
+    behind_links = head.reserved ++ (head.instance ++ (C ++ (S ++ (F ++ rest))))
+
+    by_domain : drop at bytes ≡ to_domain ++ (head.domain ++ behind_links)
+    by_domain =
+        grouped
+        ∙ append_assoc ((to_domain ++ head.domain) ++ head.reserved) head.instance (C ++ (S ++ (F ++ rest)))
+        ∙ append_assoc (to_domain ++ head.domain) head.reserved (head.instance ++ (C ++ (S ++ (F ++ rest))))
+        ∙ append_assoc to_domain head.domain behind_links
+
+    by_signers : drop at bytes ≡ to_signers ++ (head.signers ++ (head.domain ++ behind_links))
+    by_signers = by_domain ∙ append_assoc to_signers head.signers (head.domain ++ behind_links)
+
+    by_loader : drop at bytes ≡ to_loader ++ (head.loader ++ (head.signers ++ (head.domain ++ behind_links)))
+    by_loader = by_signers ∙ append_assoc to_loader head.loader (head.signers ++ (head.domain ++ behind_links))
+
+    by_super : drop at bytes ≡ to_super ++ (head.super ++ (head.loader ++ (head.signers ++ (head.domain ++ behind_links))))
+    by_super = by_loader ∙ append_assoc to_super head.super (head.loader ++ (head.signers ++ (head.domain ++ behind_links)))
+
+    length-to_super : length to_super ≡ 5 + id_len size
+    length-to_super = omega (arith, length-append (0x20 ∷ head.id) head.serial, is.0.id, is.0.serial)
+
+    length-to_loader : length to_loader ≡ 5 + id_len size + id_len size
+    length-to_loader = omega (arith, length-append to_super head.super, is.0.super, length-to_super)
+
+    length-to_signers : length to_signers ≡ 5 + id_len size + 2 * id_len size
+    length-to_signers = omega (arith, length-append to_loader head.loader, is.0.loader, length-to_loader)
+
+    length-to_domain : length to_domain ≡ 5 + id_len size + 3 * id_len size
+    length-to_domain = omega (arith, length-append to_signers head.signers, is.0.signers, length-to_signers)
+
+    abbrev links_place : ℕ
+    links_place = at + 5 + id_len size
+
+    pub class-links : HasLinks bytes size links_place item
+    class-links =
+        let n = id_len size in
+        let super = id-behind bytes size at to_super head.super _ by_super is.0.super in
+        let loader = id-behind bytes size at to_loader head.loader _ by_loader is.0.loader in
+        let signers = id-behind bytes size at to_signers head.signers _ by_signers is.0.signers in
+        let domain = id-behind bytes size at to_domain head.domain _ by_domain is.0.domain in
+        let super_place : links_place ≡ at + length to_super = omega (arith, length-to_super) in
+        let loader_place : links_place + n ≡ at + length to_loader = omega (arith, length-to_loader) in
+        let signers_place : links_place + 2 * n ≡ at + length to_signers = omega (arith, length-to_signers) in
+        let domain_place : links_place + 3 * n ≡ at + length to_domain = omega (arith, length-to_domain) in
+        let super_is : id_at bytes size links_place ≡ item.super = ap (id_at bytes size) super_place ∙ super.is in
+        let loader_is : id_at bytes size (links_place + n) ≡ item.loader = ap (id_at bytes size) loader_place ∙ loader.is in
+        let signers_is : id_at bytes size (links_place + 2 * n) ≡ item.signers = ap (id_at bytes size) signers_place ∙ signers.is in
+        let domain_is : id_at bytes size (links_place + 3 * n) ≡ item.domain = ap (id_at bytes size) domain_place ∙ domain.is in
+        record {
+          within = omega (arith, domain.within, domain_place);
+          are = same_links _ _ _ _ _ _ _ _ super_is loader_is signers_is domain_is;
+        }

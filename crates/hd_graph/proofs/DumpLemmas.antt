@@ -13,13 +13,12 @@ use Rattle.hd_terms.specs.Dump.{Object, Root}
 use Rattle.hd_terms.specs.Objects.{object_of}
 use Rattle.hd_terms.specs.Roots.{root_of, roots_of}
 use Rattle.hd_graph.specs.Shapes.{row_object, row_objects}
-use Rattle.hd_graph.specs.ArrayRows.{ObjectEntry, entry_of, item_weight, weight, IsItemWithin, roots_in}
-use Rattle.hd_graph.specs.Bodies.{AreBodies, body_at}
+use Rattle.hd_graph.specs.ArrayRows.{ObjectEntry, entry_of, item_weight, weight, IsSubWithin, roots_in}
+use Rattle.hd_decode.specs.Bodies.{AreBodies, body_at, span_total}
 use Rattle.hd_graph.proofs.RowLemmas.{id_of_entry, row_of_entry, shape_of_entry}
-use Rattle.hd_graph.proofs.SpanLemmas.{span_total}
-use Rattle.hd_graph.proofs.ClassLemmas.{class-object, class-within, class-heavy}
-use Rattle.hd_graph.proofs.InstanceLemmas.{instance-object, instance-within, instance-weight}
-use Rattle.hd_graph.proofs.LocatedLemmas.{object_of_entry, array-object, array-within, array-weight, primitive-within, primitive-weight}
+use Rattle.hd_graph.proofs.ClassLemmas.{class-object, class-within, class-links, class-heavy}
+use Rattle.hd_graph.proofs.InstanceLemmas.{instance-object, instance-within, instance-class, instance-weight}
+use Rattle.hd_graph.proofs.LocatedLemmas.{object_of_entry, array-object, array-within, array-class, array-weight, primitive-within, primitive-weight}
 
 module _ (t : ClassTable) (bytes : List ℕ) (size : IdSize) where
   -- where the next sub-record begins
@@ -55,28 +54,28 @@ module _ (t : ClassTable) (bytes : List ℕ) (size : IdSize) where
       ap (cons_option (Some _)) (objects_at (at + length (sub_record_text s)) ss rest (next at s ss rest whole) each.1)
 
   within_at : (at : ℕ) (ss : List SubRecord) (rest : List ℕ) → drop at bytes ≡ flat_map sub_record_text ss ++ rest → AllByRecursion (IsSubRecord size) ss
-      → All (λ (s : Sub). IsItemWithin size (length bytes) s.item) (subs_at size at ss)
-  within_at at [] rest whole each = All-nil (λ (s : Sub). IsItemWithin size (length bytes) s.item)
+      → All (IsSubWithin size bytes) (subs_at size at ss)
+  within_at at [] rest whole each = All-nil (IsSubWithin size bytes)
   within_at at (RootOf kind id more ∷ ss) rest whole each =
-      All-cons (λ (s : Sub). IsItemWithin size (length bytes) s.item) _ _ tt (within_at (at + length (sub_record_text (RootOf kind id more))) ss rest (next at (RootOf kind id more) ss rest whole) each.1)
+      All-cons (IsSubWithin size bytes) _ _ tt (within_at (at + length (sub_record_text (RootOf kind id more))) ss rest (next at (RootOf kind id more) ss rest whole) each.1)
   within_at at (ObjectArray id serial count class elements ∷ ss) rest whole each =
       let s = ObjectArray id serial count class elements in
-      All-cons (λ (s : Sub). IsItemWithin size (length bytes) s.item) _ _
-      (array-within bytes size at id serial count class elements (flat_map sub_record_text ss ++ rest) each.0 (here at s ss rest whole))
+      All-cons (IsSubWithin size bytes) _ _
+      (array-within bytes size at id serial count class elements (flat_map sub_record_text ss ++ rest) each.0 (here at s ss rest whole), array-class bytes size at id serial count class elements (flat_map sub_record_text ss ++ rest) each.0 (here at s ss rest whole))
       (within_at (at + length (sub_record_text s)) ss rest (next at s ss rest whole) each.1)
   within_at at (ClassDump head constants statics fields ∷ ss) rest whole each =
       let s = ClassDump head constants statics fields in
-      All-cons (λ (s : Sub). IsItemWithin size (length bytes) s.item) _ _
-      (class-within bytes size at head constants statics fields (flat_map sub_record_text ss ++ rest) each.0 (here at s ss rest whole))
+      All-cons (IsSubWithin size bytes) _ _
+      (class-within bytes size at head constants statics fields (flat_map sub_record_text ss ++ rest) each.0 (here at s ss rest whole), class-links bytes size at head constants statics fields (flat_map sub_record_text ss ++ rest) each.0 (here at s ss rest whole))
       (within_at (at + length (sub_record_text s)) ss rest (next at s ss rest whole) each.1)
   within_at at (InstanceDump id serial class count values ∷ ss) rest whole each =
       let s = InstanceDump id serial class count values in
-      All-cons (λ (s : Sub). IsItemWithin size (length bytes) s.item) _ _
-      (instance-within bytes size t at id serial class count values (flat_map sub_record_text ss ++ rest) each.0 (here at s ss rest whole))
+      All-cons (IsSubWithin size bytes) _ _
+      (instance-within bytes size t at id serial class count values (flat_map sub_record_text ss ++ rest) each.0 (here at s ss rest whole), instance-class bytes size t at id serial class count values (flat_map sub_record_text ss ++ rest) each.0 (here at s ss rest whole))
       (within_at (at + length (sub_record_text s)) ss rest (next at s ss rest whole) each.1)
   within_at at (PrimitiveArray id serial count element elements ∷ ss) rest whole each =
       let s = PrimitiveArray id serial count element elements in
-      All-cons (λ (s : Sub). IsItemWithin size (length bytes) s.item) _ _
+      All-cons (IsSubWithin size bytes) _ _
       (primitive-within bytes size at id serial count element elements (flat_map sub_record_text ss ++ rest) each.0 (here at s ss rest whole))
       (within_at (at + length (sub_record_text s)) ss rest (next at s ss rest whole) each.1)
 
@@ -148,12 +147,12 @@ module _ (t : ClassTable) (bytes : List ℕ) (size : IdSize) where
       ∙ ap (λ (xs : List Root). roots_of size s ++ xs) (roots_all spans segments all.1)
       ∙ sym (filter_map-append (root_of size) s (all_of segments))
 
-  pub within_all : (spans : List Span) (segments : List (List SubRecord)) → AreBodies size bytes spans segments → All (λ (s : Sub). IsItemWithin size (length bytes) s.item) (dump_subs_at size spans segments)
-  within_all [] [] all = All-nil (λ (s : Sub). IsItemWithin size (length bytes) s.item)
+  pub within_all : (spans : List Span) (segments : List (List SubRecord)) → AreBodies size bytes spans segments → All (IsSubWithin size bytes) (dump_subs_at size spans segments)
+  within_all [] [] all = All-nil (IsSubWithin size bytes)
   within_all [] (s ∷ segments) all = absurd all
   within_all (p ∷ spans) [] all = absurd all
   within_all (p ∷ spans) (s ∷ segments) all =
-      All-append (λ (s : Sub). IsItemWithin size (length bytes) s.item) (subs_at size p.start s) (dump_subs_at size spans segments) (within_at p.start s _ (from_span p s all.0) all.0.each) (within_all spans segments all.1)
+      All-append (IsSubWithin size bytes) (subs_at size p.start s) (dump_subs_at size spans segments) (within_at p.start s _ (from_span p s all.0) all.0.each) (within_all spans segments all.1)
 
   total-cons : (p : Span) (spans : List Span) → span_total (p ∷ spans) ≡ p.len + span_total spans
   total-cons p spans = omega (arith, sum_by-append (λ (s : Span). s.len) (p ∷ []) spans)

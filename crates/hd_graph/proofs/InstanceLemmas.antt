@@ -1,5 +1,5 @@
 -- Instances: their rows and shapes, and what an INSTANCE DUMP at a place of the file comes to.
-use Rattle.std.proofs.Common.{◌≡◌, ◌∙◌, ℕ, zero, suc, ◌+◌, ◌*◌, ◌<◌, ◌≤◌, inl, inr, List, [], ◌∷◌, ◌++◌, length, map, drop, Option, Some, None, Bool, true, false, cond, eqb, eqb-true, refl, sym, ap, arith, append_assoc, length-append}
+use Rattle.std.proofs.Common.{◌≡◌, ◌∙◌, ℕ, zero, suc, ◌+◌, ◌*◌, ◌<◌, ◌≤◌, inl, inr, List, [], ◌∷◌, ◌++◌, length, map, drop, Option, Some, None, Bool, true, false, cond, eqb, eqb-true, refl, sym, ap, subst, arith, append_assoc, length-append}
 use Rattle.std.specs.Option.{option_map, option_and_then}
 use Rattle.std.specs.List.{AllByRecursion}
 use Rattle.std.proofs.lemmas.List.{length-drop, drop-drop}
@@ -23,10 +23,11 @@ use Rattle.hd_terms.specs.Classes.{ClassTable, LayoutField, KnownClass, layout_l
 use Rattle.hd_terms.specs.Dump.{Object, SlotEntry}
 use Rattle.hd_terms.specs.Slots.{strong_slot, field_kind, field_slots, instance_slots}
 use Rattle.hd_terms.specs.Objects.{object_of}
+use Rattle.hd_graph.specs.Table.{HasIdAt}
 use Rattle.hd_graph.specs.Shapes.{shape_bytes, named_slots, with_kind, referent_kind, HasShape, ComesBefore, IsRising}
 use Rattle.hd_graph.specs.ArrayRows.{placed_fields, value_ids, field_names, layout_names, fitting, instance_entry}
 use Rattle.hd_graph.proofs.CutLemmas.{last_from-push}
-use Rattle.hd_graph.proofs.LocatedLemmas.{object_of_entry}
+use Rattle.hd_graph.proofs.LocatedLemmas.{object_of_entry, id-behind}
 
 -- values that fit a layout have its bytes
 fitting-one : (size : IdSize) (len : ℕ) (x k : KnownClass) (b : Bool) → eqb len (layout_len size x.layout) ≡ b → (let o : Option KnownClass = cond b (Some x) None in o) ≡ Some k → len ≡ layout_len size k.layout
@@ -206,6 +207,13 @@ module _ (bytes : List ℕ) (size : IdSize) where
         let all : length (drop at bytes) ≡ 9 + 2 * id_len size + big_number 4 count + length rest =
         ap (λ (xs : List ℕ). length xs) whole ∙ length-append (sub_record_text (InstanceDump id serial class count values)) rest ∙ ap (λ (n : ℕ). n + length rest) text-long in
         omega (arith, length-drop at bytes, all)
+
+    pub instance-class : HasIdAt bytes size (at + 5 + id_len size) class_id
+    instance-class =
+        let h : List ℕ = 0x21 ∷ id ++ serial in
+        let place : at + length h ≡ at + 5 + id_len size = omega (arith, length-append (0x21 ∷ id) serial, is.0, is.1) in
+        subst (λ (p : ℕ). HasIdAt bytes size p class_id) place
+        (id-behind bytes size at h class (count ++ (values ++ rest)) (whole ∙ append_assoc (h ++ class ++ count) values rest ∙ append_assoc (h ++ class) count (values ++ rest) ∙ append_assoc h class (count ++ (values ++ rest))) is.2)
 
     pub instance-weight : 1 + span.len ≤ length (sub_record_text (InstanceDump id serial class count values))
     instance-weight = omega (arith, text-long)

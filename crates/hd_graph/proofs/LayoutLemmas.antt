@@ -12,8 +12,9 @@ use Rattle.hd_terms.specs.Classes.{layout_len}
 use Rattle.hd_classes.specs.declared.known.LayoutField.{LayoutField}
 use Rattle.hd_classes.specs.Known.{field_view}
 use Rattle.hd_graph.specs.Table.{Table}
-use Rattle.hd_graph.specs.ArrayRows.{placed_fields, value_ids, field_names}
+use Rattle.hd_graph.specs.ArrayRows.{IsValueWithin, placed_fields, value_ids, field_names}
 use Rattle.hd_graph.specs.Building.{GrowsBy}
+use Rattle.hd_graph.proofs.GrownLemmas.{IsOver, grown-over, ids-over, value-over}
 use Rattle.hd_graph.proofs.ValueLemmas.{ids-append, ids-le}
 use Rattle.hd_graph.proofs.InstanceLemmas.{layout_len-cons}
 
@@ -88,60 +89,70 @@ module _ (bytes : List ℕ) (size : IdSize) where
   abbrev pub ids_so_far : ℕ → List LayoutField → ℕ → List ℕ
   ids_so_far start xs i = value_ids bytes size (placed_fields size start (first_fields xs i))
 
-  -- they were added
-  pub record ArePushed (start : ℕ) (xs : List LayoutField) (i : ℕ) (first now : Table) (at : ℕ) : Type 0 where
-    pub table : GrowsBy (ids_so_far start xs i) first now
-    pub at_is : at ≡ start + layout_len size (first_fields xs i)
-    pub few : length (ids_so_far start xs i) ≤ i
-
-  pub none-pushed : (start : ℕ) (xs : List LayoutField) (first : Table) → ArePushed start xs 0 first first start
-  none-pushed start xs first = record {
-    table = ap (λ (f : List ℕ). record first { filling = f; count = first.count }) (sym (append-nil first.filling)) ∙ ap (λ (n : ℕ). record first { filling = first.filling ++ []; count = n }) (sym (add-zero first.count));
-    at_is = sym (add-zero start);
-    few = omega arith;
-  }
-
-  -- one more field
-  pub pushed-more : (start : ℕ) (xs : List LayoutField) (i : ℕ) (d : LayoutField) (first now new : Table) (at at' : ℕ) → i < length xs → ArePushed start xs i first now at
-      → at' ≡ at + value_len size (get_or xs i d).code → GrowsBy (value_ids bytes size (((get_or xs i d).code, record { start = at; len = value_len size (get_or xs i d).code }) ∷ [])) now new
-      → ArePushed start xs (i + 1) first new at'
-  pushed-more start xs i d first now new at at' lt h next grows =
-      let f = field_view (get_or xs i d) in
-      let old = ids_so_far start xs i in
-      let one = value_ids bytes size ((f.code, record { start = at; len = value_len size f.code }) ∷ []) in
-      let more : ids_so_far start xs (i + 1) ≡ old ++ one =
-      ap (λ (fs : List classes_of.LayoutField). value_ids bytes size (placed_fields size start fs)) (one-more xs i d lt)
-      ∙ ap (value_ids bytes size) (placed-push start (first_fields xs i) f)
-      ∙ ids-append bytes size (placed_fields size start (first_fields xs i)) ((f.code, record { start = start + layout_len size (first_fields xs i); len = value_len size f.code }) ∷ [])
-      ∙ ap (λ (n : ℕ). old ++ value_ids bytes size ((f.code, record { start = n; len = value_len size f.code }) ∷ [])) (sym h.at_is) in
-      let count : first.count + length old + length one ≡ first.count + length (old ++ one) = omega (arith, length-append old one) in
-      record {
-        table = grows
-            ∙ ap (λ (t : Table). record t { filling = t.filling ++ one; count = t.count + length one }) h.table
-            ∙ ap (λ (x : List ℕ). record first { filling = x; count = first.count + length old + length one }) (append_assoc first.filling old one)
-            ∙ ap (λ (n : ℕ). record first { filling = first.filling ++ (old ++ one); count = n }) count
-            ∙ ap (λ (ids : List ℕ). record first { filling = first.filling ++ ids; count = first.count + length ids }) (sym more);
-        at_is = omega (arith, next, h.at_is, bytes-more size xs i d lt);
-        few = omega (arith, ap (λ (ids : List ℕ). length ids) more, length-append old one, ids-le bytes size ((f.code, record { start = at; len = value_len size f.code }) ∷ []), h.few);
-      }
-
-  -- a field's value lies in the file
-  pub field-within : (start : ℕ) (xs : List LayoutField) (i : ℕ) (d : LayoutField) (first now : Table) (at : ℕ) → i < length xs → ArePushed start xs i first now at → start + layout_len size (map field_view xs) ≤ length bytes
-      → at + value_len size (get_or xs i d).code ≤ length bytes
-  field-within start xs i d first now at lt h within = omega (arith, h.at_is, bytes-more size xs i d lt, bytes-within size xs (i + 1), within)
-
-  -- all of them
-  pub all-pushed : (start : ℕ) (xs : List LayoutField) (i : ℕ) (first now : Table) (at : ℕ) → length xs ≤ i → ArePushed start xs i first now at
-      → GrowsBy (value_ids bytes size (placed_fields size start (map field_view xs))) first now
-  all-pushed start xs i first now at past h = subst (λ (fs : List classes_of.LayoutField). GrowsBy (value_ids bytes size (placed_fields size start fs)) first now) (all-fields xs i past) h.table
-
-  -- how many there are
-  pub count-so-far : (start : ℕ) (xs : List LayoutField) (i : ℕ) (first now : Table) (at : ℕ) → ArePushed start xs i first now at → (length now.ids ≡ length first.ids) × (now.count ≤ first.count + i)
-  count-so-far start xs i first now at h = (ap (λ (t : Table). length t.ids) h.table, omega (arith, ap (λ (t : Table). t.count) h.table, h.few))
-
   pub placed-few : (at : ℕ) (fs : List classes_of.LayoutField) → length (value_ids bytes size (placed_fields size at fs)) ≤ length fs
   placed-few at fs = omega (arith, ids-le bytes size (placed_fields size at fs), length-placed at fs)
     where
       length-placed : (at : ℕ) (fs : List classes_of.LayoutField) → length (placed_fields size at fs) ≡ length fs
       length-placed at [] = refl
       length-placed at (f ∷ fs) = ap suc (length-placed (at + value_len size f.code) fs)
+
+-- they were added
+pub record ArePushed (start : ℕ) (xs : List LayoutField) (i : ℕ) (first now : Table) (at : ℕ) : Type 0 where
+  pub table : GrowsBy (ids_so_far first.bytes first.size start xs i) first now
+  pub at_is : at ≡ start + layout_len first.size (first_fields xs i)
+  pub few : length (ids_so_far first.bytes first.size start xs i) ≤ i
+
+pub none-pushed : (start : ℕ) (xs : List LayoutField) (first : Table) → ArePushed start xs 0 first first start
+none-pushed start xs first = record {
+  table = ap (λ (f : List ℕ). record first { filling = f; count = first.count }) (sym (append-nil first.filling)) ∙ ap (λ (n : ℕ). record first { filling = first.filling ++ []; count = n }) (sym (add-zero first.count));
+  at_is = sym (add-zero start);
+  few = omega arith;
+}
+
+-- they are over the same file
+over-so-far : (start : ℕ) (xs : List LayoutField) (i : ℕ) (first now : Table) (at : ℕ) → ArePushed start xs i first now at → IsOver first now
+over-so-far start xs i first now at h = grown-over (ids_so_far first.bytes first.size start xs i) first now h.table
+
+-- one more field
+pub pushed-more : (start : ℕ) (xs : List LayoutField) (i : ℕ) (d : LayoutField) (first now new : Table) (at at' : ℕ) → i < length xs → ArePushed start xs i first now at
+    → at' ≡ at + value_len first.size (get_or xs i d).code → GrowsBy (value_ids now.bytes now.size (((get_or xs i d).code, record { start = at; len = value_len first.size (get_or xs i d).code }) ∷ [])) now new
+    → ArePushed start xs (i + 1) first new at'
+pushed-more start xs i d first now new at at' lt h next grows =
+    let f = field_view (get_or xs i d) in
+    let old = ids_so_far first.bytes first.size start xs i in
+    let one = value_ids first.bytes first.size ((f.code, record { start = at; len = value_len first.size f.code }) ∷ []) in
+    let more : ids_so_far first.bytes first.size start xs (i + 1) ≡ old ++ one =
+    ap (λ (fs : List classes_of.LayoutField). value_ids first.bytes first.size (placed_fields first.size start fs)) (one-more xs i d lt)
+    ∙ ap (value_ids first.bytes first.size) (placed-push first.bytes first.size start (first_fields xs i) f)
+    ∙ ids-append first.bytes first.size (placed_fields first.size start (first_fields xs i)) ((f.code, record { start = start + layout_len first.size (first_fields xs i); len = value_len first.size f.code }) ∷ [])
+    ∙ ap (λ (n : ℕ). old ++ value_ids first.bytes first.size ((f.code, record { start = n; len = value_len first.size f.code }) ∷ [])) (sym h.at_is) in
+    let count : first.count + length old + length one ≡ first.count + length (old ++ one) = omega (arith, length-append old one) in
+    record {
+      table = ids-over ((f.code, record { start = at; len = value_len first.size f.code }) ∷ []) first now new (over-so-far start xs i first now at h) grows
+          ∙ ap (λ (t : Table). record t { filling = t.filling ++ one; count = t.count + length one }) h.table
+          ∙ ap (λ (x : List ℕ). record first { filling = x; count = first.count + length old + length one }) (append_assoc first.filling old one)
+          ∙ ap (λ (n : ℕ). record first { filling = first.filling ++ (old ++ one); count = n }) count
+          ∙ ap (λ (ids : List ℕ). record first { filling = first.filling ++ ids; count = first.count + length ids }) (sym more);
+      at_is = omega (arith, next, h.at_is, bytes-more first.size xs i d lt);
+      few = omega (arith, ap (λ (ids : List ℕ). length ids) more, length-append old one, ids-le first.bytes first.size ((f.code, record { start = at; len = value_len first.size f.code }) ∷ []), h.few);
+    }
+
+-- a field's value lies in the file
+pub field-within : (start : ℕ) (xs : List LayoutField) (i : ℕ) (d : LayoutField) (first now : Table) (at : ℕ) → i < length xs → ArePushed start xs i first now at → start + layout_len first.size (map field_view xs) ≤ length first.bytes
+    → at + value_len first.size (get_or xs i d).code ≤ length first.bytes
+field-within start xs i d first now at lt h within = omega (arith, h.at_is, bytes-more first.size xs i d lt, bytes-within first.size xs (i + 1), within)
+
+pub value-within : (start : ℕ) (xs : List LayoutField) (i : ℕ) (d : LayoutField) (first now : Table) (at n : ℕ) → i < length xs → ArePushed start xs i first now at → start + layout_len first.size (map field_view xs) ≤ length first.bytes
+    → n ≡ value_len first.size (get_or xs i d).code → IsValueWithin now.size (length now.bytes) ((get_or xs i d).code, record { start = at; len = n })
+value-within start xs i d first now at n lt h within is =
+    value-over first now ((get_or xs i d).code, record { start = at; len = n }) (over-so-far start xs i first now at h)
+    (record { within = omega (arith, field-within start xs i d first now at lt h within, is); typed = is })
+
+-- all of them
+pub all-pushed : (start : ℕ) (xs : List LayoutField) (i : ℕ) (first now : Table) (at : ℕ) → length xs ≤ i → ArePushed start xs i first now at
+    → GrowsBy (value_ids first.bytes first.size (placed_fields first.size start (map field_view xs))) first now
+all-pushed start xs i first now at past h = subst (λ (fs : List classes_of.LayoutField). GrowsBy (value_ids first.bytes first.size (placed_fields first.size start fs)) first now) (all-fields xs i past) h.table
+
+-- how many there are
+pub count-so-far : (start : ℕ) (xs : List LayoutField) (i : ℕ) (first now : Table) (at : ℕ) → ArePushed start xs i first now at → (length now.ids ≡ length first.ids) × (now.count ≤ first.count + i)
+count-so-far start xs i first now at h = (ap (λ (t : Table). length t.ids) h.table, omega (arith, ap (λ (t : Table). t.count) h.table, h.few))

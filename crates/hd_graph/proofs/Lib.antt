@@ -1,6 +1,7 @@
 pub mod CutLemmas
 pub mod CodeLemmas
 pub mod TableLemmas
+pub mod ResolvingLemmas
 pub mod RowSlots
 pub mod ShapeLemmas
 pub mod KeptLemmas
@@ -8,12 +9,11 @@ pub mod RisingLemmas
 pub mod ClassLemmas
 pub mod ValueLemmas
 pub mod AddedLemmas
+pub mod GrownLemmas
 pub mod ArrayLemmas
-pub mod FirstLemmas
 pub mod NumberLemmas
 pub mod RowLemmas
-pub mod BodyLemmas
-pub mod SpanLemmas
+pub mod TextLemmas
 pub mod LocatedLemmas
 pub mod InstanceLemmas
 pub mod LayoutLemmas

@@ -1,5 +1,5 @@
 -- What the list of sub-records says of the sub-records of the definition, by their places in the file.
-use Rattle.std.proofs.Common.{◌≡◌, ◌∙◌, ℕ, ◌+◌, ◌*◌, ◌/◌, ◌≤◌, List, [], ◌∷◌, ◌++◌, length, map, drop, Some, None, refl, sym, ap, arith, append_assoc, length-append, mul_comm}
+use Rattle.std.proofs.Common.{◌≡◌, ◌∙◌, ℕ, ◌+◌, ◌*◌, ◌/◌, ◌≤◌, List, [], ◌∷◌, ◌++◌, length, map, drop, Some, None, refl, sym, ap, subst, arith, append_assoc, length-append, mul_comm}
 use Rattle.std.specs.List.{AllByRecursion, concat}
 use Rattle.std.proofs.lemmas.List.{length-drop, drop-drop}
 use Rattle.std.proofs.Math.Seq.{drop-append_seam}
@@ -18,6 +18,7 @@ use Rattle.hd_terms.specs.Dump.{Object, SlotEntry}
 use Rattle.hd_terms.specs.Slots.{strong_slot, element_slots}
 use Rattle.hd_terms.specs.Classes.{ClassTable}
 use Rattle.hd_terms.specs.Objects.{object_of}
+use Rattle.hd_graph.specs.Table.{HasIdAt}
 use Rattle.hd_graph.specs.Arrays.{row_slots}
 use Rattle.hd_graph.specs.Shapes.{ObjectArray, row_object}
 use Rattle.hd_graph.specs.ArrayRows.{ObjectEntry, array_row, ids_in, id_count}
@@ -62,6 +63,19 @@ bytes-turned sizes.Eight n = omega arith
 count-le : (size : IdSize) (n : ℕ) → n ≤ id_len size * n
 count-le sizes.Four n = omega arith
 count-le sizes.Eight n = omega arith
+
+some-bytes : (size : IdSize) → 1 ≤ id_len size
+some-bytes sizes.Four = omega arith
+some-bytes sizes.Eight = omega arith
+
+-- an ID lies behind some bytes at a place
+pub id-behind : (bytes : List ℕ) (size : IdSize) (at : ℕ) (front id rest : List ℕ) → drop at bytes ≡ front ++ (id ++ rest) → length id ≡ id_len size → HasIdAt bytes size (at + length front) (big_number (id_len size) id)
+id-behind bytes size at front id rest whole long =
+    let there : drop (at + length front) bytes ≡ id ++ rest = sym (drop-drop (length front) at bytes) ∙ ap (drop (length front)) whole ∙ drop-append_seam front (id ++ rest) in
+    record {
+      within = omega (arith, length-drop at bytes, ap (λ (xs : List ℕ). length xs) whole, length-append front (id ++ rest), length-append id rest, long, some-bytes size);
+      is = ap (big_number (id_len size)) there ∙ big_from-append (id_len size) id rest (omega (arith, long));
+    }
 
 -- an object array's text before its elements
 abbrev array_head : List ℕ → List ℕ → List ℕ → List ℕ → List ℕ
@@ -115,6 +129,13 @@ module _ (bytes : List ℕ) (size : IdSize) where
         let all : length (drop at bytes) ≡ 9 + 2 * id_len size + id_len size * big_number 4 count + length rest =
         ap (λ (xs : List ℕ). length xs) whole ∙ length-append (sub_record_text (ObjectArray id serial count class elements)) rest ∙ ap (λ (n : ℕ). n + length rest) text-long in
         omega (arith, length-drop at bytes, all)
+
+    pub array-class : HasIdAt bytes size (at + 9 + id_len size) class_id
+    array-class =
+        let h : List ℕ = 0x22 ∷ id ++ serial ++ count in
+        let place : at + length h ≡ at + 9 + id_len size = omega (arith, length-append (0x22 ∷ id ++ serial) count, length-append (0x22 ∷ id) serial, is.0, is.1, is.2) in
+        subst (λ (p : ℕ). HasIdAt bytes size p class_id) place
+        (id-behind bytes size at h class (concat elements ++ rest) (whole ∙ append_assoc (h ++ class) (concat elements) rest ∙ append_assoc h class (concat elements ++ rest)) is.3)
 
     pub array-weight : 1 + span.len ≤ length (sub_record_text (ObjectArray id serial count class elements))
     array-weight = omega (arith, text-long)

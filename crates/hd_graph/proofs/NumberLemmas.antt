@@ -20,10 +20,10 @@ use Rattle.hd_graph.specs.declared.graph.RootRow.{RootRow}
 use Rattle.hd_graph.specs.declared.number.Tally.{Tally}
 use Rattle.hd_graph.specs.GraphInside.{root_of_row}
 use Rattle.hd_graph.specs.ArrayRows.{KnownBy, object_id, roots_in}
-use Rattle.hd_graph.specs.Firsts.{firsts, firsts_from}
+use Rattle.hd_classes.specs.Firsts.{firsts, firsts_from}
 use Rattle.hd_graph.specs.Noted.{is_noted, NotesId}
 use Rattle.hd_graph.specs.Numbering.{is_misfit, is_opaque, object_fault, object_faults, IsNumbered, NotesObject, IsNullIdOrMemory, IsObjectStop, memory, null, misfit, StopsAt, IsObjectFaultOrMemory}
-use Rattle.hd_graph.proofs.FirstLemmas.{first_of_each-firsts, firsts-push, firsts_from-append, firsts-le, is_known, if_new, known-map, filter_map-le}
+use Rattle.hd_classes.proofs.FirstLemmas.{first_of_each-firsts, firsts-push, firsts_from-append, firsts-le, is_known, if_new, known-map, filter_map-le}
 use Rattle.hd_graph.proofs.RepeatLemmas.{noted-push, repeats-le}
 
 abbrev same : ℕ → ℕ

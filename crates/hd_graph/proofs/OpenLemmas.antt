@@ -1,5 +1,5 @@
 -- What opening a file comes to: its dump, or its fault.
-use Rattle.std.proofs.Common.{◌≡◌, ◌∙◌, ℕ, suc, ◌-◌, ◌<◌, ◌≤◌, ◌^◌, inl, inr, List, [], ◌∷◌, ◌++◌, length, map, Option, Some, Bool, true, cond, eqb, refl, sym, ap, subst, arith, All}
+use Rattle.std.proofs.Common.{◌≡◌, ◌∙◌, ℕ, suc, ◌<◌, ◌≤◌, ◌^◌, inl, inr, List, [], ◌∷◌, ◌++◌, length, map, Option, Some, Bool, true, cond, eqb, refl, sym, ap, subst, arith, All}
 use Rattle.std.specs.Prelude.{count_by}
 use Rattle.std.specs.List.{AllZip, filter, filter_map, slice_get}
 use Rattle.std.proofs.lemmas.List.{length-map}
@@ -28,16 +28,18 @@ use Rattle.hd_graph.specs.declared.graph.RootRow.{RootRow}
 use Rattle.hd_graph.specs.declared.number.Tally.{Tally}
 use Rattle.hd_graph.specs.GraphInside.{root_of_row}
 use Rattle.hd_graph.specs.Table.{Table}
-use Rattle.hd_graph.specs.Firsts.{firsts}
+use Rattle.hd_classes.specs.Firsts.{firsts}
 use Rattle.hd_graph.specs.Shapes.{ObjectShape, IsSmall, AreColumns, row_objects, HasShape}
 use Rattle.hd_graph.specs.ArrayRows.{ObjectEntry, KnownBy, object_id, entry_of, entries_of, weight, item_weight, AreWithin, root_of_item, roots_in}
-use Rattle.hd_graph.specs.Bodies.{AreBodies, ReadsBodies, IsBodiesFault, body_at, IsSpanWithin}
+use Rattle.hd_decode.specs.Bodies.{AreBodies, ReadsBodies, IsBodiesFault, IsBodiesFaultOrMemory, body_at}
 use Rattle.hd_graph.specs.Numbering.{is_misfit, is_opaque, object_fault, object_faults, IsNumbered, IsObjectFaultOrMemory}
-use Rattle.hd_graph.specs.Building.{Columns, HasRowsOf, IsBodiesFaultOrMemory, IsReadFaultOrMemory, AreFewAndShort}
-use Rattle.hd_graph.proofs.FirstLemmas.{firsts-map, first_of_each-firsts, firsts-le, filter_map-le}
+use Rattle.hd_graph.specs.Building.{Columns, HasRowsOf, IsReadFaultOrMemory, AreFewAndShort}
+use Rattle.hd_classes.proofs.FirstLemmas.{firsts-map, first_of_each-firsts, firsts-le, filter_map-le}
 use Rattle.hd_graph.proofs.NumberLemmas.{sub_key, object_subs, standing-firsts}
 use Rattle.hd_graph.proofs.RowLemmas.{id_of_entry, row_of_entry, shape_of_entry, ids-of-entries}
-use Rattle.hd_graph.proofs.SpanLemmas.{IsBodyAt, texts-in-file, span_total, bodies_at, total-le, all_within, bodies_of_records}
+use Rattle.hd_decode.proofs.SpanLemmas.{IsBodyAt, bodies_of_records}
+use Rattle.hd_decode.proofs.Spans as spans_of
+use Rattle.hd_graph.proofs.TextLemmas.{texts-in-file}
 use Rattle.hd_graph.proofs.LocatedLemmas.{object_of_entry}
 use Rattle.hd_graph.proofs.DumpLemmas.{all_of, objects_in, roots_all, within_all, weight_all, weight-cons, row_objects-entries}
 use Rattle.hd_graph.proofs.SmallLemmas.{shapes-small, shapes-fit}
@@ -89,10 +91,7 @@ length-le-weight (s ∷ list) = omega (arith, length-le-weight list, item-heavy 
 module _ (bytes : List ℕ) (size : IdSize) (strings : List Text) (classes : List Load) (spans : List Span) (r : ReadsRecords bytes size strings classes spans) where
   -- the segments lie where they are said to
   located : AllZip (IsBodyAt bytes) spans (filter is_segment r.records)
-  located = subst (λ (ss : List Span). AllZip (IsBodyAt bytes) ss (filter is_segment r.records)) (sym r.spans) (bodies_at bytes size r.header.fits header_len r.records r.whole.whole r.whole.each)
-
-  pub spans-within : All (IsSpanWithin bytes) spans
-  spans-within = all_within bytes spans (filter is_segment r.records) located
+  located = spans_of.located bytes size strings classes spans r
 
   -- so do the texts
   pub texts-within : All (IsTextWithin (length bytes)) strings
@@ -144,9 +143,7 @@ module _ (bytes : List ℕ) (size : IdSize) (strings : List Text) (classes : Lis
     pub list-within : AreWithin size bytes list
     list-within = rw b.list_is (record {
       each = within_all no_table bytes size spans b.segments b.whole;
-      few =
-          let total : span_total spans ≤ length bytes - header_len = subst (λ (ss : List Span). span_total ss ≤ length bytes - header_len) (sym r.spans) (total-le bytes size header_len r.records r.whole.whole r.whole.each) in
-          omega (arith, weight_all no_table bytes size spans b.segments b.whole, total, r.header.fits);
+      few = omega (arith, weight_all no_table bytes size spans b.segments b.whole, spans_of.spans-few bytes size strings classes spans r);
     })
 
     -- the classes of the file

@@ -1,7 +1,7 @@
 -- Filling the rows and shapes of objects, one sub-record after another.
 use Rattle.std.proofs.Common.{◌≡◌, ◌∙◌, ℕ, suc, ◌+◌, ◌-◌, ◌*◌, ◌<◌, ◌≤◌, List, [], ◌∷◌, ◌++◌, length, map, take, drop, Option, Some, None, Bool, true, false, ◌||◌, cond, eqb, eq-eqb, refl, sym, ap, subst, arith, append_assoc, true≢false}
 use Rattle.std.specs.List.{list_any, filter_map, cons_option, slice_get}
-use Rattle.std.proofs.lemmas.List.{append-nil, map-append, length-map, take-append-drop}
+use Rattle.std.proofs.lemmas.List.{append-nil, map-append, length-map, take-append-drop, drop-drop}
 use Rattle.std.proofs.lemmas.List.Elements.{filter_map-append}
 use Rattle.std.proofs.lemmas.List.Folds.{list_any-append}
 use Rattle.std.proofs.lemmas.List.Sums.{sum_by-append}
@@ -10,18 +10,18 @@ use Rattle.hd_terms.specs.declared.IdSize.TheVariants as sizes
 use Rattle.hd_terms.specs.declared.Span.{Span}
 use Rattle.hd_terms.specs.SubRecords.{Sub, Item, ObjArray, PrimArray}
 use Rattle.hd_terms.specs.SubRecords as subs
-use Rattle.hd_graph.specs.Table.{Table}
+use Rattle.hd_graph.specs.Table.{Table, id_at}
 use Rattle.hd_graph.specs.Shapes.{ObjectShape, ObjectArray, PrimitiveArray, ClassObject}
 use Rattle.hd_terms.specs.Types.{element_len}
 use Rattle.hd_terms.specs.FirstRecords.{id_of_item}
 use Rattle.hd_terms.specs.Classes.{KnownClass}
-use Rattle.hd_graph.specs.Firsts.{firsts, firsts_from}
+use Rattle.hd_classes.specs.Firsts.{firsts, firsts_from}
 use Rattle.hd_graph.specs.ArrayRows.{ObjectEntry, KnownBy, fitting, instance_entry, object_id, object_ids, entry_of, entry_of_item, array_row, entries_of, id_count, ids_in, item_weight, class_row, class_names, static_bytes, weight}
-use Rattle.byteorder.specs.Endian.{big_number}
 use Rattle.hd_terms.specs.Records.{id_len}
 use Rattle.hd_graph.proofs.NumberLemmas.{take-next}
 use Rattle.hd_graph.specs.Building.{Columns, AddsNext, FillsItem}
-use Rattle.hd_graph.proofs.FirstLemmas.{firsts-le, filter_map-le, firsts-push, firsts_from-append, firsts-map, is_known, if_new, known-map}
+use Rattle.hd_graph.proofs.GrownLemmas.{IsOver, over-same}
+use Rattle.hd_classes.proofs.FirstLemmas.{firsts-le, filter_map-le, firsts-push, firsts_from-append, firsts-map, is_known, if_new, known-map}
 
 abbrev same : ℕ → ℕ
 same id = id
@@ -40,8 +40,10 @@ pub id-of-instance : (bytes : List ℕ) (size : IdSize) (id class : ℕ) (values
 id-of-instance bytes size id class values None = refl
 id-of-instance bytes size id class values (Some k) = refl
 
--- the rows and shapes of the objects so far, and how many IDs they have at most
+-- the rows and shapes of the objects so far, over the file, and how many IDs they have at most
 pub record IsFilledSoFar (known : KnownBy) (bytes : List ℕ) (size : IdSize) (front : List Sub) (ids : List ℕ) (c : Columns) : Type 0 where
+  pub bytes_are : c.table.bytes ≡ bytes
+  pub size_is : c.table.size ≡ size
   pub ids_are : c.table.ids ≡ ids
   pub rows_are : c.table.rows ≡ map row_of_entry (entries_of known bytes size front)
   pub shapes_are : c.shapes ≡ map shape_of_entry (entries_of known bytes size front)
@@ -139,6 +141,8 @@ module _ (known : KnownBy) (bytes : List ℕ) (size : IdSize) (front : List Sub)
       let same_columns : new ≡ old = adds.other (λ is_next. true≢false (sym e ∙ then_new is_next)) in
       let none : firsts id_of_entry A ++ if_new id_of_entry (is_known id_of_entry A a) a ≡ firsts id_of_entry A = ap (λ (c : Bool). firsts id_of_entry A ++ if_new id_of_entry c a) e ∙ append-nil (firsts id_of_entry A) in
       rw same_columns (record {
+        bytes_are = h.bytes_are;
+        size_is = h.size_is;
         ids_are = h.ids_are;
         rows_are = h.rows_are ∙ ap (map row_of_entry) (sym (all ∙ none));
         shapes_are = h.shapes_are ∙ ap (map shape_of_entry) (sym (all ∙ none));
@@ -149,6 +153,8 @@ module _ (known : KnownBy) (bytes : List ℕ) (size : IdSize) (front : List Sub)
       let one : firsts id_of_entry A ++ if_new id_of_entry (is_known id_of_entry A a) a ≡ firsts id_of_entry A ++ a ∷ [] = ap (λ (c : Bool). firsts id_of_entry A ++ if_new id_of_entry c a) e in
       let added = adds.next (then_next e) in
       record {
+        bytes_are = ap (λ (t : Table). t.bytes) added.table ∙ h.bytes_are;
+        size_is = ap (λ (t : Table). t.size) added.table ∙ h.size_is;
         ids_are = ap (λ (t : Table). t.ids) added.table ∙ h.ids_are;
         rows_are = ap (λ (t : Table). t.rows) added.table ∙ ap (λ (rs : List (List ℕ)). rs ++ a.1 ∷ []) h.rows_are ∙ sym (map-append row_of_entry (firsts id_of_entry A) (a ∷ [])) ∙ ap (map row_of_entry) (sym (all ∙ one));
         shapes_are = added.shapes ∙ ap (λ (ss : List ObjectShape). ss ++ a.2 ∷ []) h.shapes_are ∙ sym (map-append shape_of_entry (firsts id_of_entry A) (a ∷ [])) ∙ ap (map shape_of_entry) (sym (all ∙ one));
@@ -179,6 +185,8 @@ module _ (known : KnownBy) (bytes : List ℕ) (size : IdSize) (front : List Sub)
   fill-push (subs.Root kind id) h same_columns =
       let arrays : filter_map (entry_of known bytes size) (front ++ sub (subs.Root kind id) ∷ []) ≡ A = arrays-push known bytes size front at (subs.Root kind id) ∙ append-nil A in
       rw same_columns (record {
+        bytes_are = h.bytes_are;
+        size_is = h.size_is;
         ids_are = h.ids_are;
         rows_are = h.rows_are ∙ ap (λ (xs : List ObjectEntry). map row_of_entry (firsts id_of_entry xs)) (sym arrays);
         shapes_are = h.shapes_are ∙ ap (λ (xs : List ObjectEntry). map shape_of_entry (firsts id_of_entry xs)) (sym arrays);
@@ -208,11 +216,13 @@ pub split-at-place : (list : List Sub) (i : ℕ) (s : Sub) → slice_get list i 
 split-at-place list i s is = sym (take-append-drop (i + 1) list) ∙ ap (λ (xs : List Sub). xs ++ drop (i + 1) list) (take-next list i s is) ∙ append_assoc (take i list) (s ∷ []) (drop (i + 1) list)
 
 pub fill-next : (known : KnownBy) (bytes : List ℕ) (size : IdSize) (list : List Sub) (i : ℕ) (s : Sub) → slice_get list i ≡ Some s → (old new : Columns)
-    → IsFilledSoFar known bytes size (take i list) (object_ids list) old → FillsItem known bytes size s.item old new → IsFilledSoFar known bytes size (take (i + 1) list) (object_ids list) new
+    → IsFilledSoFar known bytes size (take i list) (object_ids list) old → FillsItem known old.table.bytes old.table.size s.item old new → IsFilledSoFar known bytes size (take (i + 1) list) (object_ids list) new
 fill-next known bytes size list i s is old new h fills =
     let whole : object_ids list ≡ object_ids (take i list ++ s ∷ drop (i + 1) list) = ap object_ids (split-at-place list i s is) in
     let old_so_far : IsFilledSoFar known bytes size (take i list) (object_ids (take i list ++ s ∷ drop (i + 1) list)) old = subst (λ (ids : List ℕ). IsFilledSoFar known bytes size (take i list) ids old) whole h in
-    let new_so_far = fill-push known bytes size (take i list) s.offset (drop (i + 1) list) old new s.item old_so_far fills in
+    let filled : FillsItem known bytes size s.item old new =
+    subst (λ (n : IdSize). FillsItem known bytes n s.item old new) h.size_is (subst (λ (bs : List ℕ). FillsItem known bs old.table.size s.item old new) h.bytes_are fills) in
+    let new_so_far = fill-push known bytes size (take i list) s.offset (drop (i + 1) list) old new s.item old_so_far filled in
     subst (λ (ids : List ℕ). IsFilledSoFar known bytes size (take (i + 1) list) ids new) (sym whole)
     (subst (λ (front : List Sub). IsFilledSoFar known bytes size front (object_ids (take i list ++ s ∷ drop (i + 1) list)) new) (sym (take-next list i s is)) new_so_far)
 
@@ -221,17 +231,40 @@ pub weight-at : (list : List Sub) (i : ℕ) (s : Sub) → slice_get list i ≡ S
 weight-at list i s is =
     omega (arith, sum_by-append (λ (x : Sub). item_weight x.item) (take (i + 1) list) (drop (i + 1) list), ap weight (take-append-drop (i + 1) list), ap weight (take-next list i s is), weight-push (take i list) s)
 
--- one ID fewer is left
-pub ids-step : (n i count : ℕ) (rest filling whole : List ℕ) → i < count → filling ++ ids_in n (count - i) rest ≡ whole
-    → (filling ++ big_number n rest ∷ []) ++ ids_in n (count - (i + 1)) (drop n rest) ≡ whole
-ids-step n i count rest filling whole lt h =
-    let more : count - i ≡ suc (count - (i + 1)) = omega arith in
-    append_assoc filling (big_number n rest ∷ []) (ids_in n (count - (i + 1)) (drop n rest)) ∙ ap (λ (k : ℕ). filling ++ ids_in n k rest) (sym more) ∙ h
+-- of so many IDs that stand one after another the first were added, and those that are left lie from a place on
+pub record AreIdsPushed (first : Table) (start count i : ℕ) (now : Table) (place : ℕ) : Type 0 where
+  pub table : now ≡ record first { filling = now.filling; count = first.count + i }
+  pub ids : now.filling ++ ids_in (id_len first.size) (count - i) (drop place first.bytes) ≡ first.filling ++ ids_in (id_len first.size) count (drop start first.bytes)
+  pub room : place + id_len first.size * (count - i) ≤ length first.bytes
 
-pub room-here : (size : IdSize) (i count len : ℕ) → i < count → id_len size * (count - i) ≤ len → id_len size ≤ len
-room-here sizes.Four i count len lt h = omega arith
-room-here sizes.Eight i count len lt h = omega arith
+room-step : (size : IdSize) (i count place n : ℕ) → i < count → place + id_len size * (count - i) ≤ n → place + id_len size + id_len size * (count - (i + 1)) ≤ n
+room-step sizes.Four i count place n lt h = omega arith
+room-step sizes.Eight i count place n lt h = omega arith
 
-pub room-step : (size : IdSize) (i count len : ℕ) → i < count → id_len size * (count - i) ≤ len → id_len size * (count - (i + 1)) ≤ len - id_len size
-room-step sizes.Four i count len lt h = omega arith
-room-step sizes.Eight i count len lt h = omega arith
+module _ (first : Table) (start count i : ℕ) (now : Table) (place : ℕ) (h : AreIdsPushed first start count i now place) where
+  pushed-over : IsOver first now
+  pushed-over = record { bytes = ap (λ (t : Table). t.bytes) h.table; size = ap (λ (t : Table). t.size) h.table; ids = ap (λ (t : Table). t.ids) h.table }
+
+  -- one ID fewer is left
+  pub id-pushed : (next : Table) → i < count → next ≡ record now { filling = now.filling ++ id_at now.bytes now.size place ∷ []; count = now.count + 1 } → AreIdsPushed first start count (i + 1) next (place + id_len first.size)
+  id-pushed next lt pushed =
+      let n = id_len first.size in
+      let left = count - (i + 1) in
+      let id = id_at first.bytes first.size place in
+      let filling = now.filling ++ id ∷ [] in
+      let to_next : next ≡ record now { filling = filling; count = now.count + 1 } =
+      over-same (λ (bytes : List ℕ) (size : IdSize). next ≡ record now { filling = now.filling ++ id_at bytes size place ∷ []; count = now.count + 1 }) first now pushed-over pushed in
+      let filled : next.filling ≡ filling = ap (λ (t : Table). t.filling) to_next in
+      let more : count - i ≡ suc left = omega arith in
+      record {
+        table = to_next
+            ∙ ap (λ (t : Table). record t { filling = filling; count = t.count + 1 }) h.table
+            ∙ ap (λ (k : ℕ). record first { filling = filling; count = k }) (omega arith)
+            ∙ ap (λ (f : List ℕ). record first { filling = f; count = first.count + (i + 1) }) (sym filled);
+        ids = ap (λ (f : List ℕ). f ++ ids_in n left (drop (place + n) first.bytes)) filled
+            ∙ ap (λ (xs : List ℕ). filling ++ ids_in n left xs) (sym (drop-drop n place first.bytes))
+            ∙ append_assoc now.filling (id ∷ []) (ids_in n left (drop n (drop place first.bytes)))
+            ∙ ap (λ (k : ℕ). now.filling ++ ids_in n k (drop place first.bytes)) (sym more)
+            ∙ h.ids;
+        room = room-step first.size i count place (length first.bytes) lt h.room;
+      }

@@ -7,10 +7,10 @@ use Rattle.hd_terms.specs.Records.{largest_file}
 use Rattle.hd_terms.specs.SubRecords.{Sub, Item, ObjArray, PrimArray}
 use Rattle.hd_terms.specs.SubRecords as subs
 use Rattle.hd_graph.specs.Shapes.{ObjectShape}
-use Rattle.hd_graph.specs.Firsts.{firsts_from}
+use Rattle.hd_classes.specs.Firsts.{firsts_from}
 use Rattle.hd_graph.specs.Shapes.{IsSmall, HasShape}
-use Rattle.hd_graph.specs.ArrayRows.{ObjectEntry, KnownBy, fitting, entry_of, entry_of_item, entries_of, IsItemWithin, AreWithin}
-use Rattle.hd_graph.proofs.FirstLemmas.{is_known}
+use Rattle.hd_graph.specs.ArrayRows.{ObjectEntry, KnownBy, fitting, entry_of, entry_of_item, entries_of, IsItemWithin, IsSubWithin, AreWithin}
+use Rattle.hd_classes.proofs.FirstLemmas.{is_known}
 use Rattle.hd_graph.proofs.RowLemmas.{row_of_entry, shape_of_entry}
 use Rattle.hd_graph.proofs.RisingLemmas.{class-names-many, class-names-rise}
 use Rattle.hd_graph.proofs.InstanceLemmas.{instance-bytes, instance-fits}
@@ -25,18 +25,18 @@ module _ (known : KnownBy) (bytes : List ℕ) (size : IdSize) (fits : length byt
   abbrev HasSmall : ObjectEntry → Type 0
   HasSmall a = IsSmall a.2
 
-  item-small : (i : Item) (rest : List ObjectEntry) → IsItemWithin size (length bytes) i → All HasSmall rest → All HasSmall (cons_option (entry_of_item known bytes size i) rest)
-  item-small (subs.Root kind id) rest within all = all
-  item-small (subs.Class c) rest within all = All-cons HasSmall _ rest (omega (arith, within.bytes)) all
-  item-small (subs.Instance id class values) rest within all =
-      All-cons HasSmall _ rest (omega (arith, instance-bytes bytes size id class values (known class) (fitting size values.len (known class)) refl)) all
-  item-small (ObjArray id class elements) rest within all = All-cons HasSmall _ rest (omega arith) all
-  item-small (PrimArray id element count) rest within all = All-cons HasSmall _ rest (omega arith) all
+  item-small : (at : ℕ) (i : Item) (rest : List ObjectEntry) → IsItemWithin size bytes at i → All HasSmall rest → All HasSmall (cons_option (entry_of_item known bytes size i) rest)
+  item-small at (subs.Root kind id) rest within all = all
+  item-small at (subs.Class c) rest within all = All-cons HasSmall _ rest (omega (arith, within.0.bytes)) all
+  item-small at (subs.Instance id class values) rest within all =
+      All-cons HasSmall _ rest (omega (arith, within.0, instance-bytes bytes size id class values (known class) (fitting size values.len (known class)) refl)) all
+  item-small at (ObjArray id class elements) rest within all = All-cons HasSmall _ rest (omega (arith, within.0)) all
+  item-small at (PrimArray id element count) rest within all = All-cons HasSmall _ rest (omega arith) all
 
-  items-small : (list : List Sub) → All (λ (s : Sub). IsItemWithin size (length bytes) s.item) list → All HasSmall (filter_map (entry_of known bytes size) list)
+  items-small : (list : List Sub) → All (IsSubWithin size bytes) list → All HasSmall (filter_map (entry_of known bytes size) list)
   items-small [] within = All-nil HasSmall
   items-small (s ∷ list) within =
-      item-small s.item (filter_map (entry_of known bytes size) list) (All-head (λ (s : Sub). IsItemWithin size (length bytes) s.item) s list within) (items-small list (All-tail (λ (s : Sub). IsItemWithin size (length bytes) s.item) s list within))
+      item-small s.offset s.item (filter_map (entry_of known bytes size) list) (All-head (IsSubWithin size bytes) s list within) (items-small list (All-tail (IsSubWithin size bytes) s list within))
 
   firsts-small : (key : ObjectEntry → ℕ) (before xs : List ObjectEntry) → All HasSmall xs → All HasSmall (firsts_from key before xs)
   firsts-small key before [] all = All-nil HasSmall

@@ -6,12 +6,13 @@ use Rattle.std.proofs.lemmas.Bool.{lt-ltb}
 use Rattle.std.proofs.lemmas.Map.Keys.{IsDistinct-tail, apart_from_distinct}
 use Rattle.std.proofs.lemmas.List.{map-append, length-map, drop-append-le, take_all, length-take, length-drop, get_or-take, get_or-drop, get_or-map, drop_all}
 use Rattle.std.proofs.lemmas.List.Elements.{All-push, All-weaker}
-use Rattle.hd_graph.specs.Table.{Table, row_at}
-use Rattle.hd_graph.specs.Codes.{id_of_code, IsCode, IsLonger}
+use Rattle.hd_terms.specs.declared.IdSize.{IdSize}
+use Rattle.hd_graph.specs.Table.{Rows, Table, row_at, id_at, IsIdWithin}
+use Rattle.hd_graph.specs.Resolving.{AreCodesOf}
+use Rattle.hd_graph.specs.Codes.{id_of_code, IsCode}
 use Rattle.hd_graph.specs.Cuts.{rows_from, last_from}
-use Rattle.hd_graph.specs.Parts.{table_from, AreParts}
+use Rattle.hd_graph.specs.Parts.{rows_of, AreParts, table_from, ArePlaces}
 use Rattle.hd_graph.proofs.CutLemmas.{rows_from-append, rows_from-push, last_from-push, last_from-within, length-rows_from, row-at}
-use Rattle.hd_graph.proofs.CodeLemmas.{codes-longer, ids-longer}
 
 -- distinct IDs are found at their own places
 pub found-at-place : (ids : List ℕ) (o : ℕ) → IsDistinct eqb ids → o < length ids → position (λ x. eqb (get_or ids o 0) x) ids ≡ Some o
@@ -26,67 +27,85 @@ found-at-place ids o d lt = rw (passed ids o d lt, lt-ltb o (length ids) lt) ref
         let rest = passed xs i (IsDistinct-tail eqb x xs d) (omega arith) in
         rw (ne_eqb (get_or xs i 0) x other) (omega (arith, rest))
 
-module _ (ids starts items absent : List ℕ) (h : AreParts ids starts items absent) where
-  -- one more number, which stands for this ID
-  module _ (longer : List ℕ) (grown : IsLonger absent longer) (code id : ℕ) (is : IsCode ids longer code) (stands : id_of_code ids longer code ≡ id) where
-    decoded : map (id_of_code ids longer) (items ++ code ∷ []) ≡ map (id_of_code ids absent) items ++ id ∷ []
-    decoded = map-append (id_of_code ids longer) items (code ∷ [])
-        ∙ ap (λ (x : ℕ). map (id_of_code ids longer) items ++ x ∷ []) stands
-        ∙ ap (λ (xs : List ℕ). map (id_of_code ids xs) items ++ id ∷ []) grown.is
-        ∙ ap (λ (xs : List ℕ). xs ++ id ∷ []) (ids-longer ids absent grown.more items h.codes)
+-- rows by places of IDs in a file
+module _ (bytes : List ℕ) (size : IdSize) (ids starts places : List ℕ) (h : ArePlaces bytes size ids starts places) where
+  abbrev values : List ℕ
+  values = map (id_at bytes size) places
 
-    pub table-push : table_from ids starts (items ++ code ∷ []) longer ≡ record (table_from ids starts items absent) { filling = (table_from ids starts items absent).filling ++ id ∷ []; count = length items + 1 }
+  -- one more ID
+  module _ (place : ℕ) where
+    more : map (id_at bytes size) (places ++ place ∷ []) ≡ values ++ id_at bytes size place ∷ []
+    more = map-append (id_at bytes size) places (place ∷ [])
+
+    many : length (places ++ place ∷ []) ≡ length places + 1
+    many = length-append places (place ∷ [])
+
+    pub table-push : table_from bytes size ids starts (places ++ place ∷ [])
+        ≡ record (table_from bytes size ids starts places) { filling = (table_from bytes size ids starts places).filling ++ id_at bytes size place ∷ []; count = length places + 1 }
     table-push =
-        let ds = map (id_of_code ids absent) items in
-        let long : length ds ≡ length items = length-map items (id_of_code ids absent) in
-        let within : All (λ s. s ≤ length ds) starts = subst (λ (n : ℕ). All (λ s. s ≤ n) starts) (sym long) h.within in
-        let rows : rows_from starts (map (id_of_code ids longer) (items ++ code ∷ [])) ≡ rows_from starts ds = ap (rows_from starts) decoded ∙ rows_from-append starts ds (id ∷ []) within in
-        let rest : drop (last_from 0 starts) (map (id_of_code ids longer) (items ++ code ∷ [])) ≡ drop (last_from 0 starts) ds ++ id ∷ [] =
-        ap (drop (last_from 0 starts)) decoded ∙ drop-append-le (last_from 0 starts) ds (id ∷ []) (last_from-within (length ds) 0 starts (omega arith) within) in
-        let many : length (items ++ code ∷ []) ≡ length items + 1 = length-append items (code ∷ []) in
-        let t : List (List ℕ) → List ℕ → ℕ → Table = λ rs fs n. record { ids = ids; rows = rs; filling = fs; count = n } in
-        ap (λ rs. t rs (drop (last_from 0 starts) (map (id_of_code ids longer) (items ++ code ∷ []))) (length (items ++ code ∷ []))) rows
-        ∙ ap (λ fs. t (rows_from starts ds) fs (length (items ++ code ∷ []))) rest
-        ∙ ap (λ n. t (rows_from starts ds) (drop (last_from 0 starts) ds ++ id ∷ []) n) many
+        let long : length values ≡ length places = length-map places (id_at bytes size) in
+        let within : All (λ s. s ≤ length values) starts = subst (λ (n : ℕ). All (λ s. s ≤ n) starts) (sym long) h.within in
+        let rows : rows_from starts (map (id_at bytes size) (places ++ place ∷ [])) ≡ rows_from starts values = ap (rows_from starts) more ∙ rows_from-append starts values (id_at bytes size place ∷ []) within in
+        let rest : drop (last_from 0 starts) (map (id_at bytes size) (places ++ place ∷ [])) ≡ drop (last_from 0 starts) values ++ id_at bytes size place ∷ [] =
+        ap (drop (last_from 0 starts)) more ∙ drop-append-le (last_from 0 starts) values (id_at bytes size place ∷ []) (last_from-within (length values) 0 starts (omega arith) within) in
+        let t : List (List ℕ) → List ℕ → ℕ → Table = λ rs fs n. record { bytes = bytes; size = size; ids = ids; rows = rs; filling = fs; count = n } in
+        ap (λ rs. t rs (drop (last_from 0 starts) (map (id_at bytes size) (places ++ place ∷ []))) (length (places ++ place ∷ []))) rows
+        ∙ ap (λ fs. t (rows_from starts values) fs (length (places ++ place ∷ []))) rest
+        ∙ ap (λ n. t (rows_from starts values) (drop (last_from 0 starts) values ++ id_at bytes size place ∷ []) n) many
 
-    pub parts-push : length ids + length items < 2 ^ 32 - 1 → AreParts ids starts (items ++ code ∷ []) longer
-    parts-push room =
-        let many : length (items ++ code ∷ []) ≡ length items + 1 = length-append items (code ∷ []) in
-        record {
-          few = h.few;
-          no_null = h.no_null;
-          distinct = h.distinct;
-          codes = All-push (IsCode ids longer) items code (subst (λ (xs : List ℕ). All (IsCode ids xs) items) (sym grown.is) (codes-longer ids absent grown.more items h.codes)) is;
-          within = All-weaker (λ s. s ≤ length items) (λ s. s ≤ length (items ++ code ∷ [])) (λ s le. omega arith) starts h.within;
-          begins = h.begins;
-          room = omega arith;
-          fewer = let longer_len : length longer ≡ length absent + length grown.more = ap length grown.is ∙ length-append absent grown.more in omega (arith, h.fewer, grown.one);
-        }
+    pub places-push : IsIdWithin size (length bytes) place → length ids + length places < 2 ^ 32 - 1 → ArePlaces bytes size ids starts (places ++ place ∷ [])
+    places-push in_file room = record {
+      small = h.small;
+      few = h.few;
+      no_null = h.no_null;
+      distinct = h.distinct;
+      in_file = All-push (IsIdWithin size (length bytes)) places place h.in_file in_file;
+      within = All-weaker (λ s. s ≤ length places) (λ s. s ≤ length (places ++ place ∷ [])) (λ s le. omega (arith, many)) starts h.within;
+      begins = h.begins;
+      room = omega (arith, many);
+    }
 
   -- one more row
-  pub table-end : table_from ids (starts ++ length items ∷ []) items absent ≡ record (table_from ids starts items absent) { rows = (table_from ids starts items absent).rows ++ (table_from ids starts items absent).filling ∷ []; filling = [] }
+  pub table-end : table_from bytes size ids (starts ++ length places ∷ []) places
+      ≡ record (table_from bytes size ids starts places) { rows = (table_from bytes size ids starts places).rows ++ (table_from bytes size ids starts places).filling ∷ []; filling = [] }
   table-end =
-      let ds = map (id_of_code ids absent) items in
       let s = last_from 0 starts in
-      let long : length ds ≡ length items = length-map items (id_of_code ids absent) in
-      let part : take (length items - s) (drop s ds) ≡ drop s ds = take_all (length items - s) (drop s ds) (omega (arith, length-drop s ds)) in
-      let rows : rows_from (starts ++ length items ∷ []) ds ≡ rows_from starts ds ++ drop s ds ∷ [] = rows_from-push starts (length items) ds h.begins ∙ ap (λ (p : List ℕ). rows_from starts ds ++ p ∷ []) part in
-      let rest : drop (last_from 0 (starts ++ length items ∷ [])) ds ≡ [] = ap (λ (n : ℕ). drop n ds) (last_from-push 0 starts (length items)) ∙ drop_all (length items) ds (omega arith) in
-      let t : List (List ℕ) → List ℕ → Table = λ rs fs. record { ids = ids; rows = rs; filling = fs; count = length items } in
-      ap (λ rs. t rs (drop (last_from 0 (starts ++ length items ∷ [])) ds)) rows ∙ ap (λ fs. t (rows_from starts ds ++ drop s ds ∷ []) fs) rest
+      let long : length values ≡ length places = length-map places (id_at bytes size) in
+      let part : take (length places - s) (drop s values) ≡ drop s values = take_all (length places - s) (drop s values) (omega (arith, length-drop s values)) in
+      let rows : rows_from (starts ++ length places ∷ []) values ≡ rows_from starts values ++ drop s values ∷ [] = rows_from-push starts (length places) values h.begins ∙ ap (λ (p : List ℕ). rows_from starts values ++ p ∷ []) part in
+      let rest : drop (last_from 0 (starts ++ length places ∷ [])) values ≡ [] = ap (λ (n : ℕ). drop n values) (last_from-push 0 starts (length places)) ∙ drop_all (length places) values (omega arith) in
+      let t : List (List ℕ) → List ℕ → Table = λ rs fs. record { bytes = bytes; size = size; ids = ids; rows = rs; filling = fs; count = length places } in
+      ap (λ rs. t rs (drop (last_from 0 (starts ++ length places ∷ [])) values)) rows ∙ ap (λ fs. t (rows_from starts values ++ drop s values ∷ []) fs) rest
 
-  pub parts-end : AreParts ids (starts ++ length items ∷ []) items absent
-  parts-end = record {
+  pub places-end : ArePlaces bytes size ids (starts ++ length places ∷ []) places
+  places-end = record {
+    small = h.small;
     few = h.few;
     no_null = h.no_null;
     distinct = h.distinct;
-    codes = h.codes;
-    within = All-push (λ s. s ≤ length items) starts (length items) h.within (omega arith);
-    begins = omega (arith, length-append starts (length items ∷ []));
+    in_file = h.in_file;
+    within = All-push (λ s. s ≤ length places) starts (length places) h.within (omega arith);
+    begins = omega (arith, length-append starts (length places ∷ []));
     room = h.room;
-    fewer = h.fewer;
   }
 
+  -- numbers that stand for the IDs have the same rows
+  module _ (codes absent : List ℕ) (is : AreCodesOf ids values codes absent) (as_many : length codes ≡ length places) where
+    pub parts-resolved : AreParts ids starts codes absent
+    parts-resolved = record {
+      few = h.few;
+      no_null = h.no_null;
+      distinct = h.distinct;
+      codes = is.codes_are;
+      within = subst (λ (n : ℕ). All (λ s. s ≤ n) starts) (sym as_many) h.within;
+      begins = h.begins;
+      room = omega (arith, as_many, h.room);
+    }
+
+    pub rows-resolved : rows_of ids starts codes absent ≡ record { ids = ids; rows = rows_from starts values }
+    rows-resolved = ap (λ (xs : List ℕ). let t : Rows = record { ids = ids; rows = rows_from starts xs } in t) is.ids_are
+
+module _ (ids starts items absent : List ℕ) (h : AreParts ids starts items absent) where
   -- the row of an object
   module _ (o : ℕ) (lt : o < length (rows_from starts (map (id_of_code ids absent) items))) where
     pub starts-before : suc o < length starts
@@ -101,18 +120,18 @@ module _ (ids starts items absent : List ℕ) (h : AreParts ids starts items abs
     pub end-within : end ≤ length items
     end-within = h.within (suc o) 0 starts-before
 
-    row_is : row_at (table_from ids starts items absent) o ≡ take (end - start) (drop start (map (id_of_code ids absent) items))
+    row_is : row_at (rows_of ids starts items absent) o ≡ take (end - start) (drop start (map (id_of_code ids absent) items))
     row_is = row-at starts (map (id_of_code ids absent) items) o lt
 
-    pub length-row : length (row_at (table_from ids starts items absent) o) ≡ end - start
+    pub length-row : length (row_at (rows_of ids starts items absent) o) ≡ end - start
     length-row = ap length row_is ∙ omega (arith, length-take (end - start) (drop start (map (id_of_code ids absent) items)), length-drop start (map (id_of_code ids absent) items), length-map items (id_of_code ids absent), end-within)
 
     -- a place of the row
-    module _ (i : ℕ) (place : i < length (row_at (table_from ids starts items absent) o)) where
+    module _ (i : ℕ) (place : i < length (row_at (rows_of ids starts items absent) o)) where
       pub item-within : start + i < length items
       item-within = omega (arith, length-row, end-within)
 
-      pub get_or-row : get_or (row_at (table_from ids starts items absent) o) i 0 ≡ id_of_code ids absent (get_or items (start + i) 0)
+      pub get_or-row : get_or (row_at (rows_of ids starts items absent) o) i 0 ≡ id_of_code ids absent (get_or items (start + i) 0)
       get_or-row =
           let ds = map (id_of_code ids absent) items in
           ap (λ (xs : List ℕ). get_or xs i 0) row_is ∙ get_or-take (end - start) (drop start ds) i 0 (omega (arith, length-row)) ∙ get_or-drop start ds i 0

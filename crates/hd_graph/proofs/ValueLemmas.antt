@@ -15,6 +15,7 @@ use Rattle.hd_subs.specs.Views.{static_view, constant_view}
 use Rattle.hd_graph.specs.Table.{Table}
 use Rattle.hd_graph.specs.ArrayRows.{values_of_statics, values_of_constants, value_ids, value_names, static_bytes}
 use Rattle.hd_graph.specs.Building.{GrowsBy}
+use Rattle.hd_graph.proofs.GrownLemmas.{IsOver, grown-over, ids-over}
 
 -- the type and the value at a place
 pub static-at : (xs : List Static) (i : ℕ) (d : Static) → get_or (values_of_statics (map static_view xs)) i (d.code, d.value) ≡ ((get_or xs i d).code, (get_or xs i d).value)
@@ -53,62 +54,66 @@ module _ (bytes : List ℕ) (size : IdSize) where
       by_type true le = omega (arith, le)
       by_type false le = omega (arith, le)
 
-  -- the name of one value's slot
-  abbrev name_of : Slot → ℕ → List Slot
-  name_of slot code = cond (is_id_type code) (slot ∷ []) []
+-- the name of one value's slot
+abbrev name_of : Slot → ℕ → List Slot
+name_of slot code = cond (is_id_type code) (slot ∷ []) []
 
-  names-push : (slot : ℕ → Slot) (k : ℕ) (xs : List (ℕ × Span)) (v : ℕ × Span) → value_names slot k (xs ++ v ∷ []) ≡ value_names slot k xs ++ name_of (slot (k + length xs)) v.0
-  names-push slot k [] v = ap (λ (n : ℕ). name_of (slot n) v.0) (sym (add-zero k))
-  names-push slot k (x ∷ xs) v =
-      let place : k + 1 + length xs ≡ k + suc (length xs) = omega arith in
-      by_type (is_id_type x.0) (names-push slot (k + 1) xs v ∙ ap (λ (n : ℕ). value_names slot (k + 1) xs ++ name_of (slot n) v.0) place)
-    where
-      by_type : (b : Bool) → value_names slot (k + 1) (xs ++ v ∷ []) ≡ value_names slot (k + 1) xs ++ name_of (slot (k + suc (length xs))) v.0
-          → cond b (slot k ∷ value_names slot (k + 1) (xs ++ v ∷ [])) (value_names slot (k + 1) (xs ++ v ∷ [])) ≡ cond b (slot k ∷ value_names slot (k + 1) xs) (value_names slot (k + 1) xs) ++ name_of (slot (k + suc (length xs))) v.0
-      by_type true e = ap (λ (ns : List Slot). slot k ∷ ns) e
-      by_type false e = e
+names-push : (slot : ℕ → Slot) (k : ℕ) (xs : List (ℕ × Span)) (v : ℕ × Span) → value_names slot k (xs ++ v ∷ []) ≡ value_names slot k xs ++ name_of (slot (k + length xs)) v.0
+names-push slot k [] v = ap (λ (n : ℕ). name_of (slot n) v.0) (sym (add-zero k))
+names-push slot k (x ∷ xs) v =
+    let place : k + 1 + length xs ≡ k + suc (length xs) = omega arith in
+    by_type (is_id_type x.0) (names-push slot (k + 1) xs v ∙ ap (λ (n : ℕ). value_names slot (k + 1) xs ++ name_of (slot n) v.0) place)
+  where
+    by_type : (b : Bool) → value_names slot (k + 1) (xs ++ v ∷ []) ≡ value_names slot (k + 1) xs ++ name_of (slot (k + suc (length xs))) v.0
+        → cond b (slot k ∷ value_names slot (k + 1) (xs ++ v ∷ [])) (value_names slot (k + 1) (xs ++ v ∷ [])) ≡ cond b (slot k ∷ value_names slot (k + 1) xs) (value_names slot (k + 1) xs) ++ name_of (slot (k + suc (length xs))) v.0
+    by_type true e = ap (λ (ns : List Slot). slot k ∷ ns) e
+    by_type false e = e
 
-  -- the IDs and names of the values so far were added
-  pub record IsPushedSoFar (slot : ℕ → Slot) (vs : List (ℕ × Span)) (i : ℕ) (first now : Table) (before names : List Slot) : Type 0 where
-    pub table : GrowsBy (value_ids bytes size (take i vs)) first now
-    pub names_are : names ≡ before ++ value_names slot 0 (take i vs)
+-- the IDs and names of the values so far were added
+pub record IsPushedSoFar (slot : ℕ → Slot) (vs : List (ℕ × Span)) (i : ℕ) (first now : Table) (before names : List Slot) : Type 0 where
+  pub table : GrowsBy (value_ids first.bytes first.size (take i vs)) first now
+  pub names_are : names ≡ before ++ value_names slot 0 (take i vs)
 
-  pub none-pushed : (slot : ℕ → Slot) (vs : List (ℕ × Span)) (first : Table) (before : List Slot) → IsPushedSoFar slot vs 0 first first before before
-  none-pushed slot vs first before = record {
-    table = ap (λ (f : List ℕ). record first { filling = f; count = first.count }) (sym (append-nil first.filling)) ∙ ap (λ (n : ℕ). record first { filling = first.filling ++ []; count = n }) (sym (add-zero first.count));
-    names_are = sym (append-nil before);
-  }
+pub none-pushed : (slot : ℕ → Slot) (vs : List (ℕ × Span)) (first : Table) (before : List Slot) → IsPushedSoFar slot vs 0 first first before before
+none-pushed slot vs first before = record {
+  table = ap (λ (f : List ℕ). record first { filling = f; count = first.count }) (sym (append-nil first.filling)) ∙ ap (λ (n : ℕ). record first { filling = first.filling ++ []; count = n }) (sym (add-zero first.count));
+  names_are = sym (append-nil before);
+}
 
-  pub one-pushed : (slot : ℕ → Slot) (vs : List (ℕ × Span)) (i : ℕ) (d : ℕ × Span) (first now next : Table) (before names names' : List Slot) → i < length vs → IsPushedSoFar slot vs i first now before names
-      → (v : ℕ × Span) → get_or vs i d ≡ v → GrowsBy (value_ids bytes size (v ∷ [])) now next → names' ≡ names ++ name_of (slot i) v.0 → IsPushedSoFar slot vs (i + 1) first next before names'
-  one-pushed slot vs i d first now next before names names' lt h v is grows named =
-      let old = value_ids bytes size (take i vs) in
-      let one = value_ids bytes size (v ∷ []) in
-      let more : take (i + 1) vs ≡ take i vs ++ v ∷ [] = take_more vs i d lt ∙ ap (λ (x : ℕ × Span). take i vs ++ x ∷ []) is in
-      let ids : value_ids bytes size (take (i + 1) vs) ≡ old ++ one = ap (value_ids bytes size) more ∙ ids-append (take i vs) (v ∷ []) in
-      let long : 0 + length (take i vs) ≡ i = omega (arith, length-take i vs) in
-      let count : first.count + length old + length one ≡ first.count + length (old ++ one) = omega (arith, length-append old one) in
-      record {
-        table = grows
-            ∙ ap (λ (t : Table). record t { filling = t.filling ++ one; count = t.count + length one }) h.table
-            ∙ ap (λ (f : List ℕ). record first { filling = f; count = first.count + length old + length one }) (append_assoc first.filling old one)
-            ∙ ap (λ (n : ℕ). record first { filling = first.filling ++ (old ++ one); count = n }) count
-            ∙ ap (λ (xs : List ℕ). record first { filling = first.filling ++ xs; count = first.count + length xs }) (sym ids);
-        names_are = named
-            ∙ ap (λ (ns : List Slot). ns ++ name_of (slot i) v.0) h.names_are
-            ∙ append_assoc before (value_names slot 0 (take i vs)) (name_of (slot i) v.0)
-            ∙ ap (λ (n : ℕ). before ++ (value_names slot 0 (take i vs) ++ name_of (slot n) v.0)) (sym long)
-            ∙ ap (λ (ns : List Slot). before ++ ns) (sym (names-push slot 0 (take i vs) v) ∙ ap (value_names slot 0) (sym more));
-      }
+-- they are over the same file
+pub over-so-far : (slot : ℕ → Slot) (vs : List (ℕ × Span)) (i : ℕ) (first now : Table) (before names : List Slot) → IsPushedSoFar slot vs i first now before names → IsOver first now
+over-so-far slot vs i first now before names h = grown-over (value_ids first.bytes first.size (take i vs)) first now h.table
 
-  pub room-so-far : (slot : ℕ → Slot) (vs : List (ℕ × Span)) (i : ℕ) (first now : Table) (before names : List Slot) → IsPushedSoFar slot vs i first now before names → (length now.ids ≡ length first.ids) × (now.count ≤ first.count + i)
-  room-so-far slot vs i first now before names h =
-      (ap (λ (t : Table). length t.ids) h.table, omega (arith, ap (λ (t : Table). t.count) h.table, ids-le (take i vs), length-take i vs))
+pub one-pushed : (slot : ℕ → Slot) (vs : List (ℕ × Span)) (i : ℕ) (d : ℕ × Span) (first now next : Table) (before names names' : List Slot) → i < length vs → IsPushedSoFar slot vs i first now before names
+    → (v : ℕ × Span) → get_or vs i d ≡ v → GrowsBy (value_ids now.bytes now.size (v ∷ [])) now next → names' ≡ names ++ name_of (slot i) v.0 → IsPushedSoFar slot vs (i + 1) first next before names'
+one-pushed slot vs i d first now next before names names' lt h v is grows named =
+    let old = value_ids first.bytes first.size (take i vs) in
+    let one = value_ids first.bytes first.size (v ∷ []) in
+    let more : take (i + 1) vs ≡ take i vs ++ v ∷ [] = take_more vs i d lt ∙ ap (λ (x : ℕ × Span). take i vs ++ x ∷ []) is in
+    let ids : value_ids first.bytes first.size (take (i + 1) vs) ≡ old ++ one = ap (value_ids first.bytes first.size) more ∙ ids-append first.bytes first.size (take i vs) (v ∷ []) in
+    let long : 0 + length (take i vs) ≡ i = omega (arith, length-take i vs) in
+    let count : first.count + length old + length one ≡ first.count + length (old ++ one) = omega (arith, length-append old one) in
+    record {
+      table = ids-over (v ∷ []) first now next (over-so-far slot vs i first now before names h) grows
+          ∙ ap (λ (t : Table). record t { filling = t.filling ++ one; count = t.count + length one }) h.table
+          ∙ ap (λ (f : List ℕ). record first { filling = f; count = first.count + length old + length one }) (append_assoc first.filling old one)
+          ∙ ap (λ (n : ℕ). record first { filling = first.filling ++ (old ++ one); count = n }) count
+          ∙ ap (λ (xs : List ℕ). record first { filling = first.filling ++ xs; count = first.count + length xs }) (sym ids);
+      names_are = named
+          ∙ ap (λ (ns : List Slot). ns ++ name_of (slot i) v.0) h.names_are
+          ∙ append_assoc before (value_names slot 0 (take i vs)) (name_of (slot i) v.0)
+          ∙ ap (λ (n : ℕ). before ++ (value_names slot 0 (take i vs) ++ name_of (slot n) v.0)) (sym long)
+          ∙ ap (λ (ns : List Slot). before ++ ns) (sym (names-push slot 0 (take i vs) v) ∙ ap (value_names slot 0) (sym more));
+    }
 
-  pub all-pushed : (slot : ℕ → Slot) (vs : List (ℕ × Span)) (i : ℕ) (first now : Table) (before names : List Slot) → length vs ≤ i → IsPushedSoFar slot vs i first now before names
-      → GrowsBy (value_ids bytes size vs) first now × (names ≡ before ++ value_names slot 0 vs)
-  all-pushed slot vs i first now before names past h =
-      (subst (λ (xs : List (ℕ × Span)). GrowsBy (value_ids bytes size xs) first now) (take_all i vs past) h.table, h.names_are ∙ ap (λ (xs : List (ℕ × Span)). before ++ value_names slot 0 xs) (take_all i vs past))
+pub room-so-far : (slot : ℕ → Slot) (vs : List (ℕ × Span)) (i : ℕ) (first now : Table) (before names : List Slot) → IsPushedSoFar slot vs i first now before names → (length now.ids ≡ length first.ids) × (now.count ≤ first.count + i)
+room-so-far slot vs i first now before names h =
+    (ap (λ (t : Table). length t.ids) h.table, omega (arith, ap (λ (t : Table). t.count) h.table, ids-le first.bytes first.size (take i vs), length-take i vs))
+
+pub all-pushed : (slot : ℕ → Slot) (vs : List (ℕ × Span)) (i : ℕ) (first now : Table) (before names : List Slot) → length vs ≤ i → IsPushedSoFar slot vs i first now before names
+    → GrowsBy (value_ids first.bytes first.size vs) first now × (names ≡ before ++ value_names slot 0 vs)
+all-pushed slot vs i first now before names past h =
+    (subst (λ (xs : List (ℕ × Span)). GrowsBy (value_ids first.bytes first.size xs) first now) (take_all i vs past) h.table, h.names_are ∙ ap (λ (xs : List (ℕ × Span)). before ++ value_names slot 0 xs) (take_all i vs past))
 
 -- the bytes of statics, one after another
 bytes-append : (xs ys : List Static) → static_bytes (map static_view (xs ++ ys)) ≡ static_bytes (map static_view xs) + static_bytes (map static_view ys)

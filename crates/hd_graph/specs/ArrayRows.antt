@@ -16,7 +16,8 @@ use Rattle.hd_terms.specs.Dump.{Root}
 use Rattle.hd_terms.specs.declared.Slot.{Slot}
 use Rattle.hd_terms.specs.declared.Slot.TheVariants as slots
 use Rattle.hd_graph.specs.Shapes.{ObjectShape, ObjectArray, PrimitiveArray, ClassObject, Instance}
-use Rattle.hd_graph.specs.Firsts.{firsts}
+use Rattle.hd_classes.specs.Firsts.{firsts}
+use Rattle.hd_graph.specs.Table.{id_at, HasIdAt}
 
 -- so many IDs that stand one after another
 abbrev pub ids_in : ℕ → ℕ → List ℕ → List ℕ
@@ -165,15 +166,29 @@ pub record IsClassWithin (size : IdSize) (n : ℕ) (c : ClassItem) : Type 0 wher
   pub constants : All (IsValueWithin size n) (values_of_constants c.constants)
   pub bytes : static_bytes c.statics ≤ n
 
--- what an object has lies in a file of so many bytes
-abbrev pub IsItemWithin : IdSize → ℕ → Item → Type 0
-IsItemWithin size n (subs.Root kind id) = Unit {0}
-IsItemWithin size n (subs.Class c) = IsClassWithin size n c
-IsItemWithin size n (subs.Instance id class values) = values.start + values.len ≤ n
-IsItemWithin size n (ObjArray id class elements) = elements.start + elements.len ≤ n
-IsItemWithin size n (PrimArray id element count) = count * element_len element ≤ n
+-- IDs that stand one after another from a place of the file on: a class's super class, loader, signers and protection domain
+abbrev pub links_at : List ℕ → IdSize → ℕ → List ℕ
+links_at bytes size place =
+    id_at bytes size place ∷ id_at bytes size (place + id_len size) ∷ id_at bytes size (place + 2 * id_len size) ∷ id_at bytes size (place + 3 * id_len size) ∷ []
+
+-- a class has these, and they lie in the file
+pub record HasLinks (bytes : List ℕ) (size : IdSize) (place : ℕ) (c : ClassItem) : Type 0 where
+  pub within : place + 4 * id_len size ≤ length bytes
+  pub are : links_at bytes size place ≡ c.super ∷ c.loader ∷ c.signers ∷ c.domain ∷ []
+
+-- what the sub-record at a place has lies in the file: values and elements, and the IDs of classes behind the tag, the ID and
+-- the serial number, in an array behind its count too
+abbrev pub IsItemWithin : IdSize → List ℕ → ℕ → Item → Type 0
+IsItemWithin size bytes at (subs.Root kind id) = Unit {0}
+IsItemWithin size bytes at (subs.Class c) = IsClassWithin size (length bytes) c × HasLinks bytes size (at + 5 + id_len size) c
+IsItemWithin size bytes at (subs.Instance id class values) = (values.start + values.len ≤ length bytes) × HasIdAt bytes size (at + 5 + id_len size) class
+IsItemWithin size bytes at (ObjArray id class elements) = (elements.start + elements.len ≤ length bytes) × HasIdAt bytes size (at + 9 + id_len size) class
+IsItemWithin size bytes at (PrimArray id element count) = count * element_len element ≤ length bytes
+
+abbrev pub IsSubWithin : IdSize → List ℕ → Sub → Type 0
+IsSubWithin size bytes s = IsItemWithin size bytes s.offset s.item
 
 -- sub-records whose values and elements lie in the file, and that are few enough for numbers of four bytes
 pub record AreWithin (size : IdSize) (bytes : List ℕ) (list : List Sub) : Type 0 where
-  pub each : All (λ (s : Sub). IsItemWithin size (length bytes) s.item) list
+  pub each : All (IsSubWithin size bytes) list
   pub few : weight list ≤ 2147483647

@@ -1,7 +1,6 @@
 -- What the passes over the sub-records come to.
 use Rattle.std.specs.Prelude.{◌≡◌, ◌⊎◌, ◌<◌, ◌≤◌, ◌+◌, ◌^◌, ◌≢◌, ℕ, List, length, slice_get, [], ◌∷◌, ◌++◌, map, Option, Some, None, All}
 use Rattle.hd_terms.specs.declared.IdSize.{IdSize}
-use Rattle.hd_terms.specs.declared.Span.{Span}
 use Rattle.hd_terms.specs.declared.errors.Cause.TheVariants as causes
 use Rattle.hd_terms.specs.declared.errors.ReadFault.{ReadFault}
 use Rattle.hd_terms.specs.SubRecords.{Sub, Item}
@@ -10,12 +9,7 @@ use Rattle.hd_terms.specs.ReadFaults.{fault, IsReadFault}
 use Rattle.hd_classes.specs.Known.{Known}
 use Rattle.hd_graph.specs.Shapes.{ObjectShape}
 use Rattle.hd_graph.specs.Table.{Table}
-use Rattle.hd_graph.specs.Bodies.{IsBodiesFault}
 use Rattle.hd_graph.specs.ArrayRows.{ObjectEntry, KnownBy, object_ids, entry_of_item, entries_of, item_weight, layout_shape}
-
--- want of memory, or the fault of the first body that has one
-abbrev pub IsBodiesFaultOrMemory : IdSize → List ℕ → List Span → ReadFault → Type 0
-IsBodiesFaultOrMemory size bytes spans f = (f ≡ fault causes.OutOfMemory 0) ⊎ IsBodiesFault size bytes spans f
 
 -- want of memory, or the fault of the file
 abbrev pub IsReadFaultOrMemory : List ℕ → ReadFault → Type 0

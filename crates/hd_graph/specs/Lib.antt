@@ -3,13 +3,13 @@ pub mod Codes
 pub mod Cuts
 pub mod Parts
 pub mod Inside
+pub mod LocatedInside
+pub mod Resolving
 pub mod Arrays
 pub mod Shapes
 pub mod KeptShapes
 pub mod GraphInside
-pub mod Firsts
 pub mod ArrayRows
-pub mod Bodies
 pub mod Noted
 pub mod Numbering
 pub mod Building

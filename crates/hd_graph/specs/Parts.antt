@@ -1,18 +1,14 @@
 -- The lists of which rows of IDs are made: the objects' IDs, the starts of the rows, the numbers, the absent IDs.
 use Rattle.std.specs.Prelude.{ℕ, nat_eq, ◌+◌, ◌<◌, ◌≤◌, ◌^◌, List, length, map, drop, All}
 use Rattle.std.specs.List.{IsDistinct}
-use Rattle.hd_graph.specs.Table.{Table}
+use Rattle.hd_terms.specs.declared.IdSize.{IdSize}
+use Rattle.hd_graph.specs.Table.{Rows, Table, id_at, IsIdWithin}
 use Rattle.hd_graph.specs.Codes.{id_of_code, IsCode}
 use Rattle.hd_graph.specs.Cuts.{rows_from, last_from}
 
--- the rows that they stand for
-abbrev pub table_from : (ids starts items absent : List ℕ) → Table
-table_from ids starts items absent = record {
-  ids = ids;
-  rows = rows_from starts (map (id_of_code ids absent) items);
-  filling = drop (last_from 0 starts) (map (id_of_code ids absent) items);
-  count = length items;
-}
+-- the rows that numbers stand for
+abbrev pub rows_of : (ids starts items absent : List ℕ) → Rows
+rows_of ids starts items absent = record { ids = ids; rows = rows_from starts (map (id_of_code ids absent) items) }
 
 -- what holds of them
 pub record AreParts (ids starts items absent : List ℕ) : Type 0 where
@@ -23,4 +19,25 @@ pub record AreParts (ids starts items absent : List ℕ) : Type 0 where
   pub within : All (λ start. start ≤ length items) starts
   pub begins : 0 < length starts
   pub room : length ids + length items < 2 ^ 32
-  pub fewer : length absent ≤ length items
+
+-- the rows that places in a file stand for
+abbrev pub table_from : (bytes : List ℕ) → IdSize → (ids starts places : List ℕ) → Table
+table_from bytes size ids starts places = record {
+  bytes = bytes;
+  size = size;
+  ids = ids;
+  rows = rows_from starts (map (id_at bytes size) places);
+  filling = drop (last_from 0 starts) (map (id_at bytes size) places);
+  count = length places;
+}
+
+-- what holds of them
+pub record ArePlaces (bytes : List ℕ) (size : IdSize) (ids starts places : List ℕ) : Type 0 where
+  pub small : length bytes < 2 ^ 31
+  pub few : length ids < 2 ^ 31
+  pub no_null : All (λ id. 0 < id) ids
+  pub distinct : IsDistinct nat_eq ids
+  pub in_file : All (IsIdWithin size (length bytes)) places
+  pub within : All (λ start. start ≤ length places) starts
+  pub begins : 0 < length starts
+  pub room : length ids + length places < 2 ^ 32

@@ -1,5 +1,5 @@
 //! Making the graph of a dump, in passes over its sub-records.
-ghost use Rattle.std.specs.Prelude.{◌≡◌, nat_eq, ◌+◌, ◌*◌, ◌≤◌, ◌<◌, ◌-◌, ◌^◌, [], ◌∷◌, ◌++◌, length, All, IfOk, IfErr, OnOk};
+ghost use Rattle.std.specs.Prelude.{◌≡◌, nat_eq, ◌+◌, ◌*◌, ◌≤◌, ◌<◌, ◌-◌, ◌^◌, [], ◌∷◌, ◌++◌, length, drop, All, IfOk, IfErr, OnOk};
 ghost use Rattle.std.specs.List.{IsDistinct};
 ghost use Rattle.hd_terms.specs.Records.{id_len};
 ghost use Rattle.hd_terms.specs.Types.{element_len};
@@ -8,109 +8,72 @@ ghost use Rattle.hd_terms.specs.Classes.{class_table};
 ghost use Rattle.hd_terms.specs.HeapFaults.{class_faults};
 ghost use Rattle.hd_records.specs.Reading.{ReadsRecords};
 ghost use Rattle.hd_classes.specs.Known.{AreClassesOf, known_at};
-ghost use Rattle.hd_graph.specs.Bodies.{ReadsBodies, IsSpanWithin, body_at};
-ghost use Rattle.hd_graph.specs.ArrayRows.{AreWithin, IsItemWithin, object_ids, array_row, id_count, ids_in, item_weight};
-ghost use Rattle.hd_graph.specs.Building.{IsBodiesFaultOrMemory, IsReadFaultOrMemory, HasNoRows, HasRowsOf, FillsItem, columns, AreLayouts, AreFewAndShort};
-ghost use Rattle.hd_subs.specs.Reading.{AppendsSegment, IsSegmentFaultOrMemory};
-ghost use Rattle.hd_subs.specs.Views.{item_view};
+ghost use Rattle.std.specs.Arc.{arc_value};
+ghost use Rattle.hd_decode.specs.Bodies.{ReadsBodies};
+ghost use Rattle.hd_graph.specs.Table.{id_at, IsIdWithin};
+ghost use Rattle.hd_graph.specs.ArrayRows.{AreWithin, IsSubWithin, object_ids, array_row, id_count, ids_in, item_weight};
+ghost use Rattle.hd_graph.specs.Building.{IsReadFaultOrMemory, HasNoRows, HasRowsOf, FillsItem, columns, AreLayouts, AreFewAndShort};
+ghost use Rattle.hd_subs.specs.Views.{item_view, sub_view};
 
 use crate::class_rows::push_class;
 use crate::graph::{Graph, Repeats};
 use crate::id_hasher::IdHasher;
 use crate::instance_rows::push_instance;
 use crate::layouts::shapes_of_classes;
+use crate::located::Located;
 use crate::noted::{repeated_loads, repeated_strings};
 use crate::number::{Numbered, number};
-use crate::references::References;
 use crate::shape::Shapes;
 use hd_classes::Classes;
-use hd_records::{Records, Segments, read_records};
-use hd_subs::{Item, Subs, read_segment_into};
+use hd_decode::{Gate, decode};
+use hd_records::{Records, read_records};
+use hd_subs::{DumpSubs, Item, Sub};
 use hd_terms::{IdSize, ReadFault, Span, element_len};
 use indexmap::IndexSet;
 use std::alloc::{AllocError, Global};
+use std::sync::Arc;
+use std::thread::Threads;
 
-/// The references of objects, and their shapes.
+/// The references of objects, by the places of their IDs, and their shapes.
 #[derive(Drop)]
-struct Rows {
-    references: References,
+struct Rows<'a> {
+    references: Located<'a>,
     shapes: Shapes,
 }
 
-/// Adds the sub-records of one segment, whose body is a span of the file.
-fn read_body(list: &mut Subs, bytes: &[u8], id_size: IdSize, span: Span) -> Result<(), ReadFault>
-    requires { IsSpanWithin bytes.now span }
-    ensures ok { OnOk result (AppendsSegment id_size span.start (body_at bytes.now span) list.old list.new) }
-    ensures err { IfErr result (λ f. IsSegmentFaultOrMemory id_size span.start (body_at bytes.now span) f) }
-{
-    let start = span.start as usize;
-    let body = &bytes[start..start + span.len as usize];
-    read_segment_into(list, body, id_size, span.start)
-}
-
-/// The sub-records of the segments, in file order.
-fn read_bodies(
-    alloc: Global,
-    bytes: &[u8],
-    id_size: IdSize,
-    segments: &Segments,
-) -> Result<Subs, ReadFault>
-    requires { All (IsSpanWithin bytes.now) segments.now }
-    ensures ok { IfOk result (λ list. ReadsBodies id_size bytes.now segments.now list) }
-    ensures err { IfErr result (λ f. IsBodiesFaultOrMemory id_size bytes.now segments.now f) }
-{
-    let mut list = Subs::new(alloc);
-    for span in segments.as_slice() {
-        read_body(&mut list, bytes, id_size, *span)?;
-    }
-    Ok(list)
-}
-
-/// Adds so many IDs that stand one after another to the row that is being filled.
-fn push_ids(
-    references: &mut References,
-    id_size: IdSize,
-    bytes: &[u8],
-    count: usize,
-) -> Result<(), AllocError>
-    requires within { id_len id_size * count ≤ length bytes.now }
+/// Adds so many IDs that stand one after another from a place of the file on to the row that is being filled.
+fn push_ids(references: &mut Located<'_>, start: u32, count: u32) -> Result<(), AllocError>
+    requires within { start + id_len references.old.size * count ≤ length references.old.bytes }
+    requires small { length references.old.bytes < 2 ^ 31 }
     requires room { length references.old.ids + references.old.count + count < 2 ^ 32 - 1 }
     ensures { OnOk result (references.new ≡ record references.old {
-      filling = references.old.filling ++ ids_in (id_len id_size) count bytes.now;
+      filling = references.old.filling ++ ids_in (id_len references.old.size) count (drop start references.old.bytes);
       count = references.old.count + count;
     }) }
 {
-    let mut rest = bytes;
+    let id_len = references.id_len();
+    let mut place = start;
     for i in 0..count {
-        references.push(id_size.read(rest))?;
-        (_, rest) = rest.split_at(id_size.bytes());
+        references.push(place)?;
+        place += id_len;
     }
     Ok(())
 }
 
-/// Adds the row of an object array: its elements, read from the file, and then its class.
-fn push_array(
-    references: &mut References,
-    id_size: IdSize,
-    bytes: &[u8],
-    class: u64,
-    elements: Span,
-) -> Result<(), AllocError>
-    requires within { elements.start + elements.len ≤ length bytes.now }
+/// Adds the row of an object array: its elements, and then its class, whose ID lies at this place.
+fn push_array(references: &mut Located<'_>, class: u32, elements: Span) -> Result<(), AllocError>
+    requires class { IsIdWithin references.old.size (length references.old.bytes) class }
+    requires within { elements.start + elements.len ≤ length references.old.bytes }
+    requires small { length references.old.bytes < 2 ^ 31 }
     requires room { length references.old.ids + references.old.count + elements.len + 1 < 2 ^ 32 - 1 }
     requires filled { references.old.filling ≡ [] }
     ensures { OnOk result (references.new ≡ record references.old {
-      rows = references.old.rows ++ array_row bytes.now id_size class elements ∷ [];
-      count = references.old.count + id_count id_size elements + 1;
+      rows = references.old.rows ++ array_row references.old.bytes references.old.size (id_at references.old.bytes references.old.size class) elements ∷ [];
+      count = references.old.count + id_count references.old.size elements + 1;
     }) }
 {
-    let count = elements.len as usize / id_size.bytes();
-    push_ids(
-        references,
-        id_size,
-        &bytes[elements.start as usize..],
-        count,
-    )?;
+    let count = elements.len as u32 / references.id_len();
+    push_ids(references, elements.start as u32, count)?;
     references.push(class)?;
     references.end_row()?;
     Ok(())
@@ -127,41 +90,37 @@ fn bytes_of_elements(element: u8, count: u32) -> u32
 /// Adds the row and the shape of an object, if it comes next.
 fn fill_one(
     alloc: Global,
-    references: &mut References,
+    references: &mut Located<'_>,
     shapes: &mut Shapes,
     classes: &Classes,
-    id_size: IdSize,
-    bytes: &[u8],
-    item: Item<'_>,
+    sub: Sub<'_>,
 ) -> Result<(), AllocError>
-    requires within { IsItemWithin id_size (length bytes.now) (item_view item) }
-    requires small { length bytes.now < 2 ^ 31 }
-    requires room { length references.old.ids + references.old.count + item_weight (item_view item) < 2 ^ 32 - 1 }
+    requires within { IsSubWithin references.old.size references.old.bytes (sub_view sub) }
+    requires small { length references.old.bytes < 2 ^ 31 }
+    requires room { length references.old.ids + references.old.count + item_weight (item_view sub.item) < 2 ^ 32 - 1 }
     requires few { length shapes.old.objects < 2 ^ 32 - 1 }
     requires filled { references.old.filling ≡ [] }
-    requires classes { AreLayouts id_size classes.now shapes.old.layouts }
-    ensures filled { OnOk result (FillsItem (known_at classes.now) bytes.now id_size (item_view item.entry) (columns references.old shapes.old.objects) (columns references.new shapes.new.objects)) }
+    requires classes { AreLayouts references.old.size classes.now shapes.old.layouts }
+    ensures filled { OnOk result (FillsItem (known_at classes.now) references.old.bytes references.old.size (item_view sub.entry.item) (columns references.old shapes.old.objects) (columns references.new shapes.new.objects)) }
     ensures kept { OnOk result (shapes.new.layouts ≡ shapes.old.layouts) }
 {
-    match item {
+    let offset = sub.offset;
+    match sub.item {
         Item::Root(..) => {}
         Item::Class(class) => {
             if references.is_next(class.id) {
-                push_class(alloc, references, shapes, id_size, bytes, class)?;
+                push_class(alloc, references, shapes, class, offset)?;
             }
         }
         Item::Instance { id, class, values } => {
             if references.is_next(id) {
-                push_instance(references, shapes, classes, id_size, bytes, class, values)?;
+                push_instance(references, shapes, classes, class, values, offset)?;
             }
         }
-        Item::ObjArray {
-            id,
-            class,
-            elements,
-        } => {
+        Item::ObjArray { id, elements, .. } => {
             if references.is_next(id) {
-                push_array(references, id_size, bytes, class, elements)?;
+                let class = offset as u32 + 9 + references.id_len();
+                push_array(references, class, elements)?;
                 shapes.push_object_array(elements.len as u32)?;
             }
         }
@@ -179,37 +138,34 @@ fn fill_one(
 /// Adds the row and the shape of each object, in the order of their numbers.
 fn fill_rows(
     alloc: Global,
-    references: &mut References,
+    references: &mut Located<'_>,
     shapes: &mut Shapes,
     classes: &Classes,
-    id_size: IdSize,
-    bytes: &[u8],
-    list: &Subs,
+    list: &DumpSubs,
 ) -> Result<(), AllocError>
-    requires within { AreWithin id_size bytes.now list.now }
-    requires small { length bytes.now < 2 ^ 31 }
+    requires within { AreWithin references.old.size references.old.bytes list.now }
+    requires small { length references.old.bytes < 2 ^ 31 }
     requires ids { references.old.ids ≡ object_ids list.now }
     requires few { length references.old.ids < 2 ^ 31 }
     requires empty { HasNoRows (columns references.old shapes.old.objects) }
-    requires classes { AreLayouts id_size classes.now shapes.old.layouts }
-    ensures { OnOk result (HasRowsOf (known_at classes.now) bytes.now id_size list.now (columns references.new shapes.new.objects)) }
+    requires classes { AreLayouts references.old.size classes.now shapes.old.layouts }
+    ensures { OnOk result (HasRowsOf (known_at classes.now) references.old.bytes references.old.size list.now (columns references.new shapes.new.objects)) }
 {
     for i in 0..list.len() {
-        let item = list.get(i).item;
-        fill_one(alloc, references, shapes, classes, id_size, bytes, item)?;
+        fill_one(alloc, references, shapes, classes, list.get(i))?;
     }
     Ok(())
 }
 
-/// The references and the shapes of the objects of a file, by their IDs.
-fn rows_of(
+/// The references and the shapes of the objects of a file, by the places of their IDs.
+fn rows_of<'a>(
     alloc: Global,
     ids: IndexSet<u64, IdHasher>,
     classes: &Classes,
     id_size: IdSize,
-    bytes: &[u8],
-    list: &Subs,
-) -> Result<Rows, AllocError>
+    bytes: &'a [u8],
+    list: &DumpSubs,
+) -> Result<Rows<'a>, AllocError>
     requires within { AreWithin id_size bytes.now list.now }
     requires small { length bytes.now < 2 ^ 31 }
     requires ids { ids.keys ≡ object_ids list.now }
@@ -221,16 +177,8 @@ fn rows_of(
 {
     let layouts = shapes_of_classes(alloc, id_size, classes)?;
     let mut shapes = Shapes::with_capacity(alloc, ids.len(), layouts)?;
-    let mut references = References::new(alloc, ids)?;
-    fill_rows(
-        alloc,
-        &mut references,
-        &mut shapes,
-        classes,
-        id_size,
-        bytes,
-        list,
-    )?;
+    let mut references = Located::new(alloc, bytes, id_size, ids)?;
+    fill_rows(alloc, &mut references, &mut shapes, classes, list)?;
     Ok(Rows { references, shapes })
 }
 
@@ -241,11 +189,12 @@ impl Graph {
     ///
     /// `NullObject` or `InstanceSize` at the tag of the first object with ID 0 or instance whose values don't fit its class's
     /// layout, an offset into the file in bytes; or want of memory, at 0.
-    pub fn build(
+    pub fn build<R: Threads + Sync>(
+        rt: &R,
         alloc: Global,
         bytes: &[u8],
         records: &Records,
-        list: &Subs,
+        list: &DumpSubs,
         classes: &Classes,
     ) -> Result<Graph, ReadFault>
         requires records { ReadsRecords bytes.now records.now.id_size records.now.strings records.now.loads records.now.segments }
@@ -255,17 +204,12 @@ impl Graph {
         ensures ok { IfOk result (λ graph. IsDumpOf bytes.now graph) }
         ensures err { IfErr result (λ f. IsReadFaultOrMemory bytes.now f) }
     {
+        let id_size = records.id_size;
         let strings = repeated_strings(alloc, &records.strings)?;
         let loads = repeated_loads(alloc, &records.loads)?;
-        let Numbered { ids, roots, tally } = number(alloc, list, classes, records.id_size)?;
-        let Rows { references, shapes } = rows_of(
-            alloc,
-            ids,
-            classes,
-            records.id_size,
-            bytes,
-            list,
-        )?;
+        let Numbered { ids, roots, tally } = number(alloc, list, classes, id_size)?;
+        let Rows { references, shapes } = rows_of(alloc, ids, classes, id_size, bytes, list)?;
+        let references = references.resolve(rt, alloc)?;
         let repeats = Repeats {
             objects: tally.repeated,
             strings,
@@ -275,18 +219,30 @@ impl Graph {
     }
 }
 
-/// The graph of a dump: all of the file is read, one segment after the other.
+/// The graph of a dump. All of the file is read: its records, then its segments by this many workers at once, 1 to 16, each of
+/// which passes the gate first, then its classes and its objects. The answer is the same for every number of workers and every
+/// gate.
 ///
 /// # Errors
 ///
-/// The fault of the file, with its place as an offset in bytes; or want of memory, at 0.
-pub fn open_plain(alloc: Global, bytes: &[u8]) -> Result<Graph, ReadFault>
-    ensures ok { IfOk result (λ graph. IsDumpOf bytes.now graph) }
+/// The fault of the file, with its place as an offset in bytes: the one of least offset in the first phase that has one, in
+/// the order records, sub-records, classes, objects; or want of memory, at 0.
+pub fn open_dump<R: Threads + Sync, G: Gate>(
+    rt: &R,
+    alloc: Global,
+    bytes: &[u8],
+    workers: u32,
+    gate: &G,
+) -> Result<Arc<Graph>, ReadFault>
+    requires some { 1 ≤ workers }
+    requires few { workers ≤ 16 }
+    ensures ok { IfOk result (λ graph. IsDumpOf bytes.now (arc_value graph)) }
     ensures err { IfErr result (λ f. IsReadFaultOrMemory bytes.now f) }
 {
     let records = read_records(alloc, bytes)?;
-    let list = read_bodies(alloc, bytes, records.id_size, &records.segments)?;
+    let list = decode(rt, alloc, bytes, &records, workers, gate)?;
     let classes = Classes::build(alloc, bytes, &records, &list)?;
-    let graph = Graph::build(alloc, bytes, &records, &list, &classes)?;
+    let graph = Graph::build(rt, alloc, bytes, &records, &list, &classes)?;
+    let graph = Arc::new(alloc, graph)?;
     Ok(graph)
 }

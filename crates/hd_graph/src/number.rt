@@ -12,7 +12,7 @@ use crate::id_hasher::IdHasher;
 use crate::layouts::bytes_of_layout;
 use crate::noted::note_id;
 use hd_classes::Classes;
-use hd_subs::{Item, Sub, Subs};
+use hd_subs::{DumpSubs, Item, Sub};
 use hd_terms::{Cause, IdSize, ReadFault, Span};
 use indexmap::IndexSet;
 use std::alloc::Global;
@@ -144,7 +144,7 @@ fn number_one(
 /// with ID 0, and an instance that doesn't fit its class's layout, are faults.
 pub(crate) fn number(
     alloc: Global,
-    list: &Subs,
+    list: &DumpSubs,
     classes: &Classes,
     id_size: IdSize,
 ) -> Result<Numbered, ReadFault>

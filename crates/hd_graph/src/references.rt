@@ -3,15 +3,15 @@ ghost use Rattle.std.specs.Prelude.{◌≡◌, ℕ, nat_eq, ◌+◌, ◌<◌, �
 ghost use Rattle.std.specs.List.{IsDistinct};
 ghost use Rattle.hd_graph.specs.Cuts.{last_from};
 ghost use Rattle.hd_graph.specs.Table.{row_at};
-ghost use Rattle.hd_graph.specs.Codes.{IsCode, IsLonger, id_of_code, target_of_code};
+ghost use Rattle.hd_graph.specs.Codes.{IsCode, id_of_code, target_of_code};
+ghost use Rattle.hd_graph.specs.Parts.{rows_of, AreParts};
 
 use crate::id_hasher::IdHasher;
 use indexmap::IndexSet;
-use std::alloc::{AllocError, Global};
 use std::marker::Model;
 
 /// Stands for null in a slot.
-const NULL: u32 = 0xffff_ffff;
+pub(crate) const NULL: u32 = 0xffff_ffff;
 
 /// The references of objects: for each object a row of IDs, each kept as a number of four bytes. A number below that
 /// of the objects is the object's; `NULL` is null; any other is the place of an ID that is no object's.
@@ -24,34 +24,15 @@ pub(crate) struct References {
 }
 
 impl Model for References {
-    ghost use Rattle.hd_graph.specs.Table.{Table};
+    ghost use Rattle.hd_graph.specs.Table.{Rows};
 
-    ghost Value = { Table };
+    ghost Value = { Rows };
 
-    ghost use Rattle.hd_graph.specs.Inside.{table_of, IsTable};
+    ghost use Rattle.hd_graph.specs.Inside.{rows_in, AreRows};
 
-    ghost view = { table_of };
+    ghost view = { rows_in };
 
-    ghost invariant = { IsTable };
-}
-
-/// The number of an ID: its object's, `NULL` for 0, or that of the next absent ID, which is then kept.
-fn code_of(ids: &IndexSet<u64, IdHasher>, absent: &mut Vec<u64>, id: u64) -> Result<u32, AllocError>
-    requires no_null { All (λ id. 0 < id) ids.now.keys }
-    requires room { length ids.now.keys + length absent.old.items < 2 ^ 32 - 1 }
-    ensures code { IfOk result (λ code. IsCode ids.now.keys absent.new.items code × (id_of_code ids.now.keys absent.new.items code ≡ id)) }
-    ensures kept { OnOk result (IsLonger absent.old.items absent.new.items) }
-    ensures err { OnErr result (absent.new.items ≡ absent.old.items) }
-{
-    if id == 0 {
-        return Ok(NULL);
-    }
-    if let Some(object) = ids.get_index_of(&id) {
-        return Ok(object as u32);
-    }
-    let code = (ids.len() + absent.len()) as u32;
-    absent.push(id)?;
-    Ok(code)
+    ghost invariant = { AreRows };
 }
 
 /// The ID that a number stands for, and the number of its object, if it is one's.
@@ -73,41 +54,22 @@ fn read_code(ids: &[u64], absent: &[u64], code: u32) -> (u64, Option<u32>)
 }
 
 impl References {
-    /// No rows yet, over the objects of these IDs, in the order of their numbers.
-    pub(crate) fn new(alloc: Global, ids: IndexSet<u64, IdHasher>) -> Result<References, AllocError>
-        requires few { length ids.keys < 2 ^ 31 }
-        requires no_null { All (λ id. 0 < id) ids.keys }
-        requires distinct { IsDistinct nat_eq ids.keys }
-        ensures { IfOk result (λ t. t ≡ record { ids = ids.keys; rows = []; filling = []; count = 0 }) }
+    /// The references of the objects of these IDs: rows that start at these places of one list of numbers.
+    pub(crate) fn new(
+        ids: IndexSet<u64, IdHasher>,
+        starts: Vec<u32>,
+        items: Vec<u32>,
+        absent: Vec<u64>,
+    ) -> References
+        requires { AreParts ids.keys starts.items items.items absent.items }
+        ensures { result ≡ rows_of ids.keys starts.items items.items absent.items }
     {
-        let mut starts = Vec::new(alloc);
-        starts.push(0)?;
-        Ok(References {
+        References {
             ids,
             starts,
-            items: Vec::new(alloc),
-            absent: Vec::new(alloc),
-        })
-    }
-
-    /// Adds an ID, 0 for null, to the row that is being filled.
-    pub(crate) fn push(&mut self, id: u64) -> Result<(), AllocError>
-        requires { length self.old.ids + self.old.count < 2 ^ 32 - 1 }
-        ensures { OnOk result (self.new ≡ record self.old { filling = self.old.filling ++ id ∷ []; count = self.old.count + 1 }) }
-    {
-        self.items.reserve(1)?;
-        let code = code_of(&self.ids, &mut self.absent, id)?;
-        self.items.push_reserved(code);
-        Ok(())
-    }
-
-    /// Ends the row that is being filled, and begins the next.
-    pub(crate) fn end_row(&mut self) -> Result<(), AllocError>
-        ensures { OnOk result (self.new ≡ record self.old { rows = self.old.rows ++ self.old.filling ∷ []; filling = [] }) }
-    {
-        let start = self.items.len() as u32;
-        self.starts.push(start)?;
-        Ok(())
+            items,
+            absent,
+        }
     }
 
     /// The IDs of the objects, by number.
@@ -126,15 +88,6 @@ impl References {
             Some(object) => Some(object as u32),
             None => None,
         }
-    }
-
-    /// Whether the next row is that of the object with an ID.
-    pub(crate) fn is_next(&self, id: u64) -> bool
-        ensures { IsTrue result ↔ (slice_get self.now.ids (length self.now.rows) ≡ Some id) }
-    {
-        let next = self.starts.len() - 1;
-        let ids = self.ids.as_slice();
-        next < ids.len() && ids[next] == id
     }
 
     /// How many IDs the row of an object has.

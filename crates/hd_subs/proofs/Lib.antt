@@ -6,3 +6,4 @@ pub mod Values
 pub mod Heads
 pub mod Wholes
 pub mod Steps
+pub mod JoinedLemmas

@@ -3,3 +3,4 @@ pub mod Rows
 pub mod Fronts
 pub mod Parts
 pub mod Reading
+pub mod Joined

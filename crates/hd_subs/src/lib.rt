@@ -3,6 +3,7 @@
 
 mod class;
 mod class_reading;
+mod dump_subs;
 mod reading;
 mod row;
 mod sub;
@@ -10,6 +11,7 @@ mod subs;
 mod types;
 
 pub use class::{ClassDump, Constant, Field, Static};
+pub use dump_subs::DumpSubs;
 pub use reading::{read_segment, read_segment_into};
 pub use sub::{Item, Sub};
 pub use subs::Subs;

@@ -1,11 +1,11 @@
 //! Runs over dumps of classes, primitive arrays and roots of all kinds, written out by hand, with the answers that the
 //! formats demand.
 use crate::run::RunFault;
-use crate::spellings::{self, Dump, Part, dump_fault, dump_of, stats};
-use hd_graph::open_plain;
+use crate::spellings::{self, Dump, Part, dump_fault, dump_of, graph_of, stats};
 use hd_terms::{Cause, Group, IdSize, RootKind};
 use std::alloc::{AllocError, Global};
 use std::test::Fail;
+use std::thread::Threads;
 
 /// A class with a constant and two statics, a sticky root on it, three empty object arrays, and two ints in an array.
 const CLASS_AND_INTS: [u8; 146] = [
@@ -22,8 +22,8 @@ fn segment_file(alloc: Global, body: &[u8]) -> Result<Dump, AllocError> {
 }
 
 /// Whether a session over a segment is answered so.
-fn answers(
-    rt: &HostRuntime,
+fn answers<R: AllocGlobal + Threads + Sync>(
+    rt: &R,
     body: &[u8],
     input: &[u8],
     expected: &[u8],
@@ -33,7 +33,10 @@ fn answers(
 }
 
 /// How opening a segment ends.
-fn opened(rt: &HostRuntime, body: &[u8]) -> Result<Result<(), RunFault>, AllocError> {
+fn opened<R: AllocGlobal + Threads + Sync>(
+    rt: &R,
+    body: &[u8],
+) -> Result<Result<(), RunFault>, AllocError> {
     let file = segment_file(rt.alloc(), body)?;
     Ok(spellings::opened(rt, file.as_slice()))
 }
@@ -67,9 +70,7 @@ fn stat_of_a_class_and_ints(rt: HostRuntime) -> Result<(), Fail> {
 #[test]
 fn groups_and_bytes(rt: HostRuntime) -> Result<(), Fail> {
     let file = segment_file(rt.alloc(), &CLASS_AND_INTS)?;
-    let graph = open_plain(rt.alloc(), file.as_slice())
-        .ok()
-        .ok_or("the dump reads without fault")?;
+    let graph = graph_of(&rt, file.as_slice()).ok_or("the dump reads without fault")?;
     assert_eq!(rt; graph.objects(), 5);
     if graph.objects() == 5 {
         assert_eq!(rt; graph.group_of(0), Group::Classes);
@@ -123,9 +124,7 @@ fn root_kinds(rt: HostRuntime) -> Result<(), Fail> {
     ];
     let body = roots_of_all_kinds(rt.alloc())?;
     let file = segment_file(rt.alloc(), body.as_slice())?;
-    let graph = open_plain(rt.alloc(), file.as_slice())
-        .ok()
-        .ok_or("the dump reads without fault")?;
+    let graph = graph_of(&rt, file.as_slice()).ok_or("the dump reads without fault")?;
     assert_eq!(rt; graph.objects(), 10);
     assert_eq!(rt; graph.roots_len(), 9);
     for (i, kind) in kinds.into_iter().enumerate() {

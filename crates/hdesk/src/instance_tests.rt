@@ -5,6 +5,7 @@ use crate::stat::stat_bytes;
 use hd_terms::{Cause, IdSize};
 use std::alloc::{AllocError, Global};
 use std::test::Fail;
+use std::thread::Threads;
 
 /// The name of the class of weak references.
 const WEAK: &[u8; 27] = b"java/lang/ref/WeakReference";
@@ -96,19 +97,26 @@ fn wide_instance(alloc: Global, values: &[u8]) -> Result<Dump, AllocError> {
 }
 
 /// How opening one segment of these sub-records ends, with IDs of four bytes.
-fn opens(rt: &HostRuntime, parts: &[Part<'_>]) -> Result<Result<(), RunFault>, AllocError> {
+fn opens<R: AllocGlobal + Threads + Sync>(
+    rt: &R,
+    parts: &[Part<'_>],
+) -> Result<Result<(), RunFault>, AllocError> {
     let dump = dump_of(rt.alloc(), IdSize::Four, parts)?;
     Ok(opened(rt, dump.as_slice()))
 }
 
 /// Whether `stat` over one segment of these sub-records writes this, with IDs of four bytes.
-fn counts(rt: &HostRuntime, parts: &[Part<'_>], expected: &str) -> Result<bool, AllocError> {
+fn counts<R: AllocGlobal + Threads + Sync>(
+    rt: &R,
+    parts: &[Part<'_>],
+    expected: &str,
+) -> Result<bool, AllocError> {
     let dump = dump_of(rt.alloc(), IdSize::Four, parts)?;
     Ok(stats(rt, dump.as_slice(), expected))
 }
 
 /// Whether the strength of 0x5 follows the cuts of the references to it: first the weak one, then the final one.
-fn falls_by_cuts(rt: &HostRuntime, dump: &[u8]) -> bool {
+fn falls_by_cuts<R: AllocGlobal + Threads + Sync>(rt: &R, dump: &[u8]) -> bool {
     let lines = b"strength 0x5\ncut 0x21 f0\nstrength 0x5\ncut 0x31 f0\nstrength 0x5\n";
     let replies = b"ok 1\nWEAK\nok 1\nevent 0 fell 0 back 0\nok 1\nFINAL\n\
         ok 1\nevent 1 fell 1 back 0\nok 1\nUNREACHABLE\n";
@@ -301,7 +309,7 @@ fn prefix_opens(ends: &[usize], len: usize) -> Result<(), RunFault> {
 
 /// How many of the proper prefixes of a dump open, all of them without objects; or the length of the first one that ends
 /// otherwise than it has to.
-fn open_prefixes(rt: &HostRuntime, dump: &Dump) -> Result<u32, usize> {
+fn open_prefixes<R: AllocGlobal + Threads + Sync>(rt: &R, dump: &Dump) -> Result<u32, usize> {
     let bytes = dump.as_slice();
     let mut count = 0u32;
     for len in 0..bytes.len() {

@@ -25,20 +25,27 @@ mod spellings;
 mod stat;
 #[cfg(test)]
 mod tests;
+#[cfg(test)]
+mod worker_tests;
 
 use std::env;
-use std::io::{self, BufReader, BufWriter};
+use std::fs::File;
+use std::io::{self, BufReader, BufWriter, Write};
 use std::process::ExitCode;
+use std::rt::{Env, Files};
+use std::thread::Threads;
 
-/// Binds the program to the words, the standard streams and the memory of the process.
-fn start(rt: &HostRuntime) -> io::Result<u8> {
+/// Binds the program to the words, the standard streams and the memory of the process. Faults are told on `faults`.
+fn start<R: AllocGlobal + Env + Files<File = File> + Input + Print + Threads + Sync, E: Write>(
+    rt: &R,
+    faults: &mut E,
+) -> io::Result<u8> {
     let mut words = env::args(rt)?;
     let _name = words.next();
     let words: Vec<String> = words.collect(rt.alloc())?;
     let mut input = BufReader::new(rt.alloc(), rt.reader())?;
     let mut output = BufWriter::new(rt.alloc(), io::writer(rt))?;
-    let mut faults = rt.stderr();
-    let status = program::program(rt, words.as_slice(), &mut input, &mut output, &mut faults);
+    let status = program::program(rt, words.as_slice(), &mut input, &mut output, faults);
     Ok(status)
 }
 
@@ -57,7 +64,8 @@ fn not_started(rt: &HostRuntime, kind: io::ErrorKind) -> u8 {
 }
 
 fn main(rt: HostRuntime) -> ExitCode {
-    match start(&rt) {
+    let mut faults = rt.stderr();
+    match start(&rt, &mut faults) {
         Ok(status) => ExitCode::from(status),
         Err(error) => ExitCode::from(not_started(&rt, error.kind())),
     }

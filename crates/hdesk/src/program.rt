@@ -16,6 +16,7 @@ use clap::error::ErrorKind;
 use std::fs::File;
 use std::io::{BufRead, Write};
 use std::rt::Files;
+use std::thread::Threads;
 
 /// The run ended well.
 pub const DONE: u8 = 0;
@@ -79,7 +80,7 @@ fn told_usage<E: Write>(error: &Error, faults: &mut E) -> u8 {
 }
 
 /// Serves one analyst's lines over a file. The file's bytes are given up before the first line.
-fn run_file<T: AllocGlobal + Files<File = File>, R: BufRead, W: Write>(
+fn run_file<T: AllocGlobal + Files<File = File> + Threads + Sync, R: BufRead, W: Write>(
     rt: &T,
     bytes: Vec<u8>,
     workers: u32,
@@ -97,7 +98,7 @@ fn run_file<T: AllocGlobal + Files<File = File>, R: BufRead, W: Write>(
 }
 
 /// Does what the words ask for, and answers the exit status.
-fn perform<T: AllocGlobal + Files<File = File>, R: BufRead, W: Write, E: Write>(
+fn perform<T: AllocGlobal + Files<File = File> + Threads + Sync, R: BufRead, W: Write, E: Write>(
     rt: &T,
     task: Task<'_>,
     input: &mut R,
@@ -122,13 +123,12 @@ fn perform<T: AllocGlobal + Files<File = File>, R: BufRead, W: Write, E: Write>(
 /// Runs the program with these words after its name, and answers its exit status. Without words the built-in sample is
 /// served on input and output. Faults are told on `faults`: a usage fault, or an asked help, with the text that belongs to
 /// it, any other in one line. At a usage fault nothing is read or written.
-pub fn program<T: AllocGlobal + Files<File = File>, R: BufRead, W: Write, E: Write>(
-    rt: &T,
-    words: &[String],
-    input: &mut R,
-    output: &mut W,
-    faults: &mut E,
-) -> u8
+pub fn program<
+    T: AllocGlobal + Files<File = File> + Threads + Sync,
+    R: BufRead,
+    W: Write,
+    E: Write,
+>(rt: &T, words: &[String], input: &mut R, output: &mut W, faults: &mut E) -> u8
     ensures run { words.now ≡ [] → (ended : Result (Unit {0}) RunFault) × (result ≡ status ended)
         × RunsDump SAMPLE (R.remaining input.old) (R.remaining input.new) (W.contents output.old) (W.contents output.new) ended }
     ensures usage { result ≡ USAGE → Keeps (R.remaining input.old) (R.remaining input.new) × Keeps (W.contents output.old) (W.contents output.new) }

@@ -6,9 +6,11 @@ use crate::serve::ServeFault;
 use crate::spellings::stats;
 use crate::stat::stat_bytes;
 use std::alloc::{AllocError, Global};
-use std::fs;
+use std::fs::{self, File};
 use std::io::{self, Write};
+use std::rt::Files;
 use std::test::Fail;
+use std::thread::Threads;
 
 /// What `stat` prints of the sample.
 const SAMPLE_STAT: &str = "objects 2\nroots 1\nedges 1\nunresolved 1\nrepeated 0 0 0\nopaque 0\n\
@@ -24,8 +26,8 @@ fn owned(alloc: Global, words: &[&str]) -> Result<Vec<String>, AllocError> {
 }
 
 /// Whether the program ends so over these words and lines: its status, what it writes, and what it tells.
-fn ends(
-    rt: &HostRuntime,
+fn ends<R: AllocGlobal + Files<File = File> + Threads + Sync>(
+    rt: &R,
     words: &[&str],
     status: u8,
     written: &[u8],
@@ -40,7 +42,10 @@ fn ends(
 }
 
 /// What the program tells of words that it doesn't take; nothing where it takes them, or writes.
-fn usage_of(rt: &HostRuntime, words: &[&str]) -> Result<Vec<u8>, AllocError> {
+fn usage_of<R: AllocGlobal + Files<File = File> + Threads + Sync>(
+    rt: &R,
+    words: &[&str],
+) -> Result<Vec<u8>, AllocError> {
     let words = owned(rt.alloc(), words)?;
     let mut input: &[u8] = b"quit\n";
     let mut output = Vec::new(rt.alloc());
@@ -107,8 +112,8 @@ fn unreadable_files(rt: HostRuntime) -> Result<(), Fail> {
 }
 
 /// Writes a file of these bytes, and checks how `run` and `stat` end over it.
-fn over(
-    rt: &HostRuntime,
+fn over<R: AllocGlobal + Files<File = File> + Threads + Sync>(
+    rt: &R,
     path: &str,
     bytes: &[u8],
     run: (u8, &[u8], &[u8]),

@@ -4,12 +4,13 @@ ghost use Rattle.hd_terms.specs.Objects.{IsDumpOf};
 ghost use Rattle.hdesk.specs.Running.{RunsDump, IsOpenFault};
 
 use crate::serve::{ServeFault, serve};
-use hd_graph::open_plain;
+use hd_decode::NoGate;
+use hd_graph::open_dump;
 use hd_state::State;
 use hd_terms::{NoMemory, ReadFault};
 use std::alloc::AllocFailed;
 use std::io::{BufRead, Write};
-use std::sync::Arc;
+use std::thread::Threads;
 use thiserror::Error;
 
 /// Why a run ended early. The texts are what the program tells of it.
@@ -71,23 +72,26 @@ impl From<ServeFault> for RunFault {
 
 /// Opens the bytes of a dump: its state with no edit.
 ///
-/// `workers` is the number of threads that decode, 1 to 16; it isn't used yet.
-pub fn open_bytes<T: AllocGlobal>(rt: &T, bytes: &[u8], workers: u32) -> Result<State, RunFault>
+/// `workers` is the number of threads that decode, 1 to 16.
+pub fn open_bytes<T: AllocGlobal + Threads + Sync>(
+    rt: &T,
+    bytes: &[u8],
+    workers: u32,
+) -> Result<State, RunFault>
     requires few { workers ≤ 16 }
     requires some { 1 ≤ workers }
     ensures ok { IfOk result (λ state. IsDumpOf bytes.now state.dump × (state.log ≡ [])) }
     ensures err { IfErr result (λ f. IsOpenFault bytes.now f) }
 {
-    let graph = open_plain(rt.alloc(), bytes)?;
-    let graph = Arc::new(rt.alloc(), graph)?;
+    let graph = open_dump(rt, rt.alloc(), bytes, workers, &NoGate)?;
     let state = State::open(rt.alloc(), graph)?;
     Ok(state)
 }
 
 /// Opens the bytes of a dump and serves one analyst's lines over it.
 ///
-/// `workers` is the number of threads that decode, 1 to 16; it isn't used yet.
-pub fn run_bytes<T: AllocGlobal, R: BufRead, W: Write>(
+/// `workers` is the number of threads that decode, 1 to 16.
+pub fn run_bytes<T: AllocGlobal + Threads + Sync, R: BufRead, W: Write>(
     rt: &T,
     bytes: &[u8],
     workers: u32,

@@ -1,13 +1,13 @@
 //! Sessions with edits and undos, over dumps that are written out by hand, with the answers that the definitions demand.
 use crate::run::run_bytes;
 use crate::sample::SAMPLE;
-use crate::spellings::{HEADER, answers};
-use hd_graph::open_plain;
+use crate::spellings::{HEADER, answers, graph_of};
 use hd_state::{Done, State};
 use hd_terms::{EdgeKind, Edit, Event, LogFault, Slot, SlotMode, SlotRow, Strength, What};
 use std::alloc::{AllocError, Global};
 use std::sync::Arc;
 use std::test::Fail;
+use std::thread::Threads;
 
 /// A dump of one segment: a root on the object with ID 1, and object arrays of these IDs and elements, without a class.
 /// All IDs are below 256.
@@ -162,8 +162,8 @@ fn edits_of_cycles_and_parallel_edges(rt: HostRuntime) -> Result<(), Fail> {
 }
 
 /// What is written for a line that is given so many times, and then some more.
-fn after_many(
-    rt: &HostRuntime,
+fn after_many<R: AllocGlobal + Threads + Sync>(
+    rt: &R,
     line: &[u8],
     times: u32,
     more: &[u8],
@@ -203,9 +203,9 @@ fn full_log(rt: HostRuntime) -> Result<(), Fail> {
 }
 
 /// The state of the sample with no edit.
-fn sample_state(rt: &HostRuntime) -> Option<State> {
-    let graph = open_plain(rt.alloc(), &SAMPLE).ok()?;
-    State::open(rt.alloc(), Arc::new(rt.alloc(), graph).ok()?).ok()
+fn sample_state<R: AllocGlobal + Threads + Sync>(rt: &R) -> Option<State> {
+    let graph = graph_of(rt, &SAMPLE)?;
+    State::open(rt.alloc(), graph).ok()
 }
 
 /// The strength of the object of an ID.
@@ -215,7 +215,11 @@ fn strength_in(state: &State, id: u64) -> Option<Strength> {
 }
 
 /// The state after one more event, where its log takes the event.
-fn stepped(rt: &HostRuntime, state: &State, event: Event) -> Option<(State, Done)> {
+fn stepped<R: AllocGlobal + Threads + Sync>(
+    rt: &R,
+    state: &State,
+    event: Event,
+) -> Option<(State, Done)> {
     if let Some(_fault) = state.front().next_fault(&event) {
         return None;
     }
@@ -223,7 +227,11 @@ fn stepped(rt: &HostRuntime, state: &State, event: Event) -> Option<(State, Done
 }
 
 /// A state of the sample, and those after one and two more events, with what the second did.
-fn two_steps(rt: &HostRuntime, first: Event, second: Event) -> Option<(State, State, State, Done)> {
+fn two_steps<R: AllocGlobal + Threads + Sync>(
+    rt: &R,
+    first: Event,
+    second: Event,
+) -> Option<(State, State, State, Done)> {
     let state = sample_state(rt)?;
     let (next, _) = stepped(rt, &state, first)?;
     let (last, done) = stepped(rt, &next, second)?;
@@ -263,7 +271,7 @@ fn steps_keep_old_states(rt: HostRuntime) {
 }
 
 /// The slots of the first array of the sample.
-fn sample_slots(rt: &HostRuntime) -> Option<Vec<SlotRow>> {
+fn sample_slots<R: AllocGlobal + Threads + Sync>(rt: &R) -> Option<Vec<SlotRow>> {
     let state = sample_state(rt)?;
     let o = state.graph().index_of(1)?;
     state.slots(rt.alloc(), o).ok()

@@ -2,8 +2,12 @@
 use crate::run::{RunFault, run_bytes};
 use crate::sample::SAMPLE;
 use crate::stat::stat_bytes;
+use hd_decode::NoGate;
+use hd_graph::{Graph, open_dump};
 use hd_terms::{Cause, IdSize, ReadFault};
 use std::alloc::{AllocError, Global};
+use std::sync::Arc;
+use std::thread::Threads;
 
 /// The length of a header. That of the sample has an ID size of 4 and time 0.
 pub const HEADER: usize = 31;
@@ -229,7 +233,11 @@ pub fn dump_of(alloc: Global, id_size: IdSize, parts: &[Part<'_>]) -> Result<Dum
 }
 
 /// What a run over a dump writes, and how it ends.
-pub fn run(rt: &HostRuntime, dump: &[u8], input: &[u8]) -> (Vec<u8>, Result<(), RunFault>) {
+pub fn run<R: AllocGlobal + Threads + Sync>(
+    rt: &R,
+    dump: &[u8],
+    input: &[u8],
+) -> (Vec<u8>, Result<(), RunFault>) {
     let mut written = Vec::new(rt.alloc());
     let mut rest = input;
     let ended = run_bytes(rt, dump, 1, &mut rest, &mut written);
@@ -237,22 +245,32 @@ pub fn run(rt: &HostRuntime, dump: &[u8], input: &[u8]) -> (Vec<u8>, Result<(), 
 }
 
 /// Whether a run over a dump ends well and writes this.
-pub fn answers(rt: &HostRuntime, dump: &[u8], input: &[u8], expected: &[u8]) -> bool {
+pub fn answers<R: AllocGlobal + Threads + Sync>(
+    rt: &R,
+    dump: &[u8],
+    input: &[u8],
+    expected: &[u8],
+) -> bool {
     let (written, ended) = run(rt, dump, input);
     ended.is_ok() && written.as_slice() == expected
 }
 
 /// How opening a dump ends, with nothing to serve.
-pub fn opened(rt: &HostRuntime, dump: &[u8]) -> Result<(), RunFault> {
+pub fn opened<R: AllocGlobal + Threads + Sync>(rt: &R, dump: &[u8]) -> Result<(), RunFault> {
     let (_, ended) = run(rt, dump, b"");
     ended
 }
 
 /// Whether `stat` over these bytes ends well and writes this.
-pub fn stats(rt: &HostRuntime, dump: &[u8], expected: &str) -> bool {
+pub fn stats<R: AllocGlobal + Threads + Sync>(rt: &R, dump: &[u8], expected: &str) -> bool {
     let mut written = Vec::new(rt.alloc());
     let ended = stat_bytes(rt, dump, 1, &mut written);
     ended.is_ok() && written.as_slice() == expected.as_bytes()
+}
+
+/// The graph of a dump, if it opens.
+pub fn graph_of<R: AllocGlobal + Threads + Sync>(rt: &R, dump: &[u8]) -> Option<Arc<Graph>> {
+    open_dump(rt, rt.alloc(), dump, 1, &NoGate).ok()
 }
 
 /// How opening a dump ends that has a fault.

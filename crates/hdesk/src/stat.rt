@@ -15,6 +15,7 @@ use hd_terms::{Counts, NoMemory, Strength};
 use std::alloc::{AllocError, Global};
 use std::fmt::Write as _;
 use std::io::Write;
+use std::thread::Threads;
 
 /// Puts the lines of counts behind a text.
 fn put_counts(text: &mut String, counts: Counts) -> Result<(), AllocError>
@@ -89,8 +90,8 @@ fn stat_text(alloc: Global, state: &State) -> Result<String, NoMemory>
 
 /// Opens the bytes of a dump and writes its counts and totals.
 ///
-/// `workers` is the number of threads that decode, 1 to 16; it isn't used yet.
-pub fn stat_bytes<T: AllocGlobal, W: Write>(
+/// `workers` is the number of threads that decode, 1 to 16.
+pub fn stat_bytes<T: AllocGlobal + Threads + Sync, W: Write>(
     rt: &T,
     bytes: &[u8],
     workers: u32,

@@ -3,14 +3,14 @@ use crate::program::{BAD_DUMP, DONE, FAILED, program};
 use crate::run::{RunFault, run_bytes};
 use crate::sample::SAMPLE;
 use crate::serve::ServeFault;
-use crate::spellings::{self, HEADER, dump_fault, run};
-use hd_graph::open_plain;
+use crate::spellings::{self, HEADER, dump_fault, graph_of, run};
 use hd_log::Front;
 use hd_strength::{Strengths, from_scratch};
 use hd_terms::{Cause, EdgeKind, ReadFault, RootKind, Slot, Strength, Support};
 use std::alloc::{AllocError, Global};
 use std::io::{self, BufRead, Read, Write};
 use std::test::Fail;
+use std::thread::Threads;
 
 /// The place of a first sub-record: after the header and the head of one record.
 const FIRST: u64 = 40;
@@ -91,7 +91,10 @@ fn every_prefix(rt: HostRuntime) {
 }
 
 /// How opening a header and these bytes ends, with nothing to serve.
-fn opened(rt: &HostRuntime, records: &[u8]) -> Result<Result<(), RunFault>, AllocError> {
+fn opened<R: AllocGlobal + Threads + Sync>(
+    rt: &R,
+    records: &[u8],
+) -> Result<Result<(), RunFault>, AllocError> {
     let file = file_of(rt.alloc(), records)?;
     Ok(spellings::opened(rt, file.as_slice()))
 }
@@ -414,8 +417,8 @@ fn texts_of_faults(rt: HostRuntime) -> Result<(), Fail> {
 }
 
 /// The strengths of all objects of a dump under the empty log.
-fn strengths_of(rt: &HostRuntime, dump: &[u8]) -> Option<Strengths> {
-    let graph = open_plain(rt.alloc(), dump).ok()?;
+fn strengths_of<R: AllocGlobal + Threads + Sync>(rt: &R, dump: &[u8]) -> Option<Strengths> {
+    let graph = graph_of(rt, dump)?;
     let front = Front::empty(rt.alloc()).ok()?;
     from_scratch(rt.alloc(), &graph, &front).ok()
 }
@@ -466,8 +469,8 @@ fn cycle_behind_one_edge(rt: HostRuntime) -> Result<(), Fail> {
 
 #[test]
 fn graph_of_two_arrays(rt: HostRuntime) {
-    match open_plain(rt.alloc(), &SAMPLE) {
-        Ok(graph) => {
+    match graph_of(&rt, &SAMPLE) {
+        Some(graph) => {
             assert_eq!(rt; graph.objects(), 2);
             assert_eq!(rt; graph.roots_len(), 1);
             assert_eq!(rt; graph.id_of(0), 1);
@@ -496,6 +499,6 @@ fn graph_of_two_arrays(rt: HostRuntime) {
             }
             assert_eq!(rt; graph.slots_len(1), 1);
         }
-        Err(_) => assert!(rt; false, "the sample opens"),
+        None => assert!(rt; false, "the sample opens"),
     }
 }

@@ -10,15 +10,19 @@ use Rattle.hd_graph.proofs.build.fill_rows.Goals as goal
 pub fill_one-requires-clause-room : goal.fill_one-requires-clause-room
 fill_one-requires-clause-room c =
     let few = weight-at c.args.list.now c.loop-i.i _ c.get.ensures in
-    omega (arith, few, c.loop-i.invariant.0.few, c.requires.within.few, c.requires.few, ap (λ (xs : List ℕ). length xs) (c.loop-i.invariant.0.ids_are ∙ sym c.requires.ids))
+    omega (arith, few, c.loop-i.invariant.so_far.few, c.requires.within.few, c.requires.few, ap (λ (xs : List ℕ). length xs) (c.loop-i.invariant.so_far.ids_are ∙ sym c.requires.ids))
 
 pub loop-i-preserved : goal.loop-i-preserved
-loop-i-preserved c = (
-  fill-next (known_at c.args.classes.now) c.args.bytes.now c.args.id_size c.args.list.now c.loop-i.i _ c.get.ensures (columns c.loop-i.references c.loop-i.shapes.objects) (columns c.fill_one.new.references c.fill_one.new.shapes.objects) c.loop-i.invariant.0 c.in_ok-fill_one.ensures.filled,
-  rw c.in_ok-fill_one.ensures.kept c.loop-i.invariant.1,
-)
+loop-i-preserved c =
+    let first = c.args.references.now in
+    record {
+      so_far = fill-next (known_at c.args.classes.now) first.bytes first.size c.args.list.now c.loop-i.i _ c.get.ensures
+          (columns c.loop-i.references c.loop-i.shapes.objects) (columns c.fill_one.new.references c.fill_one.new.shapes.objects) c.loop-i.invariant.so_far c.in_ok-fill_one.ensures.filled;
+      layouts = rw c.in_ok-fill_one.ensures.kept c.loop-i.invariant.layouts;
+    }
 
 pub fill_one-requires-clause-few : goal.fill_one-requires-clause-few
 fill_one-requires-clause-few c =
-    let few = few-shapes (known_at c.args.classes.now) c.args.bytes.now c.args.id_size (take c.loop-i.i c.args.list.now) (object_ids c.args.list.now) (columns c.loop-i.references c.loop-i.shapes.objects) c.loop-i.invariant.0 in
+    let first = c.args.references.now in
+    let few = few-shapes (known_at c.args.classes.now) first.bytes first.size (take c.loop-i.i c.args.list.now) (object_ids c.args.list.now) (columns c.loop-i.references c.loop-i.shapes.objects) c.loop-i.invariant.so_far in
     omega (arith, few, length-take c.loop-i.i c.args.list.now, length-le-weight c.args.list.now, c.requires.within.few)

@@ -1,11 +1,11 @@
-use Rattle.std.proofs.Common.{◌∙◌, List, ◌++◌, length, map, ap, subst, arith}
+use Rattle.std.proofs.Common.{◌∙◌, ℕ, ◌+◌, List, ◌++◌, length, map, ap, sym, subst, arith}
 use Rattle.std.proofs.lemmas.List.{length-map}
 use Rattle.hd_terms.specs.declared.Slot.{Slot}
 use Rattle.hd_terms.specs.declared.Slot.TheVariants as slots
 use Rattle.hd_subs.specs.declared.class.Static.{Static}
 use Rattle.hd_subs.specs.declared.class.Constant.{Constant}
-use Rattle.hd_subs.specs.Views.{static_view, constant_view}
-use Rattle.hd_graph.specs.ArrayRows.{values_of_statics, values_of_constants, value_ids, value_names, static_bytes}
+use Rattle.hd_subs.specs.Views.{static_view, constant_view, class_view}
+use Rattle.hd_graph.specs.ArrayRows.{HasLinks, values_of_statics, values_of_constants, value_ids, value_names, static_bytes}
 use Rattle.hd_graph.specs.KeptShapes.{ShapeLists}
 use Rattle.hd_graph.specs.Building.{GrowsBy}
 use Rattle.hd_graph.proofs.ValueLemmas.{length-static-values, length-constant-values}
@@ -14,7 +14,8 @@ use Rattle.hd_graph.proofs.class_rows.push_class.Goals as goal
 
 pub push_constants-requires-clause-room : goal.push_constants-requires-clause-room
 push_constants-requires-clause-room c =
-    let grown = grown-room c.args.bytes.now c.args.id_size (values_of_statics (map static_view c.as_slice.result.now)) c.args.references.now c.push_statics.new.references c.in_ok-push_statics.ensures.row in
+    let first = c.args.references.now in
+    let grown = grown-room first.bytes first.size (values_of_statics (map static_view c.as_slice.result.now)) first c.push_statics.new.references c.in_ok-push_statics.ensures.row in
     omega (
       arith,
       grown.0,
@@ -27,10 +28,12 @@ push_constants-requires-clause-room c =
       c.requires.room,
     )
 
-pub push_links-requires : goal.push_links-requires
-push_links-requires c =
-    let grown = grown-room c.args.bytes.now c.args.id_size (values_of_statics (map static_view c.as_slice.result.now)) c.args.references.now c.push_statics.new.references c.in_ok-push_statics.ensures.row in
-    let more = grown-room c.args.bytes.now c.args.id_size (values_of_constants (map constant_view c.as_slice-2.result.now)) c.push_statics.new.references c.push_constants.new.references c.in_ok-push_constants.ensures.row in
+pub push_links-requires-clause-room : goal.push_links-requires-clause-room
+push_links-requires-clause-room c =
+    let first = c.args.references.now in
+    let second = c.push_statics.new.references in
+    let grown = grown-room first.bytes first.size (values_of_statics (map static_view c.as_slice.result.now)) first second c.in_ok-push_statics.ensures.row in
+    let more = grown-room second.bytes second.size (values_of_constants (map constant_view c.as_slice-2.result.now)) second c.push_constants.new.references c.in_ok-push_constants.ensures.row in
     omega (
       arith,
       grown.0,
@@ -48,11 +51,15 @@ push_links-requires c =
 
 pub returns-clause-added : goal.returns-clause-added
 returns-clause-added c =
-    class-added c.args.bytes.now c.args.id_size c.args.class.now c.args.references.now c.push_statics.new.references c.push_constants.new.references c.push_links.new.references c.end_row.new.self
+    let first = c.args.references.now in
+    let second = c.push_statics.new.references in
+    let third = c.push_constants.new.references in
+    class-added c.args.class.now (c.args.offset + 5 + c.id_len.result) first second third c.push_links.new.references c.end_row.new.self
     c.args.shapes.now.objects c.push_class.new.self.objects c.push_statics.new.names.items c.push_constants.new.names.items c.push_links.new.names.items c.bytes_of_statics-bytes.result
     c.requires.filled
-    (subst (λ (xs : List Static). GrowsBy (value_ids c.args.bytes.now c.args.id_size (values_of_statics (map static_view xs))) c.args.references.now c.push_statics.new.references) c.as_slice.ensures.value c.in_ok-push_statics.ensures.row)
-    (subst (λ (xs : List Constant). GrowsBy (value_ids c.args.bytes.now c.args.id_size (values_of_constants (map constant_view xs))) c.push_statics.new.references c.push_constants.new.references) c.as_slice-2.ensures.value c.in_ok-push_constants.ensures.row)
+    (subst (λ (n : ℕ). HasLinks first.bytes first.size (c.args.offset + 5 + n) (class_view c.args.class.now)) (sym c.id_len.ensures) c.requires.links)
+    (subst (λ (xs : List Static). GrowsBy (value_ids first.bytes first.size (values_of_statics (map static_view xs))) first second) c.as_slice.ensures.value c.in_ok-push_statics.ensures.row)
+    (subst (λ (xs : List Constant). GrowsBy (value_ids second.bytes second.size (values_of_constants (map constant_view xs))) second third) c.as_slice-2.ensures.value c.in_ok-push_constants.ensures.row)
     c.in_ok-push_links.ensures.row
     c.in_ok-end_row.ensures
     (c.in_ok-push_statics.ensures.names ∙ ap (λ (ns : List Slot). ns ++ value_names (λ i. slots.Static i) 0 (values_of_statics (map static_view c.as_slice.result.now))) c.new-names.ensures.items ∙ ap (λ (xs : List Static). value_names (λ i. slots.Static i) 0 (values_of_statics (map static_view xs))) c.as_slice.ensures.value)

@@ -1,8 +1,8 @@
-use Rattle.std.proofs.Common.{◌∙◌, ℕ, ◌+◌, [], ◌∷◌, get_or, ap, subst, arith}
+use Rattle.std.proofs.Common.{◌≡◌, ◌∙◌, ℕ, ◌+◌, get_or, ap, arith}
+use Rattle.hd_terms.specs.declared.IdSize.{IdSize}
+use Rattle.hd_terms.specs.Types.{value_len}
 use Rattle.hd_classes.specs.declared.known.LayoutField.{LayoutField}
-use Rattle.hd_graph.specs.ArrayRows.{value_ids}
-use Rattle.hd_graph.specs.Building.{GrowsBy}
-use Rattle.hd_graph.proofs.LayoutLemmas.{pushed-more, field-within, all-pushed, count-so-far}
+use Rattle.hd_graph.proofs.LayoutLemmas.{pushed-more, field-within, value-within, all-pushed, count-so-far}
 use Rattle.hd_graph.proofs.instance_rows.push_fields.Goals as goal
 
 -- a field, where it doesn't matter which
@@ -11,24 +11,28 @@ any_field = record { owner = 0; name = 0; code = 0 }
 
 pub push_field-requires-clause-within : goal.push_field-requires-clause-within
 push_field-requires-clause-within c =
-    let within = field-within c.args.bytes.now c.args.id_size c.args.start c.args.layout.now c.loop-i.i any_field c.args.references.now c.loop-i.references c.loop-i.at c.loop-i-test.true c.loop-i.invariant c.requires.within in
-    record { within = omega (arith, within, c.from-len.ensures, c.value_len.ensures.len); typed = c.from-len.ensures ∙ c.value_len.ensures.len }
+    let code = (get_or c.args.layout.now c.loop-i.i any_field).code in
+    let len : c.from-len.result ≡ value_len c.args.references.now.size code = c.from-len.ensures ∙ c.value_len.ensures.len ∙ ap (λ (size : IdSize). value_len size code) c.id_size-id_size.ensures in
+    value-within c.args.start c.args.layout.now c.loop-i.i any_field c.args.references.now c.loop-i.references c.loop-i.at c.from-len.result c.loop-i-test.true c.loop-i.invariant c.requires.within len
 
 pub overflow_add-at : goal.overflow_add-at
 overflow_add-at c =
-    let within = field-within c.args.bytes.now c.args.id_size c.args.start c.args.layout.now c.loop-i.i any_field c.args.references.now c.loop-i.references c.loop-i.at c.loop-i-test.true c.loop-i.invariant c.requires.within in
-    omega (arith, within, c.from-len.ensures, c.value_len.ensures.len, c.type_inv.bytes)
+    let code = (get_or c.args.layout.now c.loop-i.i any_field).code in
+    let len : c.from-len.result ≡ value_len c.args.references.now.size code = c.from-len.ensures ∙ c.value_len.ensures.len ∙ ap (λ (size : IdSize). value_len size code) c.id_size-id_size.ensures in
+    let within = field-within c.args.start c.args.layout.now c.loop-i.i any_field c.args.references.now c.loop-i.references c.loop-i.at c.loop-i-test.true c.loop-i.invariant c.requires.within in
+    omega (arith, within, len, c.requires.small)
 
 pub push_field-requires-clause-room : goal.push_field-requires-clause-room
 push_field-requires-clause-room c =
-    let few = count-so-far c.args.bytes.now c.args.id_size c.args.start c.args.layout.now c.loop-i.i c.args.references.now c.loop-i.references c.loop-i.at c.loop-i.invariant in
+    let few = count-so-far c.args.start c.args.layout.now c.loop-i.i c.args.references.now c.loop-i.references c.loop-i.at c.loop-i.invariant in
     omega (arith, few.0, few.1, c.requires.room, c.loop-i-test.true)
 
 pub loop-i-preserved : goal.loop-i-preserved
 loop-i-preserved c =
-    pushed-more c.args.bytes.now c.args.id_size c.args.start c.args.layout.now c.loop-i.i any_field c.args.references.now c.loop-i.references c.push_field.new.references c.loop-i.at (c.loop-i.at + c.from-len.result) c.loop-i-test.true c.loop-i.invariant
-    (ap (λ (n : ℕ). c.loop-i.at + n) (c.from-len.ensures ∙ c.value_len.ensures.len))
-    (subst (λ (n : ℕ). GrowsBy (value_ids c.args.bytes.now c.args.id_size (((get_or c.args.layout.now c.loop-i.i any_field).code, record { start = c.loop-i.at; len = n }) ∷ [])) c.loop-i.references c.push_field.new.references) (c.from-len.ensures ∙ c.value_len.ensures.len) c.in_ok-push_field.ensures)
+    let code = (get_or c.args.layout.now c.loop-i.i any_field).code in
+    let len : c.from-len.result ≡ value_len c.args.references.now.size code = c.from-len.ensures ∙ c.value_len.ensures.len ∙ ap (λ (size : IdSize). value_len size code) c.id_size-id_size.ensures in
+    pushed-more c.args.start c.args.layout.now c.loop-i.i any_field c.args.references.now c.loop-i.references c.push_field.new.references c.loop-i.at (c.loop-i.at + c.from-len.result) c.loop-i-test.true c.loop-i.invariant
+    (ap (λ (n : ℕ). c.loop-i.at + n) len) c.in_ok-push_field.ensures
 
 pub returns : goal.returns
-returns c = all-pushed c.args.bytes.now c.args.id_size c.args.start c.args.layout.now c.loop-i.i c.args.references.now c.loop-i.references c.loop-i.at (omega arith) c.loop-i.invariant
+returns c = all-pushed c.args.start c.args.layout.now c.loop-i.i c.args.references.now c.loop-i.references c.loop-i.at (omega arith) c.loop-i.invariant

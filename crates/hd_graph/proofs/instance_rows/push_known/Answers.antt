@@ -8,11 +8,11 @@ use Rattle.hd_graph.proofs.LayoutLemmas.{placed-few}
 use Rattle.hd_graph.proofs.AddedLemmas.{instance-added}
 use Rattle.hd_graph.proofs.instance_rows.push_known.Goals as goal
 
-pub push-requires : goal.push-requires
-push-requires c =
+pub push-requires-clause-room : goal.push-requires-clause-room
+push-requires-clause-room c =
     omega (
       arith,
-      placed-few c.args.bytes.now c.args.id_size c.args.start (map field_view c.args.layout.now),
+      placed-few c.args.references.now.bytes c.args.references.now.size c.args.start (map field_view c.args.layout.now),
       length-map c.args.layout.now field_view,
       ap (λ (t : Table). t.count) c.in_ok-push_fields.ensures,
       ap (λ (t : Table). length t.ids) c.in_ok-push_fields.ensures,
@@ -21,8 +21,8 @@ push-requires c =
 
 pub returns-clause-added : goal.returns-clause-added
 returns-clause-added c =
-    instance-added (value_ids c.args.bytes.now c.args.id_size (placed_fields c.args.id_size c.args.start (map field_view c.args.layout.now))) c.args.class _ (shape_at c.args.shapes.now.layouts c.args.number)
+    instance-added (value_ids c.args.references.now.bytes c.args.references.now.size (placed_fields c.args.references.now.size c.args.start (map field_view c.args.layout.now))) c.args.class _ (shape_at c.args.shapes.now.layouts c.args.number)
     c.args.references.now c.push_fields.new.references c.push.new.self c.end_row.new.self c.args.shapes.now.objects c.push_instance.new.self.objects
     c.requires.filled c.in_ok-push_fields.ensures c.in_ok-push.ensures c.in_ok-end_row.ensures
-    (omega (arith, placed-few c.args.bytes.now c.args.id_size c.args.start (map field_view c.args.layout.now), length-map c.args.layout.now field_view))
+    (omega (arith, placed-few c.args.references.now.bytes c.args.references.now.size c.args.start (map field_view c.args.layout.now), length-map c.args.layout.now field_view))
     (ap (λ (s : ShapeLists). s.objects) c.in_ok-push_instance.ensures)

@@ -4,30 +4,30 @@ use Rattle.hd_graph.proofs.OpenLemmas.{list-within, few-and-short, object-fault,
 use Rattle.hd_graph.proofs.graph.Graph.build.Goals as goal
 
 pub number-requires : goal.number-requires
-number-requires c = record { short = (few-and-short c.args.bytes.now c.args.records.now.id_size _ _ c.args.records.now.segments c.requires.records c.args.list.now c.requires.list c.args.classes.now c.requires.classes c.requires.no_cycle).short }
+number-requires g c = record { short = (few-and-short c.args.bytes.now c.args.records.now.id_size _ _ c.args.records.now.segments c.requires.records c.args.list.now c.requires.list c.args.classes.now c.requires.classes c.requires.no_cycle).short }
 
 pub returns-in_err-ids-clause-err : goal.returns-in_err-ids-clause-err
-returns-in_err-ids-clause-err c =
+returns-in_err-ids-clause-err g c =
     let p = err_from_is_err_and c.from_residual-in_err-ids.result c.from_residual-in_err-ids.ensures.1 in
     rw (p.1, p.2) (object-fault c.args.bytes.now c.args.records.now.id_size _ _ c.args.records.now.segments c.requires.records c.args.list.now c.requires.list c.args.classes.now c.requires.classes c.requires.no_cycle c.in_err-ids.field-0.0 c.in_err-ids.ensures.err)
 
 pub rows_of-requires-clause-few : goal.rows_of-requires-clause-few
-rows_of-requires-clause-few c = few-ids c.args.bytes.now c.args.records.now.id_size _ _ c.args.records.now.segments c.requires.records c.args.list.now c.requires.list c.args.classes.now c.requires.classes c.requires.no_cycle _ _ _ c.in_ok-ids.ensures.ok
+rows_of-requires-clause-few g c = few-ids c.args.bytes.now c.args.records.now.id_size _ _ c.args.records.now.segments c.requires.records c.args.list.now c.requires.list c.args.classes.now c.requires.classes c.requires.no_cycle _ _ _ c.in_ok-ids.ensures.ok
 
 pub rows_of-requires-clause-within : goal.rows_of-requires-clause-within
-rows_of-requires-clause-within c = list-within c.args.bytes.now c.args.records.now.id_size _ _ c.args.records.now.segments c.requires.records c.args.list.now c.requires.list
+rows_of-requires-clause-within g c = list-within c.args.bytes.now c.args.records.now.id_size _ _ c.args.records.now.segments c.requires.records c.args.list.now c.requires.list
 
 pub rows_of-requires-clause-classes : goal.rows_of-requires-clause-classes
-rows_of-requires-clause-classes c = few-and-short c.args.bytes.now c.args.records.now.id_size _ _ c.args.records.now.segments c.requires.records c.args.list.now c.requires.list c.args.classes.now c.requires.classes c.requires.no_cycle
+rows_of-requires-clause-classes g c = few-and-short c.args.bytes.now c.args.records.now.id_size _ _ c.args.records.now.segments c.requires.records c.args.list.now c.requires.list c.args.classes.now c.requires.classes c.requires.no_cycle
 
 pub new-requires-clause-columns : goal.new-requires-clause-columns
-new-requires-clause-columns c = whole-columns c.args.bytes.now c.args.records.now.id_size _ _ c.args.records.now.segments c.requires.records c.args.list.now c.requires.list c.args.classes.now c.requires.classes c.requires.no_cycle _ _ _ c.in_ok-ids.ensures.ok (columns c.in_ok-references.field-0.references c.in_ok-references.field-0.shapes.objects) c.in_ok-references.ensures
+new-requires-clause-columns g c = rw c.in_ok-references-2.ensures (whole-columns c.args.bytes.now c.args.records.now.id_size _ _ c.args.records.now.segments c.requires.records c.args.list.now c.requires.list c.args.classes.now c.requires.classes c.requires.no_cycle _ _ _ c.in_ok-ids.ensures.ok (columns c.in_ok-references.field-0.references c.in_ok-references.field-0.shapes.objects) c.in_ok-references.ensures)
 
 pub new-requires-clause-small : goal.new-requires-clause-small
-new-requires-clause-small c = small-shapes c.args.bytes.now c.args.records.now.id_size _ _ c.args.records.now.segments c.requires.records c.args.list.now c.requires.list c.args.classes.now c.requires.classes c.requires.no_cycle _ _ _ c.in_ok-ids.ensures.ok (columns c.in_ok-references.field-0.references c.in_ok-references.field-0.shapes.objects) c.in_ok-references.ensures
+new-requires-clause-small g c = small-shapes c.args.bytes.now c.args.records.now.id_size _ _ c.args.records.now.segments c.requires.records c.args.list.now c.requires.list c.args.classes.now c.requires.classes c.requires.no_cycle _ _ _ c.in_ok-ids.ensures.ok (columns c.in_ok-references.field-0.references c.in_ok-references.field-0.shapes.objects) c.in_ok-references.ensures
 
 pub new-requires-clause-few_roots : goal.new-requires-clause-few_roots
-new-requires-clause-few_roots c = few-roots c.args.bytes.now c.args.records.now.id_size _ _ c.args.records.now.segments c.requires.records c.args.list.now c.requires.list c.args.classes.now c.requires.classes c.requires.no_cycle _ _ _ c.in_ok-ids.ensures.ok
+new-requires-clause-few_roots g c = few-roots c.args.bytes.now c.args.records.now.id_size _ _ c.args.records.now.segments c.requires.records c.args.list.now c.requires.list c.args.classes.now c.requires.classes c.requires.no_cycle _ _ _ c.in_ok-ids.ensures.ok
 
 pub returns-clause-ok : goal.returns-clause-ok
-returns-clause-ok c = rw c.new.ensures (opened c.args.bytes.now c.args.records.now.id_size _ _ c.args.records.now.segments c.requires.records c.args.list.now c.requires.list c.args.classes.now c.requires.classes c.requires.no_cycle _ _ _ c.in_ok-ids.ensures.ok (columns c.in_ok-references.field-0.references c.in_ok-references.field-0.shapes.objects) c.in_ok-references.ensures _ _ c.in_ok-strings.ensures c.in_ok-loads.ensures)
+returns-clause-ok g c = rw (c.new.ensures, c.in_ok-references-2.ensures) (opened c.args.bytes.now c.args.records.now.id_size _ _ c.args.records.now.segments c.requires.records c.args.list.now c.requires.list c.args.classes.now c.requires.classes c.requires.no_cycle _ _ _ c.in_ok-ids.ensures.ok (columns c.in_ok-references.field-0.references c.in_ok-references.field-0.shapes.objects) c.in_ok-references.ensures _ _ c.in_ok-strings.ensures c.in_ok-loads.ensures)

@@ -1,5 +1,5 @@
 use Rattle.std.proofs.Common.{◌∙◌, ℕ, ◌+◌, ◌-◌, List, length, get_or, ap, sym, arith, add-one}
-use Rattle.hd_graph.specs.Table.{Table, row_at}
+use Rattle.hd_graph.specs.Table.{Rows, row_at}
 use Rattle.hd_graph.proofs.TableLemmas.{starts-before, length-row}
 use Rattle.hd_graph.proofs.references.References.row_len.Goals as goal
 
@@ -23,4 +23,4 @@ returns c =
     ∙ ap (λ (xs : List ℕ). get_or xs (c.args.o + 1) 0 - get_or xs c.args.o 0) c.as_slice-starts.ensures.value
     ∙ ap (λ (n : ℕ). get_or a.starts.items n 0 - get_or a.starts.items c.args.o 0) (add-one c.args.o)
     ∙ sym (length-row a.ids.keys a.starts.items a.items.items a.absent.items c.self.invariant c.args.o lt)
-    ∙ ap (λ (t : Table). length (row_at t c.args.o)) c.self.view_is
+    ∙ ap (λ (t : Rows). length (row_at t c.args.o)) c.self.view_is

@@ -1,0 +1,6 @@
+pub mod BodyLemmas
+pub mod SpanLemmas
+pub mod Spans
+pub mod FewLemmas
+pub mod JoinLemmas
+pub mod PartLemmas

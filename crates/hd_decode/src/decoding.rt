@@ -1,0 +1,96 @@
+//! The sub-records of a dump.
+ghost use Rattle.std.specs.Prelude.{◌≤◌, ◌<◌, ◌^◌, length, All, IfOk, IfErr, OnOk};
+ghost use Rattle.hd_records.specs.Reading.{ReadsRecords};
+ghost use Rattle.hd_subs.specs.Reading.{AppendsSegment, IsSegmentFaultOrMemory};
+ghost use Rattle.hd_decode.specs.Bodies.{ReadsBodies, IsSpanWithin, body_at, IsBodiesFaultOrMemory};
+ghost use Rattle.hd_decode.specs.Shares.{IsPart, AreJoined, IsFirstFaultOrMemory, subs_in, share_at};
+
+use crate::gate::Gate;
+use crate::shares::shares_of;
+use hd_records::Records;
+use hd_subs::{DumpSubs, Subs, read_segment_into};
+use hd_terms::{IdSize, ReadFault, Span};
+use std::alloc::Global;
+use std::thread;
+use std::thread::Threads;
+
+/// Adds the sub-records of one segment, whose body is a span of the file.
+fn read_body(list: &mut Subs, bytes: &[u8], id_size: IdSize, span: Span) -> Result<(), ReadFault>
+    requires { IsSpanWithin bytes.now span }
+    ensures ok { OnOk result (AppendsSegment id_size span.start (body_at bytes.now span) list.old list.new) }
+    ensures err { IfErr result (λ f. IsSegmentFaultOrMemory id_size span.start (body_at bytes.now span) f) }
+{
+    let start = span.start as usize;
+    let body = &bytes[start..start + span.len as usize];
+    read_segment_into(list, body, id_size, span.start)
+}
+
+/// The sub-records of a worker's share of the segments, in file order.
+fn read_share(
+    alloc: Global,
+    bytes: &[u8],
+    id_size: IdSize,
+    share: &[Span],
+) -> Result<Subs, ReadFault>
+    requires { All (IsSpanWithin bytes.now) share.now }
+    ensures { IsPart id_size bytes.now share.now result }
+{
+    let mut list = Subs::new(alloc);
+    for span in share {
+        read_body(&mut list, bytes, id_size, *span)?;
+    }
+    Ok(list)
+}
+
+/// What workers read, one part after another, or the fault of the first part that has one.
+fn join_parts(alloc: Global, parts: Vec<Result<Subs, ReadFault>>) -> Result<DumpSubs, ReadFault>
+    requires { subs_in parts.items < 2 ^ 64 }
+    ensures ok { IfOk result (λ list. AreJoined parts.items list) }
+    ensures err { IfErr result (λ f. IsFirstFaultOrMemory parts.items f) }
+{
+    let mut list = DumpSubs::new(alloc);
+    for part in parts {
+        list.push(part?)?;
+    }
+    Ok(list)
+}
+
+/// The sub-records of a dump, read by this many workers at once, 1 to 16, each of which passes the gate first. `records` are
+/// the file's. The answer is the same for every number of workers and every gate.
+///
+/// Each worker has a thread of its own; where the system refuses one, workers run one after another.
+///
+/// # Errors
+///
+/// The fault of the first segment that has one, an offset into the file in bytes (`ShortSub`, `UnknownSub` or
+/// `UnknownType`); or want of memory, at 0.
+pub fn decode<R: Threads + Sync, G: Gate>(
+    rt: &R,
+    alloc: Global,
+    bytes: &[u8],
+    records: &Records,
+    workers: u32,
+    gate: &G,
+) -> Result<DumpSubs, ReadFault>
+    requires records { ReadsRecords bytes.now records.now.id_size records.now.strings records.now.loads records.now.segments }
+    requires some { 1 ≤ workers }
+    requires few { workers ≤ 16 }
+    ensures ok { IfOk result (λ list. ReadsBodies records.now.id_size bytes.now records.now.segments list) }
+    ensures err { IfErr result (λ f. IsBodiesFaultOrMemory records.now.id_size bytes.now records.now.segments f) }
+{
+    let id_size = records.id_size;
+    let shares = shares_of(alloc, records.segments.as_slice(), workers)?;
+    let shares = shares.as_slice();
+    let read = |worker: usize| -> Result<Subs, ReadFault>
+        requires few { length shares.now ≤ 16 }
+        requires worker { worker < length shares.now }
+        requires within { All (IsSpanWithin bytes.now) (share_at shares.now worker) }
+        ensures { IsPart id_size bytes.entry.now (share_at shares.entry.now worker) result }
+    {
+        gate.enter(worker as u32);
+        read_share(alloc, bytes, id_size, shares[worker])
+    };
+    let parts = thread::map_indices(rt, alloc, shares.len(), &read)?;
+    let list = join_parts(alloc, parts)?;
+    Ok(list)
+}

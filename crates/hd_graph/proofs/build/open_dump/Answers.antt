@@ -1,0 +1,32 @@
+use Rattle.std.proofs.Common.{inl, refl}
+use Rattle.std.proofs.lemmas.Result.{err_from_is_err_and}
+use Rattle.hd_graph.proofs.OpenLemmas.{texts-within, bodies-fault, class-fault, records-fault}
+use Rattle.hd_graph.proofs.build.open_dump.Goals as goal
+
+pub returns-in_err-records-clause-err : goal.returns-in_err-records-clause-err
+returns-in_err-records-clause-err g c =
+    let p = err_from_is_err_and c.from_residual.result c.from_residual.ensures.1 in
+    rw (p.1, p.2) (records-fault c.args.bytes.now c.in_err-records.field-0.0 c.in_err-records.ensures.err)
+
+pub build-requires : goal.build-requires
+build-requires g c = texts-within c.args.bytes.now c.in_ok-records.records.id_size _ _ c.in_ok-records.records.segments c.in_ok-records.ensures.ok
+
+pub returns-in_err-list-clause-err : goal.returns-in_err-list-clause-err
+returns-in_err-list-clause-err g c =
+    let p = err_from_is_err_and c.from_residual-in_err-list.result c.from_residual-in_err-list.ensures.1 in
+    rw (p.1, p.2) (bodies-fault c.args.bytes.now c.in_ok-records.records.id_size _ _ c.in_ok-records.records.segments c.in_ok-records.ensures.ok c.in_err-list.field-0.0 c.in_err-list.ensures.err)
+
+pub returns-in_err-classes-clause-err : goal.returns-in_err-classes-clause-err
+returns-in_err-classes-clause-err g c =
+    let p = err_from_is_err_and c.from_residual-in_err-classes.result c.from_residual-in_err-classes.ensures.1 in
+    rw (p.1, p.2) (class-fault c.args.bytes.now c.in_ok-records.records.id_size _ _ c.in_ok-records.records.segments c.in_ok-records.ensures.ok c.in_ok-list.list c.in_ok-list.ensures.ok c.in_err-classes.field-0.0 c.in_err-classes.ensures.err)
+
+pub returns-in_err-graph-clause-err : goal.returns-in_err-graph-clause-err
+returns-in_err-graph-clause-err g c =
+    let p = err_from_is_err_and c.from_residual-in_err-graph.result c.from_residual-in_err-graph.ensures.1 in
+    rw (p.1, p.2) c.in_err-graph.ensures.err
+
+pub returns-in_err-graph-2-clause-err : goal.returns-in_err-graph-2-clause-err
+returns-in_err-graph-2-clause-err g c =
+    let p = err_from_is_err_and c.from_residual-in_err-graph-2.result c.from_residual-in_err-graph-2.ensures.1 in
+    rw (p.1, p.2) (inl refl)

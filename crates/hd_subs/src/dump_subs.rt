@@ -1,0 +1,84 @@
+//! The sub-records of a whole dump.
+ghost use Rattle.std.specs.Prelude.{◌≡◌, ◌↔◌, ◌+◌, ◌^◌, ◌<◌, [], ◌++◌, length, slice_get, IsTrue, Some, OnOk, OnErr};
+ghost use Rattle.hd_subs.specs.Views.{sub_view};
+
+use crate::sub::Sub;
+use crate::subs::Subs;
+use std::alloc::{AllocError, Global};
+use std::marker::Model;
+
+/// The sub-records of a dump in file order, in parts that stay the lists they were read into.
+#[derive(Debug, Drop)]
+pub struct DumpSubs {
+    parts: Vec<Subs>,
+    len: usize,
+}
+
+impl Model for DumpSubs {
+    ghost use Rattle.std.specs.Prelude.{◌≡◌, List, length};
+    ghost use Rattle.hd_terms.specs.SubRecords.{Sub};
+    ghost use Rattle.hd_subs.specs.Joined.{joined};
+
+    ghost Value = { List Sub };
+
+    ghost view = { λ d. joined d.parts.items };
+
+    ghost invariant = { λ d. d.len ≡ length (joined d.parts.items) };
+}
+
+impl DumpSubs {
+    /// No sub-records yet.
+    pub fn new(alloc: Global) -> DumpSubs
+        ensures { result ≡ [] }
+    {
+        DumpSubs {
+            parts: Vec::new(alloc),
+            len: 0,
+        }
+    }
+
+    /// Puts a part at the end.
+    ///
+    /// # Errors
+    ///
+    /// Want of memory; then the part is given up.
+    pub fn push(&mut self, part: Subs) -> Result<(), AllocError>
+        requires { length self.old + length part < 2 ^ 64 }
+        ensures ok { OnOk result (self.new ≡ self.old ++ part) }
+        ensures err { OnErr result (self.new ≡ self.old) }
+    {
+        self.parts.reserve(1)?;
+        self.len += part.len();
+        self.parts.push_reserved(part);
+        Ok(())
+    }
+
+    /// How many there are.
+    pub fn len(&self) -> usize
+        ensures { result ≡ length self.now }
+    {
+        self.len
+    }
+
+    /// Whether there is none.
+    pub fn is_empty(&self) -> bool
+        ensures { IsTrue result ↔ (self.now ≡ []) }
+    {
+        self.len == 0
+    }
+
+    /// One of them; they are numbered from 0 through all parts.
+    pub fn get(&self, i: usize) -> Sub<'_>
+        requires { i < length self.now }
+        ensures { slice_get self.now i ≡ Some (sub_view result) }
+    {
+        let mut place = i;
+        for part in self.parts.as_slice() {
+            if place < part.len() {
+                return part.get(place);
+            }
+            place -= part.len();
+        }
+        unreachable!()
+    }
+}
