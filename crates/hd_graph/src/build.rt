@@ -20,7 +20,7 @@ use crate::graph::{Graph, Repeats};
 use crate::id_hasher::IdHasher;
 use crate::instance_rows::push_instance;
 use crate::layouts::shapes_of_classes;
-use crate::located::Located;
+use crate::located::{Located, TAG_SERIAL_AND_COUNT};
 use crate::noted::{repeated_loads, repeated_strings};
 use crate::number::{Numbered, number};
 use crate::shape::Shapes;
@@ -119,7 +119,7 @@ fn fill_one(
         }
         Item::ObjArray { id, elements, .. } => {
             if references.is_next(id) {
-                let class = offset as u32 + 9 + references.id_len();
+                let class = offset as u32 + TAG_SERIAL_AND_COUNT + references.id_len();
                 push_array(references, class, elements)?;
                 shapes.push_object_array(elements.len as u32)?;
             }

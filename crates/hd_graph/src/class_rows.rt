@@ -9,7 +9,7 @@ ghost use Rattle.hd_terms.specs.Records.{id_len};
 ghost use Rattle.hd_graph.specs.ArrayRows.{IsValueWithin, IsClassWithin, HasLinks, links_at, values_of_statics, values_of_constants, value_ids, value_names, static_bytes, class_row, class_names, class_weight};
 ghost use Rattle.hd_graph.specs.Building.{Adds, GrowsBy, columns};
 
-use crate::located::Located;
+use crate::located::{Located, TAG_AND_SERIAL};
 use crate::shape::{ClassShape, Shapes};
 use hd_subs::{ClassDump, Constant, Static};
 use hd_terms::{Slot, Span, is_id_type};
@@ -141,7 +141,7 @@ pub(crate) fn push_class(
     ensures added { OnOk result (Adds (class.now.id, class_row references.old.bytes references.old.size (class_view class.now), ClassObject (static_bytes (class_view class.now).statics) (class_names (class_view class.now))) (class_weight (class_view class.now)) (columns references.old shapes.old.objects) (columns references.new shapes.new.objects)) }
     ensures kept { OnOk result (shapes.new.layouts ≡ shapes.old.layouts) }
 {
-    let links = offset as u32 + 5 + references.id_len();
+    let links = offset as u32 + TAG_AND_SERIAL + references.id_len();
     let mut names = Vec::new(alloc);
     push_statics(references, &mut names, class.statics.as_slice())?;
     push_constants(references, &mut names, class.constants.as_slice())?;

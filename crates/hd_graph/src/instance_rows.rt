@@ -10,7 +10,7 @@ ghost use Rattle.hd_graph.specs.Shapes.{ObjectArray};
 ghost use Rattle.hd_graph.specs.Building.{Adds, GrowsBy, columns, AreLayouts};
 
 use crate::layouts::bytes_of_layout;
-use crate::located::Located;
+use crate::located::{Located, TAG_AND_SERIAL};
 use crate::shape::Shapes;
 use hd_classes::{Classes, LayoutField};
 use hd_terms::{IdSize, Span, is_id_type, value_len};
@@ -135,7 +135,7 @@ pub(crate) fn push_instance(
     ensures added { OnOk result ((id : ℕ) → Adds (instance_entry references.old.bytes references.old.size id class values (fitting references.old.size values.len (known_at classes.now class))) (1 + values.len) (columns references.old shapes.old.objects) (columns references.new shapes.new.objects)) }
     ensures kept { OnOk result (shapes.new.layouts ≡ shapes.old.layouts) }
 {
-    let place = offset as u32 + 5 + references.id_len();
+    let place = offset as u32 + TAG_AND_SERIAL + references.id_len();
     match fitting_class(classes, references.id_size(), class, values.len) {
         Some(i) => {
             let layout = classes.get(i).layout.as_slice();

@@ -13,6 +13,12 @@ use std::alloc::{AllocError, Global};
 use std::marker::Model;
 use std::thread::Threads;
 
+/// The bytes of a tag and a serial number. An instance and a class have them and their own ID before the ID of a class.
+pub(crate) const TAG_AND_SERIAL: u32 = 5;
+
+/// The bytes of a tag, a serial number and a count. An object array has them and its own ID before the ID of its class.
+pub(crate) const TAG_SERIAL_AND_COUNT: u32 = 9;
+
 /// The references of objects as the file has them: for each object a row of IDs, each kept as its place in the file, in four
 /// bytes.
 #[derive(Drop)]
