@@ -13,6 +13,10 @@ use std::sync::atomic::{AtomicUsize, Ordering};
 
 const MARK: c_int = 3;
 
+/// What the C library says of a refused allocation; parts of it that allocate for themselves, as where a thread is made,
+/// expect it.
+const ENOMEM: c_int = 12;
+
 static CALLS: AtomicUsize = AtomicUsize::new(0);
 
 extern "C" {
@@ -21,6 +25,7 @@ extern "C" {
     fn __libc_realloc(old: *mut c_void, size: usize) -> *mut c_void;
     fn getenv(name: *const c_char) -> *const c_char;
     fn write(descriptor: c_int, bytes: *const c_void, len: usize) -> isize;
+    fn __errno_location() -> *mut c_int;
 }
 
 /// The number in the environment variable `REFUSE`, 0 where there is none or it isn't a number.
@@ -46,8 +51,11 @@ fn is_refused() -> bool {
     let call = CALLS.fetch_add(1, Ordering::Relaxed) + 1;
     let refused = call == wanted();
     if refused {
-        // SAFETY: one byte is there to be written.
-        unsafe { write(MARK, b"x".as_ptr().cast(), 1) };
+        // SAFETY: one byte is there to be written, and each thread has a place for its error's number.
+        unsafe {
+            write(MARK, b"x".as_ptr().cast(), 1);
+            *__errno_location() = ENOMEM;
+        }
     }
     refused
 }
