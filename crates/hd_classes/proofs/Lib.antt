@@ -1,7 +1,7 @@
 pub mod LookLemmas
 pub mod FirstLemmas
 pub mod NameLemmas
-pub mod StandingLemmas
-pub mod TrailLemmas
+pub mod FirstClassLemmas
+pub mod PrefixLemmas
 pub mod SearchLemmas
 pub mod KnownLemmas

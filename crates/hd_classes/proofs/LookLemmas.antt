@@ -5,7 +5,7 @@ use Rattle.std.specs.Map.{lookup, keys_of, values_of}
 use Rattle.std.specs.Option.{option_map}
 use Rattle.std.proofs.lemmas.Map.Made.{lookup-map_values}
 use Rattle.hd_classes.specs.declared.classes.Classes.TheInside.{Inside}
-use Rattle.hd_classes.specs.declared.known.KnownClass.{KnownClass}
+use Rattle.hd_classes.specs.declared.known.ResolvedClass.{ResolvedClass}
 use Rattle.hd_classes.specs.Known.{Known, known_view, known_at}
 use Rattle.hd_classes.specs.Inside.{known_of}
 
@@ -14,7 +14,7 @@ pub known-by_entries : (a : Inside) (k : Known) (id : ℕ) → known_of a ≡ k 
 known-by_entries a k id is =
     ap (λ (x : Known). known_at x id) (sym is) ∙ lookup-map_values known_view (λ (x : ℕ). eqb id x) a.known.entries
 
-pub known-some : (a : Inside) (k : Known) (id : ℕ) (x : KnownClass) → known_of a ≡ k → Some x ≡ lookup (λ (y : ℕ). eqb id y) a.known.entries → known_at k id ≡ Some (known_view x)
+pub known-some : (a : Inside) (k : Known) (id : ℕ) (x : ResolvedClass) → known_of a ≡ k → Some x ≡ lookup (λ (y : ℕ). eqb id y) a.known.entries → known_at k id ≡ Some (known_view x)
 known-some a k id x is found = known-by_entries a k id is ∙ ap (option_map known_view) (sym found)
 
 pub known-none : (a : Inside) (k : Known) (id : ℕ) → known_of a ≡ k → None ≡ lookup (λ (y : ℕ). eqb id y) a.known.entries → known_at k id ≡ None

@@ -4,30 +4,30 @@ use Rattle.std.specs.List.{filter_map, list_any}
 use Rattle.std.specs.Map.{lookup}
 use Rattle.hd_terms.specs.declared.errors.Cause.TheVariants as causes
 use Rattle.hd_terms.specs.declared.errors.ReadFault.{ReadFault}
-use Rattle.hd_terms.specs.Classes.{ClassTable, KnownClass, known_class, never_ends}
+use Rattle.hd_terms.specs.Classes.{ClassTable, ResolvedClass, resolved_class, never_ends}
 use Rattle.hd_terms.specs.ReadFaults.{fault}
-use Rattle.hd_classes.specs.declared.known.KnownClass as declared_class
+use Rattle.hd_classes.specs.declared.known.ResolvedClass as declared_class
 use Rattle.hd_classes.specs.declared.source.Source.{Source}
 use Rattle.hd_classes.specs.Known.{known_view}
 use Rattle.hd_classes.specs.Sources.{table_of}
-use Rattle.hd_classes.specs.Standing.{ClassPlace, class_places}
+use Rattle.hd_classes.specs.FirstClass.{ClassPlace, class_places}
 
 -- rows as the definitions say them
-abbrev pub rows_view : List (ℕ × declared_class.KnownClass) → List (ℕ × KnownClass)
-rows_view rows = map (λ (p : ℕ × declared_class.KnownClass). (p.0, known_view p.1)) rows
+abbrev pub rows_view : List (ℕ × declared_class.ResolvedClass) → List (ℕ × ResolvedClass)
+rows_view rows = map (λ (p : ℕ × declared_class.ResolvedClass). (p.0, known_view p.1)) rows
 
 -- one of these classes has the ID
 abbrev pub is_among : List ClassPlace → ℕ → Bool
 is_among classes id = list_any (λ (x : ClassPlace). id == x.class.id) classes
 
 -- each of these classes whose chain is whole has what is known of it
-pub record HasKnown (t : ClassTable) (classes : List ClassPlace) (rows : List (ℕ × declared_class.KnownClass)) : Type 0 where
-  pub known : (id : ℕ) → lookup (λ (x : ℕ). id == x) (rows_view rows) ≡ if is_among classes id then known_class t id else None
+pub record HasKnown (t : ClassTable) (classes : List ClassPlace) (rows : List (ℕ × declared_class.ResolvedClass)) : Type 0 where
+  pub known : (id : ℕ) → lookup (λ (x : ℕ). id == x) (rows_view rows) ≡ if is_among classes id then resolved_class t id else None
   pub few : length rows ≤ length classes
-  pub short : All (λ (p : ℕ × KnownClass). length p.1.layout < 2 ^ 29) (rows_view rows)
+  pub short : All (λ (p : ℕ × ResolvedClass). length p.1.layout < 2 ^ 29) (rows_view rows)
 
 -- one class more, whose chain ends
-pub record AddsClass (t : ClassTable) (x : ClassPlace) (rows rows' : List (ℕ × declared_class.KnownClass)) : Type 0 where
+pub record AddsClass (t : ClassTable) (x : ClassPlace) (rows rows' : List (ℕ × declared_class.ResolvedClass)) : Type 0 where
   pub ends : never_ends t.classes x.class.id ≡ false
   pub more : (before : List ClassPlace) → HasKnown t before rows → HasKnown t (before ++ x ∷ []) rows'
 
@@ -36,7 +36,7 @@ abbrev pub cycle_at : ClassTable → ClassPlace → Option ReadFault
 cycle_at t x = if never_ends t.classes x.class.id then Some (fault causes.ClassCycle x.offset) else None
 
 -- all classes of a source, whose chains end
-pub record HasAllKnown (s : Source) (rows : List (ℕ × declared_class.KnownClass)) : Type 0 where
+pub record HasAllKnown (s : Source) (rows : List (ℕ × declared_class.ResolvedClass)) : Type 0 where
   pub known : HasKnown (table_of s) (class_places s.list.now) rows
   pub no_cycle : filter_map (cycle_at (table_of s)) (class_places s.list.now) ≡ []
 

@@ -9,17 +9,17 @@ use Rattle.hd_terms.specs.declared.EdgeKind.TheVariants as kinds
 use Rattle.hd_terms.specs.declared.errors.Cause.TheVariants as causes
 use Rattle.hd_terms.specs.declared.errors.ReadFault.{ReadFault}
 use Rattle.hd_terms.specs.SubRecords.{Sub}
-use Rattle.hd_terms.specs.Classes.{ClassTable, LayoutField, KnownClass, name_of, known_class}
+use Rattle.hd_terms.specs.Classes.{ClassTable, LayoutField, ResolvedClass, name_of, resolved_class}
 use Rattle.hd_terms.specs.HeapFaults.{class_faults}
 use Rattle.hd_terms.specs.ReadFaults.{fault}
 use Rattle.hd_classes.specs.declared.known.LayoutField as declared_field
-use Rattle.hd_classes.specs.declared.known.KnownClass as declared_class
+use Rattle.hd_classes.specs.declared.known.ResolvedClass as declared_class
 
 -- a field of a layout, and what is known of a class, as the definitions say them
 abbrev pub field_view : declared_field.LayoutField → LayoutField
 field_view f = record { owner = f.owner; name = f.name; code = f.code }
 
-abbrev pub known_view : declared_class.KnownClass → KnownClass
+abbrev pub known_view : declared_class.ResolvedClass → ResolvedClass
 known_view k = record { chain = k.chain.items; layout = map field_view k.layout.items; referent = k.referent; kind = k.kind }
 
 -- where texts lie, by their IDs; the IDs of classes' names, by the IDs of the classes; and the classes whose chains are whole,
@@ -27,7 +27,7 @@ known_view k = record { chain = k.chain.items; layout = map field_view k.layout.
 pub record Known : Type 0 where
   pub texts : List (ℕ × Span)
   pub names : List (ℕ × ℕ)
-  pub classes : List (ℕ × KnownClass)
+  pub classes : List (ℕ × ResolvedClass)
 
 -- where the name of the class of an ID lies, if it has one
 abbrev pub name_at : Known → ℕ → Option Span
@@ -35,35 +35,35 @@ name_at k id = option_and_then (λ (name : ℕ). lookup (λ (x : ℕ). name == x
 
 -- the number of the class of an ID, and what is known of it, if its chain is whole
 abbrev pub number_of : Known → ℕ → Option ℕ
-number_of k id = position (λ (p : ℕ × KnownClass). id == p.0) k.classes
+number_of k id = position (λ (p : ℕ × ResolvedClass). id == p.0) k.classes
 
-abbrev pub known_at : Known → ℕ → Option KnownClass
+abbrev pub known_at : Known → ℕ → Option ResolvedClass
 known_at k id = lookup (λ (x : ℕ). id == x) k.classes
 
 -- what is known of the class of a number
-abbrev pub known_by_number : Known → ℕ → Option KnownClass
-known_by_number k i = option_map (λ (p : ℕ × KnownClass). p.1) (slice_get k.classes i)
+abbrev pub known_by_number : Known → ℕ → Option ResolvedClass
+known_by_number k i = option_map (λ (p : ℕ × ResolvedClass). p.1) (slice_get k.classes i)
 
 -- the chain, the layout, the referent field and the kind of the class of an ID, so far as its chain is whole
 abbrev pub chain_at : Known → ℕ → Option (List ℕ)
-chain_at k id = option_map (λ (x : KnownClass). x.chain) (known_at k id)
+chain_at k id = option_map (λ (x : ResolvedClass). x.chain) (known_at k id)
 
 abbrev pub layout_at : Known → ℕ → Option (List LayoutField)
-layout_at k id = option_map (λ (x : KnownClass). x.layout) (known_at k id)
+layout_at k id = option_map (λ (x : ResolvedClass). x.layout) (known_at k id)
 
 abbrev pub referent_at : Known → ℕ → Option ℕ
-referent_at k id = option_and_then (λ (x : KnownClass). x.referent) (known_at k id)
+referent_at k id = option_and_then (λ (x : ResolvedClass). x.referent) (known_at k id)
 
 abbrev pub kind_at : Known → ℕ → EdgeKind
-kind_at k id = option_map_or (λ (x : KnownClass). x.kind) (known_at k id) kinds.Strong
+kind_at k id = option_map_or (λ (x : ResolvedClass). x.kind) (known_at k id) kinds.Strong
 
 -- names and classes are those of a file: each class whose chain is whole has what is known of it, and no other ID has. They are
 -- no more than the class objects, and the values of no layout have more bytes than numbers of four bytes count
 pub record AreClassesOf (t : ClassTable) (k : Known) : Type 0 where
   pub names : (id : ℕ) → name_at k id ≡ name_of t id
-  pub known : (id : ℕ) → known_at k id ≡ known_class t id
+  pub known : (id : ℕ) → known_at k id ≡ resolved_class t id
   pub few : length k.classes ≤ length t.classes
-  pub short : All (λ (p : ℕ × KnownClass). length p.1.layout < 2 ^ 29) k.classes
+  pub short : All (λ (p : ℕ × ResolvedClass). length p.1.layout < 2 ^ 29) k.classes
 
 -- want of memory, or the first class whose chain never ends
 abbrev pub IsClassFaultOrMemory : ClassTable → List Sub → ReadFault → Type 0

@@ -1,7 +1,7 @@
 pub mod Firsts
 pub mod Known
 pub mod Inside
-pub mod Standing
+pub mod FirstClass
 pub mod Sources
 pub mod Walks
 pub mod Building

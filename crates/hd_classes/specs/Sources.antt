@@ -10,12 +10,12 @@ use Rattle.hd_terms.specs.declared.Load.{Load}
 use Rattle.hd_terms.specs.declared.EdgeKind.{EdgeKind}
 use Rattle.hd_terms.specs.declared.EdgeKind.TheVariants as kinds
 use Rattle.hd_terms.specs.SubRecords.{Sub}
-use Rattle.hd_terms.specs.Classes.{ClassTable, KnownClass, class_table, slashed, reference_kind, referent_in}
+use Rattle.hd_terms.specs.Classes.{ClassTable, ResolvedClass, class_table, slashed, reference_kind, referent_in}
 use Rattle.hd_records.specs.declared.records.Records.{Records}
 use Rattle.hd_classes.specs.declared.source.Source.{Source}
 use Rattle.hd_classes.specs.declared.chains.Walk.{Walk}
 use Rattle.hd_classes.specs.Known.{field_view, IsTextWithin}
-use Rattle.hd_classes.specs.Standing.{HasStanding}
+use Rattle.hd_classes.specs.FirstClass.{HasFirstClasses}
 
 -- the first text of each ID is kept by the ID
 abbrev pub HasFirstTexts : List Text → List (ℕ × Span) → Type 0
@@ -34,7 +34,7 @@ pub record IsSource (s : Source) : Type 0 where
   pub texts : HasFirstTexts s.records.now.strings s.texts.entries
   pub names : HasFirstNames s.records.now.loads s.names.entries
   pub within : All (IsTextWithin (length s.bytes.now)) s.records.now.strings
-  pub classes : HasStanding s.list.now s.classes.entries
+  pub classes : HasFirstClasses s.list.now s.classes.entries
 
 -- and they are those of this file
 pub record IsSourceOf (bytes : List ℕ) (records : Records) (list : List Sub) (s : Source) : Type 0 where
@@ -57,7 +57,7 @@ abbrev pub kind_among : ClassTable → List ℕ → EdgeKind
 kind_among t chain = unwrap_or (slice_get (filter_map (reference_kind t) chain) 0) kinds.Strong
 
 -- what is known of a class whose chain is walked to its end
-abbrev pub known_of_walk : ClassTable → Walk → KnownClass
+abbrev pub known_of_walk : ClassTable → Walk → ResolvedClass
 known_of_walk t w = record {
   chain = w.chain.items;
   layout = map field_view w.layout.items;

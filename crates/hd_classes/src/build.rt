@@ -4,14 +4,14 @@ ghost use Rattle.hd_terms.specs.Classes.{class_table};
 ghost use Rattle.hd_terms.specs.HeapFaults.{class_faults};
 ghost use Rattle.hd_classes.specs.Known.{AreClassesOf, IsClassFaultOrMemory, IsTextWithin, known_view};
 ghost use Rattle.hd_classes.specs.Sources.{IsSource, table_of, known_of_walk};
-ghost use Rattle.hd_classes.specs.Standing.{place_view};
+ghost use Rattle.hd_classes.specs.FirstClass.{place_view};
 ghost use Rattle.hd_classes.specs.Building.{AddsClass, HasAllKnown, IsCycleOrMemory, IsFirstCycleOrMemory};
 
 use crate::chains::{Walk, end_of_chain, walk_up};
 use crate::classes::Classes;
-use crate::known::KnownClass;
+use crate::first_class::FirstClass;
+use crate::known::ResolvedClass;
 use crate::source::{Source, source_of};
-use crate::standing::Standing;
 use hd_records::Records;
 use hd_subs::DumpSubs;
 use hd_terms::{Cause, ReadFault};
@@ -19,14 +19,14 @@ use indexmap::IndexMap;
 use std::alloc::Global;
 
 /// What is known of a class of which this is the whole chain.
-fn known_of_walk(source: &Source<'_>, walk: Walk) -> KnownClass
+fn known_of_walk(source: &Source<'_>, walk: Walk) -> ResolvedClass
     requires kept { IsSource source.now }
     requires short { length walk.layout.items < 2 ^ 29 }
     ensures { known_view result ≡ known_of_walk (table_of source.now) walk }
 {
     let referent = source.referent_in(walk.layout.as_slice());
     let kind = source.kind_in(walk.chain.as_slice());
-    KnownClass {
+    ResolvedClass {
         chain: walk.chain,
         layout: walk.layout,
         referent,
@@ -37,9 +37,9 @@ fn known_of_walk(source: &Source<'_>, walk: Walk) -> KnownClass
 /// Adds what is known of a class, if its chain is whole. A chain that never ends is a fault.
 fn add_class(
     alloc: Global,
-    known: &mut IndexMap<u64, KnownClass>,
+    known: &mut IndexMap<u64, ResolvedClass>,
     source: &Source<'_>,
-    class: Standing<'_>,
+    class: FirstClass<'_>,
 ) -> Result<(), ReadFault>
     requires { IsSource source.now }
     ensures ok { OnOk result (AddsClass (table_of source.now) (place_view class.entry) known.old.entries known.new.entries) }
@@ -65,7 +65,10 @@ fn add_class(
 }
 
 /// What is known of each class whose chain is whole, by the classes' IDs.
-fn known_classes(alloc: Global, source: &Source<'_>) -> Result<IndexMap<u64, KnownClass>, ReadFault>
+fn resolved_classes(
+    alloc: Global,
+    source: &Source<'_>,
+) -> Result<IndexMap<u64, ResolvedClass>, ReadFault>
     requires { IsSource source.now }
     ensures ok { IfOk result (λ known. HasAllKnown source.now known.entries) }
     ensures err { IfErr result (λ f. IsFirstCycleOrMemory source.now f) }
@@ -96,7 +99,7 @@ impl Classes {
         ensures err { IfErr result (λ f. IsClassFaultOrMemory (class_table bytes.now records.now.strings records.now.loads list.now) list.now f) }
     {
         let source = source_of(alloc, bytes, records, list)?;
-        let known = known_classes(alloc, &source)?;
+        let known = resolved_classes(alloc, &source)?;
         Ok(Classes::new(source.texts, source.names, known))
     }
 }

@@ -1,12 +1,12 @@
 //! The chains of classes, and the fields along them.
 ghost use Rattle.std.specs.Prelude.{◌≡◌, ◌<◌, ◌^◌, ◌++◌, map, vec_len, IfOk, IfErr, OnOk};
 ghost use Rattle.hd_terms.specs.declared.errors.Cause.TheVariants.{OutOfMemory};
-ghost use Rattle.hd_terms.specs.Classes.{fields_of, longest_trail};
+ghost use Rattle.hd_terms.specs.Classes.{fields_of, longest_prefix};
 ghost use Rattle.hd_terms.specs.ReadFaults.{fault};
 ghost use Rattle.hd_subs.specs.Views.{class_view};
 ghost use Rattle.hd_classes.specs.Known.{field_view};
 ghost use Rattle.hd_classes.specs.Sources.{IsSource, table_of};
-ghost use Rattle.hd_classes.specs.Walks.{IsTrail, GoesOn};
+ghost use Rattle.hd_classes.specs.Walks.{IsChainPrefix, GoesOn};
 
 use crate::known::LayoutField;
 use crate::source::Source;
@@ -65,7 +65,7 @@ impl Walk {
 /// The ID at which the classes from an ID upwards end, after as many of them as there are classes at most.
 pub(crate) fn end_of_chain(source: &Source<'_>, id: u64) -> u64
     requires { IsSource source.now }
-    ensures { result ≡ (longest_trail (table_of source.now).classes id).end }
+    ensures { result ≡ (longest_prefix (table_of source.now).classes id).end }
 {
     let mut end = id;
     for _step in 0..source.classes.len() {
@@ -80,7 +80,7 @@ pub(crate) fn end_of_chain(source: &Source<'_>, id: u64) -> u64
 /// The classes from an ID upwards, as many as there are classes at most.
 pub(crate) fn walk_up(alloc: Global, source: &Source<'_>, id: u64) -> Result<Walk, ReadFault>
     requires { IsSource source.now }
-    ensures ok { IfOk result (IsTrail (longest_trail (table_of source.now).classes id)) }
+    ensures ok { IfOk result (IsChainPrefix (longest_prefix (table_of source.now).classes id)) }
     ensures err { IfErr result (λ f. f ≡ fault OutOfMemory 0) }
 {
     let mut walk = Walk {

@@ -3,7 +3,7 @@ ghost use Rattle.std.specs.Prelude.{◌≡◌, ◌<◌, ◌↔◌, [], length, m
 ghost use Rattle.hd_classes.specs.Known.{name_at, number_of, known_by_number, chain_at, layout_at, referent_at, kind_at, field_view, known_view};
 ghost use Rattle.hd_classes.specs.Building.{rows_view};
 
-use crate::known::{KnownClass, LayoutField};
+use crate::known::{LayoutField, ResolvedClass};
 use hd_terms::{EdgeKind, Span};
 use indexmap::IndexMap;
 use std::marker::Model;
@@ -15,7 +15,7 @@ pub struct Classes {
     texts: IndexMap<u64, Span>,
     /// The ID of the text that is a class's name, by the class's ID.
     names: IndexMap<u64, u64>,
-    known: IndexMap<u64, KnownClass>,
+    known: IndexMap<u64, ResolvedClass>,
 }
 
 impl Model for Classes {
@@ -33,7 +33,7 @@ impl Classes {
     pub(crate) fn new(
         texts: IndexMap<u64, Span>,
         names: IndexMap<u64, u64>,
-        known: IndexMap<u64, KnownClass>,
+        known: IndexMap<u64, ResolvedClass>,
     ) -> Classes
         ensures { result ≡ record { texts = texts.entries; names = names.entries; classes = rows_view known.entries } }
     {
@@ -66,7 +66,7 @@ impl Classes {
     }
 
     /// What is known of the class of a number.
-    pub fn get(&self, i: usize) -> &KnownClass
+    pub fn get(&self, i: usize) -> &ResolvedClass
         requires { i < length self.now.classes }
         ensures { known_by_number self.now i ≡ Some (known_view result.now) }
     {

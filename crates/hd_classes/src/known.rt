@@ -14,7 +14,7 @@ pub struct LayoutField {
 
 /// A class whose chain goes up to a class without a super class.
 #[derive(Debug, Drop)]
-pub struct KnownClass {
+pub struct ResolvedClass {
     /// The IDs of the classes of its chain: its own, its super class's, and so on.
     pub chain: Vec<u64>,
     /// The instance fields of these classes, its own before its super class's.

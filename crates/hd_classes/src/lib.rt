@@ -4,14 +4,14 @@
 mod build;
 mod chains;
 mod classes;
+mod first_class;
 mod known;
 mod names;
 mod reference;
 mod source;
-mod standing;
 
 pub use classes::Classes;
-pub use known::{KnownClass, LayoutField};
+pub use known::{LayoutField, ResolvedClass};
 
 #[cfg(test)]
 mod tests;

@@ -6,8 +6,8 @@ ghost use Rattle.hd_subs.specs.Views.{class_view};
 ghost use Rattle.hd_classes.specs.Known.{IsTextWithin};
 ghost use Rattle.hd_classes.specs.Sources.{IsSourceOf, IsSource, table_of};
 
+use crate::first_class::{FirstClass, first_classes};
 use crate::names::{bytes_of, first_names, first_texts};
-use crate::standing::{Standing, standing_classes};
 use hd_records::Records;
 use hd_subs::{ClassDump, DumpSubs};
 use hd_terms::Span;
@@ -25,7 +25,7 @@ pub(crate) struct Source<'a> {
     /// The ID of the text that is a class's name, by the class's ID.
     pub(crate) names: IndexMap<u64, u64>,
     /// The classes that stand, in file order.
-    pub(crate) classes: IndexMap<u64, Standing<'a>>,
+    pub(crate) classes: IndexMap<u64, FirstClass<'a>>,
 }
 
 /// What the classes of a file are found out from.
@@ -40,7 +40,7 @@ pub(crate) fn source_of<'a>(
 {
     let texts = first_texts(alloc, &records.strings)?;
     let names = first_names(alloc, &records.loads)?;
-    let classes = standing_classes(alloc, list)?;
+    let classes = first_classes(alloc, list)?;
     Ok(Source {
         bytes,
         records,

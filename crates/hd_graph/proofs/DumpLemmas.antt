@@ -8,7 +8,7 @@ use Rattle.std.proofs.Math.Seq.{drop-append_seam}
 use Rattle.hd_terms.specs.declared.IdSize.{IdSize}
 use Rattle.hd_terms.specs.declared.Span.{Span}
 use Rattle.hd_terms.specs.SubRecords.{SubRecord, RootOf, ClassDump, InstanceDump, ObjectArray, PrimitiveArray, IsSubRecord, AreSubRecords, sub_record_text, Sub, subs_at, dump_subs_at, item_at}
-use Rattle.hd_terms.specs.Classes.{ClassTable, known_class}
+use Rattle.hd_terms.specs.Classes.{ClassTable, resolved_class}
 use Rattle.hd_terms.specs.Dump.{Object, Root}
 use Rattle.hd_terms.specs.Objects.{object_of}
 use Rattle.hd_terms.specs.Roots.{root_of, roots_of}
@@ -18,7 +18,7 @@ use Rattle.hd_decode.specs.Bodies.{AreBodies, body_at, span_total}
 use Rattle.hd_graph.proofs.RowLemmas.{id_of_entry, row_of_entry, shape_of_entry}
 use Rattle.hd_graph.proofs.ClassLemmas.{class-object, class-within, class-links, class-heavy}
 use Rattle.hd_graph.proofs.InstanceLemmas.{instance-object, instance-within, instance-class, instance-weight}
-use Rattle.hd_graph.proofs.LocatedLemmas.{object_of_entry, array-object, array-within, array-class, array-weight, primitive-within, primitive-weight}
+use Rattle.hd_graph.proofs.UnresolvedLemmas.{object_of_entry, array-object, array-within, array-class, array-weight, primitive-within, primitive-weight}
 
 module _ (t : ClassTable) (bytes : List ℕ) (size : IdSize) where
   -- where the next sub-record begins
@@ -31,7 +31,7 @@ module _ (t : ClassTable) (bytes : List ℕ) (size : IdSize) where
   here at s ss rest whole = whole ∙ append_assoc (sub_record_text s) (flat_map sub_record_text ss) rest
 
   objects_at : (at : ℕ) (ss : List SubRecord) (rest : List ℕ) → drop at bytes ≡ flat_map sub_record_text ss ++ rest → AllByRecursion (IsSubRecord size) ss
-      → map object_of_entry (filter_map (entry_of (known_class t) bytes size) (subs_at size at ss)) ≡ filter_map (object_of t size) ss
+      → map object_of_entry (filter_map (entry_of (resolved_class t) bytes size) (subs_at size at ss)) ≡ filter_map (object_of t size) ss
   objects_at at [] rest whole each = refl
   objects_at at (RootOf kind id more ∷ ss) rest whole each = objects_at (at + length (sub_record_text (RootOf kind id more))) ss rest (next at (RootOf kind id more) ss rest whole) each.1
   objects_at at (ObjectArray id serial count class elements ∷ ss) rest whole each =
@@ -126,14 +126,14 @@ module _ (t : ClassTable) (bytes : List ℕ) (size : IdSize) where
   all_of segments = flat_map (λ (ss : List SubRecord). ss) segments
 
   pub objects_in : (spans : List Span) (segments : List (List SubRecord)) → AreBodies size bytes spans segments
-      → map object_of_entry (filter_map (entry_of (known_class t) bytes size) (dump_subs_at size spans segments)) ≡ filter_map (object_of t size) (all_of segments)
+      → map object_of_entry (filter_map (entry_of (resolved_class t) bytes size) (dump_subs_at size spans segments)) ≡ filter_map (object_of t size) (all_of segments)
   objects_in [] [] all = refl
   objects_in [] (s ∷ segments) all = absurd all
   objects_in (p ∷ spans) [] all = absurd all
   objects_in (p ∷ spans) (s ∷ segments) all =
-      ap (map object_of_entry) (filter_map-append (entry_of (known_class t) bytes size) (subs_at size p.start s) (dump_subs_at size spans segments))
-      ∙ map-append object_of_entry (filter_map (entry_of (known_class t) bytes size) (subs_at size p.start s)) (filter_map (entry_of (known_class t) bytes size) (dump_subs_at size spans segments))
-      ∙ ap (λ (xs : List Object). xs ++ map object_of_entry (filter_map (entry_of (known_class t) bytes size) (dump_subs_at size spans segments))) (objects_at p.start s _ (from_span p s all.0) all.0.each)
+      ap (map object_of_entry) (filter_map-append (entry_of (resolved_class t) bytes size) (subs_at size p.start s) (dump_subs_at size spans segments))
+      ∙ map-append object_of_entry (filter_map (entry_of (resolved_class t) bytes size) (subs_at size p.start s)) (filter_map (entry_of (resolved_class t) bytes size) (dump_subs_at size spans segments))
+      ∙ ap (λ (xs : List Object). xs ++ map object_of_entry (filter_map (entry_of (resolved_class t) bytes size) (dump_subs_at size spans segments))) (objects_at p.start s _ (from_span p s all.0) all.0.each)
       ∙ ap (λ (xs : List Object). filter_map (object_of t size) s ++ xs) (objects_in spans segments all.1)
       ∙ sym (filter_map-append (object_of t size) s (all_of segments))
 

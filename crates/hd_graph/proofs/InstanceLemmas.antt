@@ -19,7 +19,7 @@ use Rattle.hd_terms.specs.declared.Group.TheVariants as groups
 use Rattle.hd_terms.specs.Records.{id_len}
 use Rattle.hd_terms.specs.Types.{is_id_type, element_len, value_len}
 use Rattle.hd_terms.specs.SubRecords.{InstanceDump, IsSubRecord, sub_record_text}
-use Rattle.hd_terms.specs.Classes.{ClassTable, LayoutField, KnownClass, layout_len, known_class}
+use Rattle.hd_terms.specs.Classes.{ClassTable, LayoutField, ResolvedClass, layout_len, resolved_class}
 use Rattle.hd_terms.specs.Dump.{Object, SlotEntry}
 use Rattle.hd_terms.specs.Slots.{strong_slot, field_kind, field_slots, instance_slots}
 use Rattle.hd_terms.specs.Objects.{object_of}
@@ -27,19 +27,19 @@ use Rattle.hd_graph.specs.Table.{HasIdAt}
 use Rattle.hd_graph.specs.Shapes.{shape_bytes, named_slots, with_kind, referent_kind, HasShape, ComesBefore, IsRising}
 use Rattle.hd_graph.specs.ArrayRows.{placed_fields, value_ids, field_names, layout_names, fitting, instance_entry}
 use Rattle.hd_graph.proofs.CutLemmas.{last_from-push}
-use Rattle.hd_graph.proofs.LocatedLemmas.{object_of_entry, id-behind}
+use Rattle.hd_graph.proofs.UnresolvedLemmas.{object_of_entry, id-behind}
 
 -- values that fit a layout have its bytes
-fitting-one : (size : IdSize) (len : ℕ) (x k : KnownClass) (b : Bool) → eqb len (layout_len size x.layout) ≡ b → (let o : Option KnownClass = cond b (Some x) None in o) ≡ Some k → len ≡ layout_len size k.layout
+fitting-one : (size : IdSize) (len : ℕ) (x k : ResolvedClass) (b : Bool) → eqb len (layout_len size x.layout) ≡ b → (let o : Option ResolvedClass = cond b (Some x) None in o) ≡ Some k → len ≡ layout_len size k.layout
 fitting-one size len x k false e is = absurd cc
-fitting-one size len x k true e is = let same : x ≡ k = cc in eqb-true len (layout_len size x.layout) e ∙ ap (λ (y : KnownClass). layout_len size y.layout) same
+fitting-one size len x k true e is = let same : x ≡ k = cc in eqb-true len (layout_len size x.layout) e ∙ ap (λ (y : ResolvedClass). layout_len size y.layout) same
 
-pub fitting-len : (size : IdSize) (len : ℕ) (known : Option KnownClass) (k : KnownClass) → fitting size len known ≡ Some k → len ≡ layout_len size k.layout
+pub fitting-len : (size : IdSize) (len : ℕ) (known : Option ResolvedClass) (k : ResolvedClass) → fitting size len known ≡ Some k → len ≡ layout_len size k.layout
 fitting-len size len None k is = absurd cc
 fitting-len size len (Some x) k is = fitting-one size len x k (eqb len (layout_len size x.layout)) refl is
 
 -- an instance's recorded bytes are those of its values
-pub instance-bytes : (bytes : List ℕ) (size : IdSize) (id class : ℕ) (values : Span) (known k : Option KnownClass) → fitting size values.len known ≡ k
+pub instance-bytes : (bytes : List ℕ) (size : IdSize) (id class : ℕ) (values : Span) (known k : Option ResolvedClass) → fitting size values.len known ≡ k
     → shape_bytes (instance_entry bytes size id class values k).2 ≡ values.len
 instance-bytes bytes size id class values known None is = refl
 instance-bytes bytes size id class values known (Some k) is = sym (fitting-len size values.len known k is)
@@ -73,7 +73,7 @@ fields-rise i (f ∷ fs) = by_type (is_id_type f.code) (fields-rise (i + 1) fs)
     by_type false rising = rising
 
 -- an instance's shape fits its row
-pub instance-fits : (bytes : List ℕ) (size : IdSize) (id class : ℕ) (values : Span) (k : Option KnownClass) → HasShape (instance_entry bytes size id class values k).2 (instance_entry bytes size id class values k).1
+pub instance-fits : (bytes : List ℕ) (size : IdSize) (id class : ℕ) (values : Span) (k : Option ResolvedClass) → HasShape (instance_entry bytes size id class values k).2 (instance_entry bytes size id class values k).1
 instance-fits bytes size id class values None = tt
 instance-fits bytes size id class values (Some k) =
     let names = field_names 0 k.layout in
@@ -177,27 +177,27 @@ module _ (bytes : List ℕ) (size : IdSize) where
         let place : at + 9 + 2 * id_len size ≡ at + length h = omega (arith, length-instance_head) in
         ap (λ (n : ℕ). drop n bytes) place ∙ sym (drop-drop (length h) at bytes) ∙ ap (drop (length h)) (whole ∙ append_assoc h values rest) ∙ drop-append_seam h (values ++ rest)
 
-    object-by : (k : Option KnownClass) → fitting size span.len (known_class t class_id) ≡ k
+    object-by : (k : Option ResolvedClass) → fitting size span.len (resolved_class t class_id) ≡ k
         → object_of_entry (instance_entry bytes size (big_number (id_len size) id) class_id span k)
         ≡ record {
           id = big_number (id_len size) id;
           group = groups.Class class_id;
           bytes = big_number 4 count;
           slots = instance_slots size k class values;
-          referent = option_and_then (λ (x : KnownClass). option_map (λ (i : ℕ). slots.Field i) x.referent) k;
+          referent = option_and_then (λ (x : ResolvedClass). option_map (λ (i : ℕ). slots.Field i) x.referent) k;
         }
     object-by None fits = refl
     object-by (Some k) fits =
         let ids = value_ids bytes size (placed_fields size span.start k.layout) in
         let x : Group → ℕ → List SlotEntry → Object = λ g b ss. record { id = big_number (id_len size) id; group = g; bytes = b; slots = ss; referent = option_map (λ (i : ℕ). slots.Field i) k.referent } in
         let ss = map (with_kind (option_map (λ (i : ℕ). slots.Field i) k.referent) k.kind) (named_slots (layout_names k.layout) (ids ++ class_id ∷ [])) in
-        let enough : layout_len size k.layout ≤ length values = omega (arith, fitting-len size span.len (known_class t class_id) k fits, is.4) in
+        let enough : layout_len size k.layout ≤ length values = omega (arith, fitting-len size span.len (resolved_class t class_id) k fits, is.4) in
         ap (λ (c : ℕ). x (groups.Class c) (layout_len size k.layout) ss) (last_from-push 0 ids class_id)
-        ∙ ap (λ (n : ℕ). x (groups.Class class_id) n ss) (sym (fitting-len size span.len (known_class t class_id) k fits))
+        ∙ ap (λ (n : ℕ). x (groups.Class class_id) n ss) (sym (fitting-len size span.len (resolved_class t class_id) k fits))
         ∙ ap (λ (es : List SlotEntry). x (groups.Class class_id) (big_number 4 count) es) (fields-are k.referent k.kind class_id 0 span.start k.layout values rest from_values enough)
 
-    pub instance-object : Some (object_of_entry (instance_entry bytes size (big_number (id_len size) id) class_id span (fitting size span.len (known_class t class_id)))) ≡ object_of t size (InstanceDump id serial class count values)
-    instance-object = ap (λ (x : Object). Some x) (object-by (fitting size span.len (known_class t class_id)) refl)
+    pub instance-object : Some (object_of_entry (instance_entry bytes size (big_number (id_len size) id) class_id span (fitting size span.len (resolved_class t class_id)))) ≡ object_of t size (InstanceDump id serial class count values)
+    instance-object = ap (λ (x : Object). Some x) (object-by (fitting size span.len (resolved_class t class_id)) refl)
 
     text-long : length (sub_record_text (InstanceDump id serial class count values)) ≡ 9 + 2 * id_len size + big_number 4 count
     text-long = length-append instance_head values ∙ ap (λ (n : ℕ). n + length values) length-instance_head ∙ ap (λ (n : ℕ). 9 + 2 * id_len size + n) is.4

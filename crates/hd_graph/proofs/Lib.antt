@@ -4,7 +4,7 @@ pub mod TableLemmas
 pub mod ResolvingLemmas
 pub mod RowSlots
 pub mod ShapeLemmas
-pub mod KeptLemmas
+pub mod PackedLemmas
 pub mod RisingLemmas
 pub mod ClassLemmas
 pub mod ValueLemmas
@@ -14,7 +14,7 @@ pub mod ArrayLemmas
 pub mod NumberLemmas
 pub mod RowLemmas
 pub mod TextLemmas
-pub mod LocatedLemmas
+pub mod UnresolvedLemmas
 pub mod InstanceLemmas
 pub mod LayoutLemmas
 pub mod KnownLemmas

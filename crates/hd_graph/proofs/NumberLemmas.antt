@@ -22,7 +22,7 @@ use Rattle.hd_graph.specs.GraphInside.{root_of_row}
 use Rattle.hd_graph.specs.ArrayRows.{KnownBy, object_id, roots_in}
 use Rattle.hd_classes.specs.Firsts.{firsts, firsts_from}
 use Rattle.hd_graph.specs.Noted.{is_noted, NotesId}
-use Rattle.hd_graph.specs.Numbering.{is_misfit, is_opaque, object_fault, object_faults, IsNumbered, NotesObject, IsNullIdOrMemory, IsObjectStop, memory, null, misfit, StopsAt, IsObjectFaultOrMemory}
+use Rattle.hd_graph.specs.Numbering.{is_size_mismatch, is_opaque, object_fault, object_faults, IsNumbered, NotesObject, IsNullIdOrMemory, IsObjectStop, memory, null, size_mismatch, StopsAt, IsObjectFaultOrMemory}
 use Rattle.hd_classes.proofs.FirstLemmas.{first_of_each-firsts, firsts-push, firsts_from-append, firsts-le, is_known, if_new, known-map, filter_map-le}
 use Rattle.hd_graph.proofs.RepeatLemmas.{noted-push, repeats-le}
 
@@ -111,10 +111,10 @@ module _ (known : KnownBy) (size : IdSize) where
   noted-is : (front : List Sub) (ids : List ℕ) (roots : List RootRow) (tally : Tally) → IsNumbered known size front ids roots tally → (s : Sub) (id : ℕ) → is_noted ids id ≡ is_known sub_key (object_subs front) (id, s)
   noted-is front ids roots tally h s id = h.known_ids id ∙ ap (list_any (λ k. eqb id k)) (ids-of-subs front) ∙ known-map same sub_key (object_subs front) (id, s)
 
-  case-fault : (s : Sub) (id : ℕ) (b : Bool) → 0 < id → (b ≡ false → is_misfit known size s.item ≡ false) → filter_map (object_fault known size) (if_new sub_key b (id, s)) ≡ []
+  case-fault : (s : Sub) (id : ℕ) (b : Bool) → 0 < id → (b ≡ false → is_size_mismatch known size s.item ≡ false) → filter_map (object_fault known size) (if_new sub_key b (id, s)) ≡ []
   case-fault s id true some fits = refl
   case-fault s id false some fits =
-      ap (λ (z : Bool). cons_option (cond z (fault_if true causes.NullObject s) (fault_if (is_misfit known size s.item) causes.InstanceSize s)) []) (ne_eqb id 0 (λ e. omega (arith, e, some)))
+      ap (λ (z : Bool). cons_option (cond z (fault_if true causes.NullObject s) (fault_if (is_size_mismatch known size s.item) causes.InstanceSize s)) []) (ne_eqb id 0 (λ e. omega (arith, e, some)))
       ∙ ap (λ (m : Bool). cons_option (fault_if m causes.InstanceSize s) []) (fits refl)
 
   case-opaque : (s : Sub) (id : ℕ) (b : Bool) → count_by opaque_one (if_new sub_key b (id, s)) ≡ cond (not b && is_opaque known s.item) 1 0
@@ -159,7 +159,7 @@ module _ (known : KnownBy) (size : IdSize) where
 
   -- an object that is no instance
   pub plain-notes : (item : Item) (id : ℕ) (ids : List ℕ) (tally : Tally) (ids' : List ℕ) (tally' : Tally) → 0 < id → NotesId id ids tally.repeated ids' tally'.repeated → tally'.opaque ≡ tally.opaque
-      → is_misfit known size item ≡ false → is_opaque known item ≡ false → NotesObject known size item id ids tally ids' tally'
+      → is_size_mismatch known size item ≡ false → is_opaque known item ≡ false → NotesObject known size item id ids tally ids' tally'
   plain-notes item id ids tally ids' tally' some noted opaque fits plain = record {
     some = some;
     noted = noted;
@@ -209,10 +209,10 @@ module _ (known : KnownBy) (size : IdSize) where
   stop-fault front s after ids roots tally h id is _ memory = inl refl
   stop-fault front s after ids roots tally h id is _ (null zero_id) =
       let new : is_known sub_key (object_subs front) (id, s) ≡ false = sym (noted-is front ids roots tally h s id) ∙ ap (λ (x : ℕ). list_any (λ k. eqb x k) ids) zero_id ∙ null-new ids h.no_null in
-      inr (first-fault front s after id _ h.no_fault is new (ap (λ (b : Bool). cond b (fault_if true causes.NullObject s) (fault_if (is_misfit known size s.item) causes.InstanceSize s)) (eq-eqb id 0 zero_id)))
-  stop-fault front s after ids roots tally h id is _ (misfit some new wrong) =
+      inr (first-fault front s after id _ h.no_fault is new (ap (λ (b : Bool). cond b (fault_if true causes.NullObject s) (fault_if (is_size_mismatch known size s.item) causes.InstanceSize s)) (eq-eqb id 0 zero_id)))
+  stop-fault front s after ids roots tally h id is _ (size_mismatch some new wrong) =
       inr (first-fault front s after id _ h.no_fault is (sym (noted-is front ids roots tally h s id) ∙ new)
-      (ap (λ (b : Bool). cond b (fault_if true causes.NullObject s) (fault_if (is_misfit known size s.item) causes.InstanceSize s)) (ne_eqb id 0 (λ e. omega (arith, e, some)))
+      (ap (λ (b : Bool). cond b (fault_if true causes.NullObject s) (fault_if (is_size_mismatch known size s.item) causes.InstanceSize s)) (ne_eqb id 0 (λ e. omega (arith, e, some)))
       ∙ ap (λ (m : Bool). fault_if m causes.InstanceSize s) wrong))
 
 -- the sub-record at a place is the one after those before it

@@ -14,7 +14,7 @@ use Rattle.hd_terms.specs.Records.{Record, header_len, segment_spans, is_segment
 use Rattle.hd_terms.specs.SubRecords.{SubRecord, Sub, Item, ObjArray, PrimArray, AreSubRecords, AreDumpSubRecords, dump_subs_at}
 use Rattle.hd_terms.specs.SubRecords as subs
 use Rattle.hd_terms.specs.FirstRecords.{object_sub, standing_subs, repeats}
-use Rattle.hd_terms.specs.Classes.{ClassTable, class_table, class_of_item, known_class}
+use Rattle.hd_terms.specs.Classes.{ClassTable, class_table, class_of_item, resolved_class}
 use Rattle.hd_terms.specs.HeapFaults as heap
 use Rattle.hd_terms.specs.HeapFaults.{fault_if, class_faults}
 use Rattle.hd_terms.specs.Roots.{roots_of}
@@ -32,7 +32,7 @@ use Rattle.hd_classes.specs.Firsts.{firsts}
 use Rattle.hd_graph.specs.Shapes.{ObjectShape, IsSmall, AreColumns, row_objects, HasShape}
 use Rattle.hd_graph.specs.ArrayRows.{ObjectEntry, KnownBy, object_id, entry_of, entries_of, weight, item_weight, AreWithin, root_of_item, roots_in}
 use Rattle.hd_decode.specs.Bodies.{AreBodies, ReadsBodies, IsBodiesFault, IsBodiesFaultOrMemory, body_at}
-use Rattle.hd_graph.specs.Numbering.{is_misfit, is_opaque, object_fault, object_faults, IsNumbered, IsObjectFaultOrMemory}
+use Rattle.hd_graph.specs.Numbering.{is_size_mismatch, is_opaque, object_fault, object_faults, IsNumbered, IsObjectFaultOrMemory}
 use Rattle.hd_graph.specs.Building.{Columns, HasRowsOf, IsReadFaultOrMemory, AreFewAndShort}
 use Rattle.hd_classes.proofs.FirstLemmas.{firsts-map, first_of_each-firsts, firsts-le, filter_map-le}
 use Rattle.hd_graph.proofs.NumberLemmas.{sub_key, object_subs, standing-firsts}
@@ -40,7 +40,7 @@ use Rattle.hd_graph.proofs.RowLemmas.{id_of_entry, row_of_entry, shape_of_entry,
 use Rattle.hd_decode.proofs.SpanLemmas.{IsBodyAt, bodies_of_records}
 use Rattle.hd_decode.proofs.Spans as spans_of
 use Rattle.hd_graph.proofs.TextLemmas.{texts-in-file}
-use Rattle.hd_graph.proofs.LocatedLemmas.{object_of_entry}
+use Rattle.hd_graph.proofs.UnresolvedLemmas.{object_of_entry}
 use Rattle.hd_graph.proofs.DumpLemmas.{all_of, objects_in, roots_all, within_all, weight_all, weight-cons, row_objects-entries}
 use Rattle.hd_graph.proofs.SmallLemmas.{shapes-small, shapes-fit}
 use Rattle.hd_graph.proofs.RepeatLemmas.{repeats-map}
@@ -50,24 +50,24 @@ fun_ext : {A B : Type 0} {f g : A → B} → ((x : A) → f x ≡ g x) → f ≡
 fun_ext h = λ i x. h x i
 
 -- misfits and opaque instances are those of the definition
-same-misfit : (t : ClassTable) (size : IdSize) (i : Item) → is_misfit (known_class t) size i ≡ heap.is_misfit t size i
-same-misfit t size (subs.Root kind id) = refl
-same-misfit t size (subs.Class c) = refl
-same-misfit t size (subs.Instance id class values) = refl
-same-misfit t size (ObjArray id class elements) = refl
-same-misfit t size (PrimArray id element count) = refl
+same-size_mismatch : (t : ClassTable) (size : IdSize) (i : Item) → is_size_mismatch (resolved_class t) size i ≡ heap.is_size_mismatch t size i
+same-size_mismatch t size (subs.Root kind id) = refl
+same-size_mismatch t size (subs.Class c) = refl
+same-size_mismatch t size (subs.Instance id class values) = refl
+same-size_mismatch t size (ObjArray id class elements) = refl
+same-size_mismatch t size (PrimArray id element count) = refl
 
-same-opaque : (t : ClassTable) (i : Item) → is_opaque (known_class t) i ≡ objects.is_opaque t i
+same-opaque : (t : ClassTable) (i : Item) → is_opaque (resolved_class t) i ≡ objects.is_opaque t i
 same-opaque t (subs.Root kind id) = refl
 same-opaque t (subs.Class c) = refl
 same-opaque t (subs.Instance id class values) = refl
 same-opaque t (ObjArray id class elements) = refl
 same-opaque t (PrimArray id element count) = refl
 
-same-fault : (t : ClassTable) (size : IdSize) (p : ℕ × Sub) → object_fault (known_class t) size p ≡ heap.object_fault t size p
-same-fault t size (id, s) = ap (λ (m : Bool). cond (eqb id 0) (fault_if true causes.NullObject s) (fault_if m causes.InstanceSize s)) (same-misfit t size s.item)
+same-fault : (t : ClassTable) (size : IdSize) (p : ℕ × Sub) → object_fault (resolved_class t) size p ≡ heap.object_fault t size p
+same-fault t size (id, s) = ap (λ (m : Bool). cond (eqb id 0) (fault_if true causes.NullObject s) (fault_if m causes.InstanceSize s)) (same-size_mismatch t size s.item)
 
-same-faults : (t : ClassTable) (size : IdSize) (list : List Sub) → object_faults (known_class t) size list ≡ heap.object_faults t size list
+same-faults : (t : ClassTable) (size : IdSize) (list : List Sub) → object_faults (resolved_class t) size list ≡ heap.object_faults t size list
 same-faults t size list = ap (λ (f : ℕ × Sub → Option ReadFault). filter_map f (standing_subs list)) (fun_ext (same-fault t size))
 
 abbrev same : ℕ → ℕ
@@ -90,8 +90,8 @@ length-le-weight (s ∷ list) = omega (arith, length-le-weight list, item-heavy 
 
 module _ (bytes : List ℕ) (size : IdSize) (strings : List Text) (classes : List Load) (spans : List Span) (r : ReadsRecords bytes size strings classes spans) where
   -- the segments lie where they are said to
-  located : AllZip (IsBodyAt bytes) spans (filter is_segment r.records)
-  located = spans_of.located bytes size strings classes spans r
+  unresolved : AllZip (IsBodyAt bytes) spans (filter is_segment r.records)
+  unresolved = spans_of.unresolved bytes size strings classes spans r
 
   -- so do the texts
   pub texts-within : All (IsTextWithin (length bytes)) strings
@@ -115,7 +115,7 @@ module _ (bytes : List ℕ) (size : IdSize) (strings : List Text) (classes : Lis
 
   sub_records_fault : (f : ReadFault) → IsBodiesFault size bytes spans f → IsSubRecordsFault size r.records f
   sub_records_fault f h =
-      let zipped : AllZip (IsBodyAt bytes) (h.before ++ h.span ∷ h.after) (filter is_segment r.records) = subst (λ (ss : List Span). AllZip (IsBodyAt bytes) ss (filter is_segment r.records)) h.spans_are located in
+      let zipped : AllZip (IsBodyAt bytes) (h.before ++ h.span ∷ h.after) (filter is_segment r.records) = subst (λ (ss : List Span). AllZip (IsBodyAt bytes) ss (filter is_segment r.records)) h.spans_are unresolved in
       let parts = split-records h.before h.span h.after (filter is_segment r.records) h.segments zipped h.whole in
       record {
         whole = parts.0;
@@ -135,7 +135,7 @@ module _ (bytes : List ℕ) (size : IdSize) (strings : List Text) (classes : Lis
 
   module _ (list : List Sub) (b : ReadsBodies size bytes spans list) where
     dump_bodies : AreDumpSubRecords size r.records b.segments
-    dump_bodies = bodies_of_records bytes size spans (filter is_segment r.records) b.segments located b.whole
+    dump_bodies = bodies_of_records bytes size spans (filter is_segment r.records) b.segments unresolved b.whole
 
     list_of_records : list ≡ dump_subs_at size (segment_spans header_len r.records) b.segments
     list_of_records = b.list_is ∙ ap (λ (ss : List Span). dump_subs_at size ss b.segments) r.spans
@@ -174,8 +174,8 @@ module _ (bytes : List ℕ) (size : IdSize) (strings : List Text) (classes : Lis
       abbrev known : KnownBy
       known = known_at k
 
-      known-is : known ≡ known_class real
-      known-is = fun_ext h.known ∙ ap (λ (t : ClassTable). known_class t) table-is
+      known-is : known ≡ resolved_class real
+      known-is = fun_ext h.known ∙ ap (λ (t : ClassTable). resolved_class t) table-is
 
       few-classes : length k.classes ≤ length list
       few-classes =
@@ -195,7 +195,7 @@ module _ (bytes : List ℕ) (size : IdSize) (strings : List Text) (classes : Lis
       no-cycle = sym faults-are ∙ no_cycle
 
       object-faults-are : object_faults known size list ≡ heap.object_faults real size placed
-      object-faults-are = ap (λ (kn : KnownBy). object_faults kn size list) known-is ∙ ap (λ (l : List Sub). object_faults (known_class real) size l) list_of_records ∙ same-faults real size placed
+      object-faults-are = ap (λ (kn : KnownBy). object_faults kn size list) known-is ∙ ap (λ (l : List Sub). object_faults (resolved_class real) size l) list_of_records ∙ same-faults real size placed
 
       -- an object with ID 0, or one that doesn't fit
       pub object-fault : (f : ReadFault) → IsObjectFaultOrMemory known size list f → IsReadFaultOrMemory bytes f
@@ -244,7 +244,7 @@ module _ (bytes : List ℕ) (size : IdSize) (strings : List Text) (classes : Lis
               ∙ ap (λ (ss : List ObjectShape). row_objects ss (map id_of_entry entries) (map row_of_entry entries)) has.shapes_are
               ∙ row_objects-entries entries
               ∙ sym (firsts-map (λ (x : Object). x.id) object_of_entry (filter_map (entry_of known bytes size) list))
-              ∙ ap (λ (xs : List Object). firsts (λ (x : Object). x.id) xs) (ap (λ (kn : KnownBy). map object_of_entry (filter_map (entry_of kn bytes size) list)) known-is ∙ ap (λ (l : List Sub). map object_of_entry (filter_map (entry_of (known_class real) bytes size) l)) b.list_is ∙ objects_in real bytes size spans b.segments b.whole)
+              ∙ ap (λ (xs : List Object). firsts (λ (x : Object). x.id) xs) (ap (λ (kn : KnownBy). map object_of_entry (filter_map (entry_of kn bytes size) list)) known-is ∙ ap (λ (l : List Sub). map object_of_entry (filter_map (entry_of (resolved_class real) bytes size) l)) b.list_is ∙ objects_in real bytes size spans b.segments b.whole)
               ∙ sym (first_of_each-firsts (λ (x : Object). x.id) (filter_map (object_of real size) (all_of real bytes size b.segments)))
 
           roots_are : map root_of_row roots ≡ roots_of size (all_of real bytes size b.segments)
@@ -254,7 +254,7 @@ module _ (bytes : List ℕ) (size : IdSize) (strings : List Text) (classes : Lis
           objects_again =
               n.repeated_is ∙ ap (repeats same) (ids-of-entries known bytes size list) ∙ repeats-map same id_of_entry (filter_map (entry_of known bytes size) list)
               ∙ sym (repeats-map (λ (x : Object). x.id) object_of_entry (filter_map (entry_of known bytes size) list))
-              ∙ ap (repeats (λ (x : Object). x.id)) (ap (λ (kn : KnownBy). map object_of_entry (filter_map (entry_of kn bytes size) list)) known-is ∙ ap (λ (l : List Sub). map object_of_entry (filter_map (entry_of (known_class real) bytes size) l)) b.list_is ∙ objects_in real bytes size spans b.segments b.whole)
+              ∙ ap (repeats (λ (x : Object). x.id)) (ap (λ (kn : KnownBy). map object_of_entry (filter_map (entry_of kn bytes size) list)) known-is ∙ ap (λ (l : List Sub). map object_of_entry (filter_map (entry_of (resolved_class real) bytes size) l)) b.list_is ∙ objects_in real bytes size spans b.segments b.whole)
 
           opaque_are : tally.opaque ≡ opaque_in real placed
           opaque_are =

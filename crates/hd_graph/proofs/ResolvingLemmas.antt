@@ -89,13 +89,13 @@ module _ (ids bytes : List ℕ) (size : IdSize) where
       )
 
   -- the numbers before a place are done, those from it on are as they were found
-  pub record AreKeptSoFar (before items absent : List ℕ) (i : ℕ) : Type 0 where
+  pub record ArePackedSoFar (before items absent : List ℕ) (i : ℕ) : Type 0 where
     pub codes : All (IsCode ids absent) (take i items)
     pub ids_are : map (id_of_code ids absent) (take i items) ≡ map (id_of_found ids bytes size) (take i before)
     pub rest : drop i items ≡ drop i before
     pub few : length absent ≤ i
 
-  module _ (before items absent : List ℕ) (i : ℕ) (h : AreKeptSoFar before items absent i) (lt : i < length items) (lt' : i < length before) where
+  module _ (before items absent : List ℕ) (i : ℕ) (h : ArePackedSoFar before items absent i) (lt : i < length items) (lt' : i < length before) where
     -- the number at the place is as it was found
     pub as-found : get_or items i 0 ≡ get_or before i 0
     as-found =
@@ -105,7 +105,7 @@ module _ (ids bytes : List ℕ) (size : IdSize) where
     item = get_or items i 0
 
     -- it becomes this number
-    pub becomes : (longer : List ℕ) (code : ℕ) → IsLonger absent longer → IsCode ids longer code → id_of_code ids longer code ≡ id_of_found ids bytes size item → AreKeptSoFar before (set items i code) longer (i + 1)
+    pub becomes : (longer : List ℕ) (code : ℕ) → IsLonger absent longer → IsCode ids longer code → id_of_code ids longer code ≡ id_of_found ids bytes size item → ArePackedSoFar before (set items i code) longer (i + 1)
     becomes longer code grown is stands = record {
       codes = rw (take_more_set items i code lt) (All-push (IsCode ids longer) (take i items) code (subst (λ (xs : List ℕ). All (IsCode ids xs) (take i items)) (sym grown.is) (codes-longer ids absent grown.more (take i items) h.codes)) is);
       ids_are =

@@ -14,7 +14,7 @@ use Rattle.hd_graph.specs.Table.{Table, id_at}
 use Rattle.hd_graph.specs.Shapes.{ObjectShape, ObjectArray, PrimitiveArray, ClassObject}
 use Rattle.hd_terms.specs.Types.{element_len}
 use Rattle.hd_terms.specs.FirstRecords.{id_of_item}
-use Rattle.hd_terms.specs.Classes.{KnownClass}
+use Rattle.hd_terms.specs.Classes.{ResolvedClass}
 use Rattle.hd_classes.specs.Firsts.{firsts, firsts_from}
 use Rattle.hd_graph.specs.ArrayRows.{ObjectEntry, KnownBy, fitting, instance_entry, object_id, object_ids, entry_of, entry_of_item, array_row, entries_of, id_count, ids_in, item_weight, class_row, class_names, static_bytes, weight}
 use Rattle.hd_terms.specs.Records.{id_len}
@@ -36,7 +36,7 @@ abbrev pub shape_of_entry : ObjectEntry → ObjectShape
 shape_of_entry a = a.2
 
 -- an instance is entered under its ID
-pub id-of-instance : (bytes : List ℕ) (size : IdSize) (id class : ℕ) (values : Span) (k : Option KnownClass) → (instance_entry bytes size id class values k).0 ≡ id
+pub id-of-instance : (bytes : List ℕ) (size : IdSize) (id class : ℕ) (values : Span) (k : Option ResolvedClass) → (instance_entry bytes size id class values k).0 ≡ id
 id-of-instance bytes size id class values None = refl
 id-of-instance bytes size id class values (Some k) = refl
 

@@ -11,7 +11,7 @@ use Rattle.hd_terms.specs.SubRecords.{ConstantItem, StaticItem, ClassItem, Item,
 use Rattle.hd_terms.specs.SubRecords as subs
 use Rattle.hd_terms.specs.Types.{element_len, is_id_type, value_len}
 use Rattle.hd_terms.specs.FirstRecords.{id_of_item}
-use Rattle.hd_terms.specs.Classes.{LayoutField, KnownClass, layout_len}
+use Rattle.hd_terms.specs.Classes.{LayoutField, ResolvedClass, layout_len}
 use Rattle.hd_terms.specs.Dump.{Root}
 use Rattle.hd_terms.specs.declared.Slot.{Slot}
 use Rattle.hd_terms.specs.declared.Slot.TheVariants as slots
@@ -84,7 +84,7 @@ abbrev pub layout_names : List LayoutField → List Slot
 layout_names layout = field_names 0 layout ++ slots.OfClass ∷ []
 
 -- the shape of the instances of a class
-abbrev pub layout_shape : IdSize → KnownClass → ObjectShape
+abbrev pub layout_shape : IdSize → ResolvedClass → ObjectShape
 layout_shape size k = Instance (layout_len size k.layout) (layout_names k.layout) (option_map (λ (i : ℕ). slots.Field i) k.referent) k.kind
 
 -- an object by its ID, its row and its shape
@@ -93,18 +93,18 @@ ObjectEntry = ℕ × List ℕ × ObjectShape
 
 -- what is known of the class of an ID
 abbrev pub KnownBy : Type 0
-KnownBy = ℕ → Option KnownClass
+KnownBy = ℕ → Option ResolvedClass
 
 -- the class by whose layout so many bytes of values are read
-abbrev pub fitting : IdSize → ℕ → Option KnownClass → Option KnownClass
-fitting size len k = option_and_then (λ (x : KnownClass). if len == layout_len size x.layout then Some x else None) k
+abbrev pub fitting : IdSize → ℕ → Option ResolvedClass → Option ResolvedClass
+fitting size len k = option_and_then (λ (x : ResolvedClass). if len == layout_len size x.layout then Some x else None) k
 
 -- the class of a number is this one
-abbrev pub HasNumber : List (ℕ × KnownClass) → ℕ → Option KnownClass → Type 0
-HasNumber classes i k = IsSome k × (option_map (λ (p : ℕ × KnownClass). p.1) (slice_get classes i) ≡ k)
+abbrev pub HasNumber : List (ℕ × ResolvedClass) → ℕ → Option ResolvedClass → Type 0
+HasNumber classes i k = IsSome k × (option_map (λ (p : ℕ × ResolvedClass). p.1) (slice_get classes i) ≡ k)
 
 -- an instance by the class by whose layout it is read, if there is one
-abbrev pub instance_entry : List ℕ → IdSize → ℕ → ℕ → Span → Option KnownClass → ObjectEntry
+abbrev pub instance_entry : List ℕ → IdSize → ℕ → ℕ → Span → Option ResolvedClass → ObjectEntry
 instance_entry bytes size id class values None = (id, class ∷ [], ObjectArray values.len)
 instance_entry bytes size id class values (Some k) = (id, instance_row bytes size values.start class k.layout, layout_shape size k)
 

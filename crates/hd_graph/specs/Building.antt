@@ -4,7 +4,7 @@ use Rattle.hd_terms.specs.declared.IdSize.{IdSize}
 use Rattle.hd_terms.specs.declared.errors.Cause.TheVariants as causes
 use Rattle.hd_terms.specs.declared.errors.ReadFault.{ReadFault}
 use Rattle.hd_terms.specs.SubRecords.{Sub, Item}
-use Rattle.hd_terms.specs.Classes.{KnownClass}
+use Rattle.hd_terms.specs.Classes.{ResolvedClass}
 use Rattle.hd_terms.specs.ReadFaults.{fault, IsReadFault}
 use Rattle.hd_classes.specs.Known.{Known}
 use Rattle.hd_graph.specs.Shapes.{ObjectShape}
@@ -63,9 +63,9 @@ pub record HasRowsOf (known : KnownBy) (bytes : List ℕ) (size : IdSize) (list 
 -- numbers of four bytes count the classes that are known, and the bytes of their layouts
 pub record AreFewAndShort (classes : Known) : Type 0 where
   pub few : length classes.classes < 2 ^ 32
-  pub short : All (λ (p : ℕ × KnownClass). length p.1.layout < 2 ^ 29) classes.classes
+  pub short : All (λ (p : ℕ × ResolvedClass). length p.1.layout < 2 ^ 29) classes.classes
 
 -- and these are the shapes of their instances
 pub record AreLayouts (size : IdSize) (classes : Known) (layouts : List ObjectShape) : Type 0 where
   pub bounds : AreFewAndShort classes
-  pub shapes : layouts ≡ map (λ (p : ℕ × KnownClass). layout_shape size p.1) classes.classes
+  pub shapes : layouts ≡ map (λ (p : ℕ × ResolvedClass). layout_shape size p.1) classes.classes

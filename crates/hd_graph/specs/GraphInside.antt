@@ -17,7 +17,7 @@ repeated_in r = record { objects = r.objects; strings = r.strings; loads = r.loa
 -- a row and a shape for each object, the roots, what is repeated, and how many instances are opaque
 abbrev pub dump_of_graph : Inside → Dump
 dump_of_graph a = record {
-  objects = row_objects a.shapes.objects a.references.ids a.references.rows;
+  objects = row_objects a.shapes.objects a.slot_table.ids a.slot_table.rows;
   roots = map root_of_row a.roots.items;
   repeated = repeated_in a.repeats;
   opaque = a.opaque;
@@ -26,7 +26,7 @@ dump_of_graph a = record {
 -- what holds of what is kept: a row and a shape for each object, no more recorded bytes than a file has, and numbers of
 -- four bytes suffice
 pub record IsGraph (a : Inside) : Type 0 where
-  pub columns : AreColumns a.shapes.objects a.references.ids a.references.rows
+  pub columns : AreColumns a.shapes.objects a.slot_table.ids a.slot_table.rows
   pub small : All IsSmall a.shapes.objects
-  pub few : length a.references.ids < 2 ^ 31
+  pub few : length a.slot_table.ids < 2 ^ 31
   pub few_roots : length a.roots.items < 2 ^ 32

@@ -1,5 +1,5 @@
 -- How rows of IDs are kept: numbers of four bytes in one list, and where each row starts.
-use Rattle.hd_graph.specs.declared.references.References.TheInside.{Inside}
+use Rattle.hd_graph.specs.declared.slot_table.SlotTable.TheInside.{Inside}
 use Rattle.hd_graph.specs.Table.{Rows}
 use Rattle.hd_graph.specs.Parts.{rows_of, AreParts}
 

@@ -3,11 +3,11 @@ pub mod Codes
 pub mod Cuts
 pub mod Parts
 pub mod Inside
-pub mod LocatedInside
+pub mod UnresolvedInside
 pub mod Resolving
 pub mod Arrays
 pub mod Shapes
-pub mod KeptShapes
+pub mod PackedShapes
 pub mod GraphInside
 pub mod ArrayRows
 pub mod Noted

@@ -8,7 +8,7 @@ use Rattle.hd_terms.specs.declared.errors.ReadFault.{ReadFault}
 use Rattle.hd_terms.specs.SubRecords.{Sub, Item, ObjArray, PrimArray}
 use Rattle.hd_terms.specs.SubRecords as subs
 use Rattle.hd_terms.specs.FirstRecords.{repeats, standing_subs}
-use Rattle.hd_terms.specs.Classes.{KnownClass, layout_len}
+use Rattle.hd_terms.specs.Classes.{ResolvedClass, layout_len}
 use Rattle.hd_terms.specs.HeapFaults.{fault_if}
 use Rattle.hd_terms.specs.ReadFaults.{fault}
 use Rattle.hd_graph.specs.declared.graph.RootRow.{RootRow}
@@ -18,12 +18,12 @@ use Rattle.hd_graph.specs.Noted.{is_noted, NotesId}
 use Rattle.hd_graph.specs.ArrayRows.{KnownBy, object_id, object_ids, roots_in}
 
 -- the values of an instance have another number of bytes than its class's layout
-abbrev pub is_misfit : KnownBy → IdSize → Item → Bool
-is_misfit known size (subs.Root kind id) = false
-is_misfit known size (subs.Class c) = false
-is_misfit known size (subs.Instance id class values) = option_map_or (λ (k : KnownClass). not (values.len == layout_len size k.layout)) (known class) false
-is_misfit known size (ObjArray id class elements) = false
-is_misfit known size (PrimArray id element count) = false
+abbrev pub is_size_mismatch : KnownBy → IdSize → Item → Bool
+is_size_mismatch known size (subs.Root kind id) = false
+is_size_mismatch known size (subs.Class c) = false
+is_size_mismatch known size (subs.Instance id class values) = option_map_or (λ (k : ResolvedClass). not (values.len == layout_len size k.layout)) (known class) false
+is_size_mismatch known size (ObjArray id class elements) = false
+is_size_mismatch known size (PrimArray id element count) = false
 
 -- nothing is known of an instance's class
 abbrev pub is_opaque : KnownBy → Item → Bool
@@ -35,7 +35,7 @@ is_opaque known (PrimArray id element count) = false
 
 -- an object with ID 0, or an instance that doesn't fit
 abbrev pub object_fault : KnownBy → IdSize → ℕ × Sub → Option ReadFault
-object_fault known size (id, s) = if id == 0 then fault_if true causes.NullObject s else fault_if (is_misfit known size s.item) causes.InstanceSize s
+object_fault known size (id, s) = if id == 0 then fault_if true causes.NullObject s else fault_if (is_size_mismatch known size s.item) causes.InstanceSize s
 
 -- the faults of objects, those that stand
 abbrev pub object_faults : KnownBy → IdSize → List Sub → List ReadFault
@@ -65,14 +65,14 @@ NumbersOneMore known size s ids roots tally ids' roots' tally' = (front : List S
 pub record NotesObject (known : KnownBy) (size : IdSize) (item : Item) (id : ℕ) (ids : List ℕ) (tally : Tally) (ids' : List ℕ) (tally' : Tally) : Type 0 where
   pub some : 0 < id
   pub noted : NotesId id ids tally.repeated ids' tally'.repeated
-  pub fits : is_noted ids id ≡ false → is_misfit known size item ≡ false
+  pub fits : is_noted ids id ≡ false → is_size_mismatch known size item ≡ false
   pub opaque : tally'.opaque ≡ tally.opaque + (if not (is_noted ids id) && is_opaque known item then 1 else 0)
 
 -- want of memory, or a fault of an object of an ID at a place: its ID is 0, or it is new and doesn't fit
 pub data IsObjectStop (known : KnownBy) (size : IdSize) (item : Item) (id offset : ℕ) (ids : List ℕ) : ReadFault → Type 0 where
   memory : IsObjectStop known size item id offset ids (fault causes.OutOfMemory 0)
   null : id ≡ 0 → IsObjectStop known size item id offset ids (fault causes.NullObject offset)
-  misfit : 0 < id → is_noted ids id ≡ false → is_misfit known size item ≡ true → IsObjectStop known size item id offset ids (fault causes.InstanceSize offset)
+  size_mismatch : 0 < id → is_noted ids id ≡ false → is_size_mismatch known size item ≡ true → IsObjectStop known size item id offset ids (fault causes.InstanceSize offset)
 
 -- want of memory, or the ID 0 at a place
 abbrev pub IsNullIdOrMemory : ℕ → ℕ → ReadFault → Type 0
@@ -83,5 +83,5 @@ abbrev pub StopsAt : KnownBy → IdSize → Sub → List ℕ → ReadFault → T
 StopsAt known size s ids f = (f ≡ fault causes.OutOfMemory 0) ⊎ ((id : ℕ) × (object_id s ≡ Some id) × IsObjectStop known size s.item id s.offset ids f)
 
 -- how many bytes the values of a class's instances have, if it is known
-abbrev pub length_of : IdSize → Option KnownClass → Option ℕ
-length_of size k = option_map (λ (x : KnownClass). layout_len size x.layout) k
+abbrev pub length_of : IdSize → Option ResolvedClass → Option ℕ
+length_of size k = option_map (λ (x : ResolvedClass). layout_len size x.layout) k

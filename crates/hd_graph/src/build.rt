@@ -20,10 +20,10 @@ use crate::graph::{Graph, Repeats};
 use crate::id_hasher::IdHasher;
 use crate::instance_rows::push_instance;
 use crate::layouts::shapes_of_classes;
-use crate::located::{Located, TAG_SERIAL_AND_COUNT};
 use crate::noted::{repeated_loads, repeated_strings};
 use crate::number::{Numbered, number};
 use crate::shape::Shapes;
+use crate::unresolved::{TAG_SERIAL_AND_COUNT, UnresolvedSlots};
 use hd_classes::Classes;
 use hd_decode::{Gate, decode};
 use hd_records::{Records, read_records};
@@ -37,45 +37,49 @@ use std::thread::Threads;
 /// The references of objects, by the places of their IDs, and their shapes.
 #[derive(Drop)]
 struct Rows<'a> {
-    references: Located<'a>,
+    slot_table: UnresolvedSlots<'a>,
     shapes: Shapes,
 }
 
 /// Adds so many IDs that stand one after another from a place of the file on to the row that is being filled.
-fn push_ids(references: &mut Located<'_>, start: u32, count: u32) -> Result<(), AllocError>
-    requires within { start + id_len references.old.size * count ≤ length references.old.bytes }
-    requires small { length references.old.bytes < 2 ^ 31 }
-    requires room { length references.old.ids + references.old.count + count < 2 ^ 32 - 1 }
-    ensures { OnOk result (references.new ≡ record references.old {
-      filling = references.old.filling ++ ids_in (id_len references.old.size) count (drop start references.old.bytes);
-      count = references.old.count + count;
+fn push_ids(slot_table: &mut UnresolvedSlots<'_>, start: u32, count: u32) -> Result<(), AllocError>
+    requires within { start + id_len slot_table.old.size * count ≤ length slot_table.old.bytes }
+    requires small { length slot_table.old.bytes < 2 ^ 31 }
+    requires room { length slot_table.old.ids + slot_table.old.count + count < 2 ^ 32 - 1 }
+    ensures { OnOk result (slot_table.new ≡ record slot_table.old {
+      filling = slot_table.old.filling ++ ids_in (id_len slot_table.old.size) count (drop start slot_table.old.bytes);
+      count = slot_table.old.count + count;
     }) }
 {
-    let id_len = references.id_len();
+    let id_len = slot_table.id_len();
     let mut place = start;
     for i in 0..count {
-        references.push(place)?;
+        slot_table.push(place)?;
         place += id_len;
     }
     Ok(())
 }
 
 /// Adds the row of an object array: its elements, and then its class, whose ID lies at this place.
-fn push_array(references: &mut Located<'_>, class: u32, elements: Span) -> Result<(), AllocError>
-    requires class { IsIdWithin references.old.size (length references.old.bytes) class }
-    requires within { elements.start + elements.len ≤ length references.old.bytes }
-    requires small { length references.old.bytes < 2 ^ 31 }
-    requires room { length references.old.ids + references.old.count + elements.len + 1 < 2 ^ 32 - 1 }
-    requires filled { references.old.filling ≡ [] }
-    ensures { OnOk result (references.new ≡ record references.old {
-      rows = references.old.rows ++ array_row references.old.bytes references.old.size (id_at references.old.bytes references.old.size class) elements ∷ [];
-      count = references.old.count + id_count references.old.size elements + 1;
+fn push_array(
+    slot_table: &mut UnresolvedSlots<'_>,
+    class: u32,
+    elements: Span,
+) -> Result<(), AllocError>
+    requires class { IsIdWithin slot_table.old.size (length slot_table.old.bytes) class }
+    requires within { elements.start + elements.len ≤ length slot_table.old.bytes }
+    requires small { length slot_table.old.bytes < 2 ^ 31 }
+    requires room { length slot_table.old.ids + slot_table.old.count + elements.len + 1 < 2 ^ 32 - 1 }
+    requires filled { slot_table.old.filling ≡ [] }
+    ensures { OnOk result (slot_table.new ≡ record slot_table.old {
+      rows = slot_table.old.rows ++ array_row slot_table.old.bytes slot_table.old.size (id_at slot_table.old.bytes slot_table.old.size class) elements ∷ [];
+      count = slot_table.old.count + id_count slot_table.old.size elements + 1;
     }) }
 {
-    let count = elements.len as u32 / references.id_len();
-    push_ids(references, elements.start as u32, count)?;
-    references.push(class)?;
-    references.end_row()?;
+    let count = elements.len as u32 / slot_table.id_len();
+    push_ids(slot_table, elements.start as u32, count)?;
+    slot_table.push(class)?;
+    slot_table.end_row()?;
     Ok(())
 }
 
@@ -90,43 +94,43 @@ fn bytes_of_elements(element: u8, count: u32) -> u32
 /// Adds the row and the shape of an object, if it comes next.
 fn fill_one(
     alloc: Global,
-    references: &mut Located<'_>,
+    slot_table: &mut UnresolvedSlots<'_>,
     shapes: &mut Shapes,
     classes: &Classes,
     sub: Sub<'_>,
 ) -> Result<(), AllocError>
-    requires within { IsSubWithin references.old.size references.old.bytes (sub_view sub) }
-    requires small { length references.old.bytes < 2 ^ 31 }
-    requires room { length references.old.ids + references.old.count + item_weight (item_view sub.item) < 2 ^ 32 - 1 }
+    requires within { IsSubWithin slot_table.old.size slot_table.old.bytes (sub_view sub) }
+    requires small { length slot_table.old.bytes < 2 ^ 31 }
+    requires room { length slot_table.old.ids + slot_table.old.count + item_weight (item_view sub.item) < 2 ^ 32 - 1 }
     requires few { length shapes.old.objects < 2 ^ 32 - 1 }
-    requires filled { references.old.filling ≡ [] }
-    requires classes { AreLayouts references.old.size classes.now shapes.old.layouts }
-    ensures filled { OnOk result (FillsItem (known_at classes.now) references.old.bytes references.old.size (item_view sub.entry.item) (columns references.old shapes.old.objects) (columns references.new shapes.new.objects)) }
+    requires filled { slot_table.old.filling ≡ [] }
+    requires classes { AreLayouts slot_table.old.size classes.now shapes.old.layouts }
+    ensures filled { OnOk result (FillsItem (known_at classes.now) slot_table.old.bytes slot_table.old.size (item_view sub.entry.item) (columns slot_table.old shapes.old.objects) (columns slot_table.new shapes.new.objects)) }
     ensures kept { OnOk result (shapes.new.layouts ≡ shapes.old.layouts) }
 {
     let offset = sub.offset;
     match sub.item {
         Item::Root(..) => {}
         Item::Class(class) => {
-            if references.is_next(class.id) {
-                push_class(alloc, references, shapes, class, offset)?;
+            if slot_table.is_next(class.id) {
+                push_class(alloc, slot_table, shapes, class, offset)?;
             }
         }
         Item::Instance { id, class, values } => {
-            if references.is_next(id) {
-                push_instance(references, shapes, classes, class, values, offset)?;
+            if slot_table.is_next(id) {
+                push_instance(slot_table, shapes, classes, class, values, offset)?;
             }
         }
         Item::ObjArray { id, elements, .. } => {
-            if references.is_next(id) {
-                let class = offset as u32 + TAG_SERIAL_AND_COUNT + references.id_len();
-                push_array(references, class, elements)?;
+            if slot_table.is_next(id) {
+                let class = offset as u32 + TAG_SERIAL_AND_COUNT + slot_table.id_len();
+                push_array(slot_table, class, elements)?;
                 shapes.push_object_array(elements.len as u32)?;
             }
         }
         Item::PrimArray { id, element, count } => {
-            if references.is_next(id) {
-                references.end_row()?;
+            if slot_table.is_next(id) {
+                slot_table.end_row()?;
                 let bytes = bytes_of_elements(element, count);
                 shapes.push_primitive_array(element, bytes)?;
             }
@@ -138,21 +142,21 @@ fn fill_one(
 /// Adds the row and the shape of each object, in the order of their numbers.
 fn fill_rows(
     alloc: Global,
-    references: &mut Located<'_>,
+    slot_table: &mut UnresolvedSlots<'_>,
     shapes: &mut Shapes,
     classes: &Classes,
     list: &DumpSubs,
 ) -> Result<(), AllocError>
-    requires within { AreWithin references.old.size references.old.bytes list.now }
-    requires small { length references.old.bytes < 2 ^ 31 }
-    requires ids { references.old.ids ≡ object_ids list.now }
-    requires few { length references.old.ids < 2 ^ 31 }
-    requires empty { HasNoRows (columns references.old shapes.old.objects) }
-    requires classes { AreLayouts references.old.size classes.now shapes.old.layouts }
-    ensures { OnOk result (HasRowsOf (known_at classes.now) references.old.bytes references.old.size list.now (columns references.new shapes.new.objects)) }
+    requires within { AreWithin slot_table.old.size slot_table.old.bytes list.now }
+    requires small { length slot_table.old.bytes < 2 ^ 31 }
+    requires ids { slot_table.old.ids ≡ object_ids list.now }
+    requires few { length slot_table.old.ids < 2 ^ 31 }
+    requires empty { HasNoRows (columns slot_table.old shapes.old.objects) }
+    requires classes { AreLayouts slot_table.old.size classes.now shapes.old.layouts }
+    ensures { OnOk result (HasRowsOf (known_at classes.now) slot_table.old.bytes slot_table.old.size list.now (columns slot_table.new shapes.new.objects)) }
 {
     for i in 0..list.len() {
-        fill_one(alloc, references, shapes, classes, list.get(i))?;
+        fill_one(alloc, slot_table, shapes, classes, list.get(i))?;
     }
     Ok(())
 }
@@ -173,13 +177,13 @@ fn rows_of<'a>(
     requires distinct { IsDistinct nat_eq ids.keys }
     requires few { length ids.keys < 2 ^ 31 }
     requires classes { AreFewAndShort classes.now }
-    ensures { IfOk result (λ rows. HasRowsOf (known_at classes.now) bytes.now id_size list.now (columns rows.references rows.shapes.objects)) }
+    ensures { IfOk result (λ rows. HasRowsOf (known_at classes.now) bytes.now id_size list.now (columns rows.slot_table rows.shapes.objects)) }
 {
     let layouts = shapes_of_classes(alloc, id_size, classes)?;
     let mut shapes = Shapes::with_capacity(alloc, ids.len(), layouts)?;
-    let mut references = Located::new(alloc, bytes, id_size, ids)?;
-    fill_rows(alloc, &mut references, &mut shapes, classes, list)?;
-    Ok(Rows { references, shapes })
+    let mut slot_table = UnresolvedSlots::new(alloc, bytes, id_size, ids)?;
+    fill_rows(alloc, &mut slot_table, &mut shapes, classes, list)?;
+    Ok(Rows { slot_table, shapes })
 }
 
 impl Graph {
@@ -208,14 +212,14 @@ impl Graph {
         let strings = repeated_strings(alloc, &records.strings)?;
         let loads = repeated_loads(alloc, &records.loads)?;
         let Numbered { ids, roots, tally } = number(alloc, list, classes, id_size)?;
-        let Rows { references, shapes } = rows_of(alloc, ids, classes, id_size, bytes, list)?;
-        let references = references.resolve(rt, alloc)?;
+        let Rows { slot_table, shapes } = rows_of(alloc, ids, classes, id_size, bytes, list)?;
+        let slot_table = slot_table.resolve(rt, alloc)?;
         let repeats = Repeats {
             objects: tally.repeated,
             strings,
             loads,
         };
-        Ok(Graph::new(references, shapes, roots, repeats, tally.opaque))
+        Ok(Graph::new(slot_table, shapes, roots, repeats, tally.opaque))
     }
 }
 

@@ -9,106 +9,106 @@ ghost use Rattle.hd_terms.specs.Records.{id_len};
 ghost use Rattle.hd_graph.specs.ArrayRows.{IsValueWithin, IsClassWithin, HasLinks, links_at, values_of_statics, values_of_constants, value_ids, value_names, static_bytes, class_row, class_names, class_weight};
 ghost use Rattle.hd_graph.specs.Building.{Adds, GrowsBy, columns};
 
-use crate::located::{Located, TAG_AND_SERIAL};
 use crate::shape::{ClassShape, Shapes};
+use crate::unresolved::{TAG_AND_SERIAL, UnresolvedSlots};
 use hd_subs::{ClassDump, Constant, Static};
 use hd_terms::{Slot, Span, is_id_type};
 use std::alloc::{AllocError, Global};
 
 /// Adds the ID at a place of the file to the row that is being filled, and the name of its slot.
 fn push_reference(
-    references: &mut Located<'_>,
+    slot_table: &mut UnresolvedSlots<'_>,
     names: &mut Vec<Slot>,
     slot: Slot,
     place: u32,
 ) -> Result<(), AllocError>
-    requires within { IsIdWithin references.old.size (length references.old.bytes) place }
-    requires room { length references.old.ids + references.old.count < 2 ^ 32 - 1 }
-    ensures row { OnOk result (GrowsBy (id_at references.old.bytes references.old.size place ∷ []) references.old references.new) }
+    requires within { IsIdWithin slot_table.old.size (length slot_table.old.bytes) place }
+    requires room { length slot_table.old.ids + slot_table.old.count < 2 ^ 32 - 1 }
+    ensures row { OnOk result (GrowsBy (id_at slot_table.old.bytes slot_table.old.size place ∷ []) slot_table.old slot_table.new) }
     ensures names { OnOk result (names.new.items ≡ names.old.items ++ slot ∷ []) }
 {
-    references.push(place)?;
+    slot_table.push(place)?;
     names.push(slot)?;
     Ok(())
 }
 
 /// Adds the ID in a value of a static or a constant, if its type is that of IDs.
 fn push_value(
-    references: &mut Located<'_>,
+    slot_table: &mut UnresolvedSlots<'_>,
     names: &mut Vec<Slot>,
     slot: Slot,
     code: u8,
     value: Span,
 ) -> Result<(), AllocError>
-    requires within { IsValueWithin references.old.size (length references.old.bytes) (code, value) }
-    requires small { length references.old.bytes < 2 ^ 31 }
-    requires room { length references.old.ids + references.old.count < 2 ^ 32 - 1 }
-    ensures row { OnOk result (GrowsBy (value_ids references.old.bytes references.old.size ((code, value) ∷ [])) references.old references.new) }
+    requires within { IsValueWithin slot_table.old.size (length slot_table.old.bytes) (code, value) }
+    requires small { length slot_table.old.bytes < 2 ^ 31 }
+    requires room { length slot_table.old.ids + slot_table.old.count < 2 ^ 32 - 1 }
+    ensures row { OnOk result (GrowsBy (value_ids slot_table.old.bytes slot_table.old.size ((code, value) ∷ [])) slot_table.old slot_table.new) }
     ensures names { OnOk result (names.new.items ≡ names.old.items ++ (if is_id_type code then slot ∷ [] else [])) }
 {
     if is_id_type(code) {
-        push_reference(references, names, slot, value.start as u32)?;
+        push_reference(slot_table, names, slot, value.start as u32)?;
     }
     Ok(())
 }
 
 /// Adds the IDs in the values of statics.
 fn push_statics(
-    references: &mut Located<'_>,
+    slot_table: &mut UnresolvedSlots<'_>,
     names: &mut Vec<Slot>,
     statics: &[Static],
 ) -> Result<(), AllocError>
-    requires within { All (IsValueWithin references.old.size (length references.old.bytes)) (values_of_statics (map static_view statics.now)) }
-    requires small { length references.old.bytes < 2 ^ 31 }
-    requires room { length references.old.ids + references.old.count + length statics.now < 2 ^ 32 - 1 }
-    ensures row { OnOk result (GrowsBy (value_ids references.old.bytes references.old.size (values_of_statics (map static_view statics.now))) references.old references.new) }
+    requires within { All (IsValueWithin slot_table.old.size (length slot_table.old.bytes)) (values_of_statics (map static_view statics.now)) }
+    requires small { length slot_table.old.bytes < 2 ^ 31 }
+    requires room { length slot_table.old.ids + slot_table.old.count + length statics.now < 2 ^ 32 - 1 }
+    ensures row { OnOk result (GrowsBy (value_ids slot_table.old.bytes slot_table.old.size (values_of_statics (map static_view statics.now))) slot_table.old slot_table.new) }
     ensures names { OnOk result (names.new.items ≡ names.old.items ++ value_names (λ i. slots.Static i) 0 (values_of_statics (map static_view statics.now))) }
 {
     for i in 0..statics.len() {
         let Static { code, value, .. } = statics[i];
         let slot = Slot::Static(i as u32);
-        push_value(references, names, slot, code, value)?;
+        push_value(slot_table, names, slot, code, value)?;
     }
     Ok(())
 }
 
 /// Adds the IDs in the values of constants.
 fn push_constants(
-    references: &mut Located<'_>,
+    slot_table: &mut UnresolvedSlots<'_>,
     names: &mut Vec<Slot>,
     constants: &[Constant],
 ) -> Result<(), AllocError>
-    requires within { All (IsValueWithin references.old.size (length references.old.bytes)) (values_of_constants (map constant_view constants.now)) }
-    requires small { length references.old.bytes < 2 ^ 31 }
-    requires room { length references.old.ids + references.old.count + length constants.now < 2 ^ 32 - 1 }
-    ensures row { OnOk result (GrowsBy (value_ids references.old.bytes references.old.size (values_of_constants (map constant_view constants.now))) references.old references.new) }
+    requires within { All (IsValueWithin slot_table.old.size (length slot_table.old.bytes)) (values_of_constants (map constant_view constants.now)) }
+    requires small { length slot_table.old.bytes < 2 ^ 31 }
+    requires room { length slot_table.old.ids + slot_table.old.count + length constants.now < 2 ^ 32 - 1 }
+    ensures row { OnOk result (GrowsBy (value_ids slot_table.old.bytes slot_table.old.size (values_of_constants (map constant_view constants.now))) slot_table.old slot_table.new) }
     ensures names { OnOk result (names.new.items ≡ names.old.items ++ value_names (λ i. slots.Const i) 0 (values_of_constants (map constant_view constants.now))) }
 {
     for i in 0..constants.len() {
         let Constant { code, value } = constants[i];
         let slot = Slot::Const(i as u32);
-        push_value(references, names, slot, code, value)?;
+        push_value(slot_table, names, slot, code, value)?;
     }
     Ok(())
 }
 
 /// Adds the IDs of a class's super class, loader, signers and protection domain, which stand one after another from a place on.
 fn push_links(
-    references: &mut Located<'_>,
+    slot_table: &mut UnresolvedSlots<'_>,
     names: &mut Vec<Slot>,
     place: u32,
 ) -> Result<(), AllocError>
-    requires within { place + 4 * id_len references.old.size ≤ length references.old.bytes }
-    requires small { length references.old.bytes < 2 ^ 31 }
-    requires room { length references.old.ids + references.old.count + 4 < 2 ^ 32 - 1 }
-    ensures row { OnOk result (GrowsBy (links_at references.old.bytes references.old.size place) references.old references.new) }
+    requires within { place + 4 * id_len slot_table.old.size ≤ length slot_table.old.bytes }
+    requires small { length slot_table.old.bytes < 2 ^ 31 }
+    requires room { length slot_table.old.ids + slot_table.old.count + 4 < 2 ^ 32 - 1 }
+    ensures row { OnOk result (GrowsBy (links_at slot_table.old.bytes slot_table.old.size place) slot_table.old slot_table.new) }
     ensures names { OnOk result (names.new.items ≡ names.old.items ++ slots.Super ∷ slots.Loader ∷ slots.Signers ∷ slots.Domain ∷ []) }
 {
-    let id_len = references.id_len();
-    push_reference(references, names, Slot::Super, place)?;
-    push_reference(references, names, Slot::Loader, place + id_len)?;
-    push_reference(references, names, Slot::Signers, place + 2 * id_len)?;
-    push_reference(references, names, Slot::Domain, place + 3 * id_len)?;
+    let id_len = slot_table.id_len();
+    push_reference(slot_table, names, Slot::Super, place)?;
+    push_reference(slot_table, names, Slot::Loader, place + id_len)?;
+    push_reference(slot_table, names, Slot::Signers, place + 2 * id_len)?;
+    push_reference(slot_table, names, Slot::Domain, place + 3 * id_len)?;
     Ok(())
 }
 
@@ -127,26 +127,26 @@ fn bytes_of_statics(statics: &[Static]) -> u32
 /// Adds the row and the shape of a class object, whose tag lies at a place of the file.
 pub(crate) fn push_class(
     alloc: Global,
-    references: &mut Located<'_>,
+    slot_table: &mut UnresolvedSlots<'_>,
     shapes: &mut Shapes,
     class: &ClassDump,
     offset: u64,
 ) -> Result<(), AllocError>
-    requires within { IsClassWithin references.old.size (length references.old.bytes) (class_view class.now) }
-    requires links { HasLinks references.old.bytes references.old.size (offset + 5 + id_len references.old.size) (class_view class.now) }
-    requires small { length references.old.bytes < 2 ^ 31 }
-    requires room { length references.old.ids + references.old.count + class_weight (class_view class.now) < 2 ^ 32 - 1 }
+    requires within { IsClassWithin slot_table.old.size (length slot_table.old.bytes) (class_view class.now) }
+    requires links { HasLinks slot_table.old.bytes slot_table.old.size (offset + 5 + id_len slot_table.old.size) (class_view class.now) }
+    requires small { length slot_table.old.bytes < 2 ^ 31 }
+    requires room { length slot_table.old.ids + slot_table.old.count + class_weight (class_view class.now) < 2 ^ 32 - 1 }
     requires few { length shapes.old.objects < 2 ^ 32 - 1 }
-    requires filled { references.old.filling ≡ [] }
-    ensures added { OnOk result (Adds (class.now.id, class_row references.old.bytes references.old.size (class_view class.now), ClassObject (static_bytes (class_view class.now).statics) (class_names (class_view class.now))) (class_weight (class_view class.now)) (columns references.old shapes.old.objects) (columns references.new shapes.new.objects)) }
+    requires filled { slot_table.old.filling ≡ [] }
+    ensures added { OnOk result (Adds (class.now.id, class_row slot_table.old.bytes slot_table.old.size (class_view class.now), ClassObject (static_bytes (class_view class.now).statics) (class_names (class_view class.now))) (class_weight (class_view class.now)) (columns slot_table.old shapes.old.objects) (columns slot_table.new shapes.new.objects)) }
     ensures kept { OnOk result (shapes.new.layouts ≡ shapes.old.layouts) }
 {
-    let links = offset as u32 + TAG_AND_SERIAL + references.id_len();
+    let links = offset as u32 + TAG_AND_SERIAL + slot_table.id_len();
     let mut names = Vec::new(alloc);
-    push_statics(references, &mut names, class.statics.as_slice())?;
-    push_constants(references, &mut names, class.constants.as_slice())?;
-    push_links(references, &mut names, links)?;
-    references.end_row()?;
+    push_statics(slot_table, &mut names, class.statics.as_slice())?;
+    push_constants(slot_table, &mut names, class.constants.as_slice())?;
+    push_links(slot_table, &mut names, links)?;
+    slot_table.end_row()?;
     let bytes = bytes_of_statics(class.statics.as_slice());
     shapes.push_class(ClassShape { bytes, names })?;
     Ok(())

@@ -6,17 +6,17 @@ ghost use Rattle.hd_terms.specs.Dump.{SlotEntry, object_at};
 ghost use Rattle.hd_terms.specs.declared.Slot.{Slot};
 ghost use Rattle.hd_graph.specs.Arrays.{row_place};
 ghost use Rattle.hd_graph.specs.Shapes.{shape_bytes, slot_name, slot_kind, shape_place, shape_referent, IsNamedAt, HasFewNames};
-ghost use Rattle.hd_graph.specs.KeptShapes.{shape_view};
+ghost use Rattle.hd_graph.specs.PackedShapes.{shape_view};
 
-use crate::references::References;
 use crate::shape::{Shape, Shapes};
+use crate::slot_table::SlotTable;
 use hd_terms::{EdgeKind, Group, RootKind, Slot};
 use std::marker::Model;
 
 /// The objects, references and roots of a dump. Objects are numbered from 0 in file order.
 #[derive(Drop)]
 pub struct Graph {
-    references: References,
+    slot_table: SlotTable,
     shapes: Shapes,
     roots: Vec<RootRow>,
     repeats: Repeats,
@@ -184,20 +184,20 @@ impl Graph {
     /// The graph of references and shapes, a row and a shape for each object, and roots, what was repeated, and how many
     /// instances are opaque.
     pub(crate) fn new(
-        references: References,
+        slot_table: SlotTable,
         shapes: Shapes,
         roots: Vec<RootRow>,
         repeats: Repeats,
         opaque: u64,
     ) -> Graph
-        requires columns { AreColumns shapes.objects references.ids references.rows }
+        requires columns { AreColumns shapes.objects slot_table.ids slot_table.rows }
         requires small { All IsSmall shapes.objects }
-        requires few { length references.ids < 2 ^ 31 }
+        requires few { length slot_table.ids < 2 ^ 31 }
         requires few_roots { length roots.items < 2 ^ 32 }
-        ensures { result ≡ record { objects = row_objects shapes.objects references.ids references.rows; roots = map root_of_row roots.items; repeated = repeated_in repeats; opaque = opaque } }
+        ensures { result ≡ record { objects = row_objects shapes.objects slot_table.ids slot_table.rows; roots = map root_of_row roots.items; repeated = repeated_in repeats; opaque = opaque } }
     {
         Graph {
-            references,
+            slot_table,
             shapes,
             roots,
             repeats,
@@ -223,7 +223,7 @@ impl Graph {
     pub fn objects(&self) -> u32
         ensures { result ≡ length self.now.objects }
     {
-        self.references.ids().len() as u32
+        self.slot_table.ids().len() as u32
     }
 
     /// The ID of the object of a number.
@@ -231,7 +231,7 @@ impl Graph {
         requires { o < length self.now.objects }
         ensures { result ≡ (object_at self.now o).id }
     {
-        self.references.ids()[o as usize]
+        self.slot_table.ids()[o as usize]
     }
 
     /// The number of the object with an ID, if there is one. No two objects have one ID.
@@ -239,7 +239,7 @@ impl Graph {
         ensures first { result ≡ index_of self.now.objects id }
         ensures distinct { (o : ℕ) → o < length self.now.objects → (object_at self.now o).id ≡ id → result ≡ Some o }
     {
-        self.references.index_of(id)
+        self.slot_table.index_of(id)
     }
 
     /// What an object is counted under: an instance under its class, an object array under its array class, a primitive array
@@ -249,10 +249,10 @@ impl Graph {
         ensures { result ≡ (object_at self.now o).group }
     {
         match self.shapes.get(o) {
-            Shape::ObjectArray { .. } => Group::Class(self.references.last(o)),
+            Shape::ObjectArray { .. } => Group::Class(self.slot_table.last(o)),
             Shape::PrimitiveArray { element, .. } => Group::Prim(element),
             Shape::Class(_) => Group::Classes,
-            Shape::Instance(_) => Group::Class(self.references.last(o)),
+            Shape::Instance(_) => Group::Class(self.slot_table.last(o)),
         }
     }
 
@@ -272,7 +272,7 @@ impl Graph {
         requires { o < length self.now.objects }
         ensures { result ≡ length (object_at self.now o).slots }
     {
-        self.references.row_len(o)
+        self.slot_table.row_len(o)
     }
 
     /// The slot at a place of an object: of an instance its fields that are references first, its class's own before its
@@ -284,9 +284,9 @@ impl Graph {
         ensures entry { slice_get (object_at self.now o).slots i ≡ Some (record { slot = result.slot; kind = result.kind; id = result.id }) }
         ensures target { result.target ≡ index_of self.now.objects result.id }
     {
-        let (id, target) = self.references.get(o, i);
+        let (id, target) = self.slot_table.get(o, i);
         let shape = self.shapes.get(o);
-        let slot = slot_at(shape, self.references.row_len(o), i);
+        let slot = slot_at(shape, self.slot_table.row_len(o), i);
         SlotRead {
             slot,
             kind: kind_of_slot(shape, slot),
@@ -301,7 +301,7 @@ impl Graph {
         ensures first { result ≡ position (λ (s : SlotEntry). same_slot s.slot slot) (object_at self.now o).slots }
         ensures only { (i : ℕ) (s : SlotEntry) → slice_get (object_at self.now o).slots i ≡ Some s → same_slot s.slot slot ≡ true → result ≡ Some i }
     {
-        place_in(self.shapes.get(o), self.references.row_len(o), slot)
+        place_in(self.shapes.get(o), self.slot_table.row_len(o), slot)
     }
 
     /// The slot that is a reference object's referent, if the object has one. No array and no class has.
@@ -329,7 +329,7 @@ impl Graph {
         RootRead {
             kind: root.kind,
             id: root.id,
-            object: self.references.index_of(root.id),
+            object: self.slot_table.index_of(root.id),
         }
     }
 }

@@ -4,9 +4,9 @@ ghost use Rattle.hd_terms.specs.Classes as classes_of;
 ghost use Rattle.hd_terms.specs.Classes.{layout_len};
 ghost use Rattle.hd_classes.specs.Known.{field_view, known_view};
 ghost use Rattle.hd_graph.specs.ArrayRows.{layout_shape, layout_names};
-ghost use Rattle.hd_graph.specs.KeptShapes.{layout_view};
+ghost use Rattle.hd_graph.specs.PackedShapes.{layout_view};
 
-use hd_classes::{Classes, KnownClass, LayoutField};
+use hd_classes::{Classes, LayoutField, ResolvedClass};
 use hd_terms::{EdgeKind, IdSize, Slot, is_id_type, value_len};
 use std::alloc::{AllocError, Global};
 
@@ -51,7 +51,7 @@ fn names_of_layout(alloc: Global, layout: &[LayoutField]) -> Result<Vec<Slot>, A
 fn shape_of_class(
     alloc: Global,
     id_size: IdSize,
-    class: &KnownClass,
+    class: &ResolvedClass,
 ) -> Result<LayoutShape, AllocError>
     requires { length class.now.layout.items < 2 ^ 29 }
     ensures { IfOk result (λ shape. layout_view shape ≡ layout_shape id_size (known_view class.now)) }
@@ -75,8 +75,8 @@ pub(crate) fn shapes_of_classes(
     id_size: IdSize,
     classes: &Classes,
 ) -> Result<Vec<LayoutShape>, AllocError>
-    requires { All (λ (p : ℕ × classes_of.KnownClass). length p.1.layout < 2 ^ 29) classes.now.classes }
-    ensures { IfOk result (λ shapes. map layout_view shapes.items ≡ map (λ (p : ℕ × classes_of.KnownClass). layout_shape id_size p.1) classes.now.classes) }
+    requires { All (λ (p : ℕ × classes_of.ResolvedClass). length p.1.layout < 2 ^ 29) classes.now.classes }
+    ensures { IfOk result (λ shapes. map layout_view shapes.items ≡ map (λ (p : ℕ × classes_of.ResolvedClass). layout_shape id_size p.1) classes.now.classes) }
 {
     let mut shapes = Vec::with_capacity(alloc, classes.len())?;
     for i in 0..classes.len() {

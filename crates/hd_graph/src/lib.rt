@@ -8,12 +8,12 @@ mod graph;
 mod id_hasher;
 mod instance_rows;
 mod layouts;
-mod located;
 mod noted;
 mod number;
-mod references;
 mod resolving;
 mod shape;
+mod slot_table;
+mod unresolved;
 
 pub use build::open_dump;
 pub use graph::{Graph, RootRead, SlotRead};

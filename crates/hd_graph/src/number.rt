@@ -36,7 +36,7 @@ pub(crate) struct Numbered {
 
 /// How many bytes the values of instances of a class have, if the class is known.
 fn length_of_values(classes: &Classes, id_size: IdSize, class: u64) -> Option<u64>
-    requires { All (λ (p : ℕ × classes_of.KnownClass). length p.1.layout < 2 ^ 29) classes.now.classes }
+    requires { All (λ (p : ℕ × classes_of.ResolvedClass). length p.1.layout < 2 ^ 29) classes.now.classes }
     ensures { result ≡ length_of id_size (known_at classes.now class) }
 {
     match classes.index_of(class) {
@@ -85,7 +85,7 @@ fn number_instance(
 ) -> Result<(), ReadFault>
     requires repeated { tally.old.repeated + 1 < 2 ^ 64 }
     requires opaque { tally.old.opaque + 1 < 2 ^ 64 }
-    requires short { All (λ (p : ℕ × classes_of.KnownClass). length p.1.layout < 2 ^ 29) classes.now.classes }
+    requires short { All (λ (p : ℕ × classes_of.ResolvedClass). length p.1.layout < 2 ^ 29) classes.now.classes }
     ensures ok { OnOk result (NotesObject (known_at classes.now) id_size (Instance id class values) id ids.old.keys tally.old ids.new.keys tally.new) }
     ensures err { IfErr result (λ f. IsObjectStop (known_at classes.now) id_size (Instance id class values) id offset ids.old.keys f) }
 {
@@ -117,7 +117,7 @@ fn number_one(
 ) -> Result<(), ReadFault>
     requires repeated { tally.old.repeated + 1 < 2 ^ 64 }
     requires opaque { tally.old.opaque + 1 < 2 ^ 64 }
-    requires short { All (λ (p : ℕ × classes_of.KnownClass). length p.1.layout < 2 ^ 29) classes.now.classes }
+    requires short { All (λ (p : ℕ × classes_of.ResolvedClass). length p.1.layout < 2 ^ 29) classes.now.classes }
     ensures ok { OnOk result (NumbersOneMore (known_at classes.now) id_size (sub_view sub.entry) ids.old.keys roots.old.items tally.old ids.new.keys roots.new.items tally.new) }
     ensures err { IfErr result (λ f. StopsAt (known_at classes.now) id_size (sub_view sub.entry) ids.old.keys f) }
 {
@@ -148,7 +148,7 @@ pub(crate) fn number(
     classes: &Classes,
     id_size: IdSize,
 ) -> Result<Numbered, ReadFault>
-    requires short { All (λ (p : ℕ × classes_of.KnownClass). length p.1.layout < 2 ^ 29) classes.now.classes }
+    requires short { All (λ (p : ℕ × classes_of.ResolvedClass). length p.1.layout < 2 ^ 29) classes.now.classes }
     ensures ok { IfOk result (λ n. IsNumbered (known_at classes.now) id_size list.now n.ids.keys n.roots.items n.tally) }
     ensures err { IfErr result (λ f. IsObjectFaultOrMemory (known_at classes.now) id_size list.now f) }
 {

@@ -5,7 +5,7 @@ ghost use Rattle.hd_graph.specs.Codes.{IsCode, IsLonger, id_of_code};
 ghost use Rattle.hd_graph.specs.Resolving.{found_code, id_of_found, IsFound, AreCodesOf};
 
 use crate::id_hasher::IdHasher;
-use crate::references::NULL;
+use crate::slot_table::NULL;
 use hd_terms::IdSize;
 use indexmap::IndexSet;
 use rayon::prelude::par_for_each_mut;

@@ -1,7 +1,7 @@
 //! What is kept of objects beside their references.
 ghost use Rattle.std.specs.Prelude.{◌≡◌, ◌<◌, ◌-◌, ◌^◌, [], ◌∷◌, ◌++◌, length, map, slice_get, Some, IfOk, OnOk};
 ghost use Rattle.hd_graph.specs.Shapes.{ObjectArray, PrimitiveArray};
-ghost use Rattle.hd_graph.specs.KeptShapes.{shape_view, class_shape_view, layout_view, shape_at, IsKeptOver, kept_shape};
+ghost use Rattle.hd_graph.specs.PackedShapes.{shape_view, class_shape_view, layout_view, shape_at, IsPackedOver, kept_shape};
 
 use crate::layouts::LayoutShape;
 use hd_terms::Slot;
@@ -29,44 +29,48 @@ pub(crate) enum Shape<'a> {
 /// A shape in eight bytes. Of a class it is its place among the classes, of an instance the number of its class among those
 /// that are known.
 #[derive(Clone, Copy, Debug)]
-pub(crate) enum Kept {
+pub(crate) enum PackedShape {
     ObjectArray { bytes: u32 },
     PrimitiveArray { element: u8, bytes: u32 },
     Class { place: u32 },
     Instance { class: u32 },
 }
 
-const _: () = prove!(size_of::<Kept>() <= 8);
+const _: () = prove!(size_of::<PackedShape>() <= 8);
 
 /// The shapes of objects, in the order of their numbers.
 #[derive(Debug, Drop)]
 pub(crate) struct Shapes {
-    kept: Vec<Kept>,
+    kept: Vec<PackedShape>,
     classes: Vec<ClassShape>,
     layouts: Vec<LayoutShape>,
 }
 
 impl Model for Shapes {
     ghost use Rattle.std.specs.Prelude.{map, length};
-    ghost use Rattle.hd_graph.specs.KeptShapes.{ShapeLists, kept_shape, layout_view, AreKept};
+    ghost use Rattle.hd_graph.specs.PackedShapes.{ShapeLists, kept_shape, layout_view, ArePacked};
 
     ghost Value = { ShapeLists };
 
     ghost view = { λ s. record { objects = map (kept_shape s.classes.items s.layouts.items) s.kept.items; layouts = map layout_view s.layouts.items } };
 
-    ghost invariant = { λ s. AreKept s.kept.items (length s.classes.items) (length s.layouts.items) };
+    ghost invariant = { λ s. ArePacked s.kept.items (length s.classes.items) (length s.layouts.items) };
 }
 
 /// What is kept says, over the classes and the layouts.
-fn shape_of<'a>(kept: Kept, classes: &'a [ClassShape], layouts: &'a [LayoutShape]) -> Shape<'a>
-    requires { IsKeptOver (length classes.now) (length layouts.now) kept }
+fn shape_of<'a>(
+    kept: PackedShape,
+    classes: &'a [ClassShape],
+    layouts: &'a [LayoutShape],
+) -> Shape<'a>
+    requires { IsPackedOver (length classes.now) (length layouts.now) kept }
     ensures { shape_view result ≡ kept_shape classes.now layouts.now kept }
 {
     match kept {
-        Kept::ObjectArray { bytes } => Shape::ObjectArray { bytes },
-        Kept::PrimitiveArray { element, bytes } => Shape::PrimitiveArray { element, bytes },
-        Kept::Class { place } => Shape::Class(&classes[place as usize]),
-        Kept::Instance { class } => Shape::Instance(&layouts[class as usize]),
+        PackedShape::ObjectArray { bytes } => Shape::ObjectArray { bytes },
+        PackedShape::PrimitiveArray { element, bytes } => Shape::PrimitiveArray { element, bytes },
+        PackedShape::Class { place } => Shape::Class(&classes[place as usize]),
+        PackedShape::Instance { class } => Shape::Instance(&layouts[class as usize]),
     }
 }
 
@@ -103,7 +107,7 @@ impl Shapes {
     pub(crate) fn push_object_array(&mut self, bytes: u32) -> Result<(), AllocError>
         ensures { OnOk result (self.new ≡ record self.old { objects = self.old.objects ++ ObjectArray bytes ∷ [] }) }
     {
-        self.kept.push(Kept::ObjectArray { bytes })?;
+        self.kept.push(PackedShape::ObjectArray { bytes })?;
         Ok(())
     }
 
@@ -111,7 +115,8 @@ impl Shapes {
     pub(crate) fn push_primitive_array(&mut self, element: u8, bytes: u32) -> Result<(), AllocError>
         ensures { OnOk result (self.new ≡ record self.old { objects = self.old.objects ++ PrimitiveArray element bytes ∷ [] }) }
     {
-        self.kept.push(Kept::PrimitiveArray { element, bytes })?;
+        self.kept
+            .push(PackedShape::PrimitiveArray { element, bytes })?;
         Ok(())
     }
 
@@ -120,7 +125,7 @@ impl Shapes {
         requires { class < length self.old.layouts }
         ensures { OnOk result (self.new ≡ record self.old { objects = self.old.objects ++ shape_at self.old.layouts class ∷ [] }) }
     {
-        self.kept.push(Kept::Instance { class })?;
+        self.kept.push(PackedShape::Instance { class })?;
         Ok(())
     }
 
@@ -132,7 +137,7 @@ impl Shapes {
         let place = self.classes.len() as u32;
         self.kept.reserve(1)?;
         self.classes.push(class)?;
-        self.kept.push_reserved(Kept::Class { place });
+        self.kept.push_reserved(PackedShape::Class { place });
         Ok(())
     }
 }

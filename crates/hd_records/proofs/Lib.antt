@@ -1,3 +1,3 @@
 pub mod Padding
-pub mod Fronts
+pub mod ParsedRecords
 pub mod Steps

@@ -13,7 +13,7 @@ use Rattle.hd_terms.specs.declared.errors.Cause.TheVariants.{ShortRecord}
 use Rattle.hd_terms.specs.Records.{Record, IsFramed, IsRecord, least_body, record_text, header_len, is_segment, segment_spans, placed, text_of, texts, load_of, loads, HasHeader}
 use Rattle.hd_terms.specs.ReadFaults.{fault, IsRecordsFault, IsStuckRecord, in_a_record}
 use Rattle.hd_records.specs.Reading.{ReadsRecords}
-use Rattle.hd_records.specs.Fronts.{BeginsWithFramed, BeginsWithRecord, texts_of, loads_of, spans_of}
+use Rattle.hd_records.specs.ParsedRecords.{BeginsWithFramed, BeginsWithRecord, texts_of, loads_of, spans_of}
 
 -- what was read, and what is left
 pub record IsReadSoFar (size : IdSize) (bytes rest : List ℕ) (strings : List Text) (classes : List Load) (spans : List Span) : Type 0 where

@@ -1,2 +1,2 @@
 pub mod Reading
-pub mod Fronts
+pub mod ParsedRecords

@@ -6,11 +6,11 @@
 #![tactic(auto)]
 
 mod header;
-mod in_order;
+mod record_list;
 mod records;
 
 pub use header::check_size;
-pub use in_order::{InOrder, Loads, Segments, Texts};
+pub use record_list::{Loads, RecordList, Segments, Texts};
 pub use records::{Records, read_records};
 
 #[cfg(test)]

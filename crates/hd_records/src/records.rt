@@ -3,10 +3,10 @@ ghost use Rattle.std.specs.Prelude.{◌≡◌, ◌≢◌, ◌+◌, ◌≤◌, �
 ghost use Rattle.hd_terms.specs.ReadFaults.{IsStuckRecord};
 ghost use Rattle.hd_terms.specs.Records as records;
 ghost use Rattle.hd_records.specs.Reading.{ReadsRecords, IsRecordsFaultOrMemory};
-ghost use Rattle.hd_records.specs.Fronts.{BeginsWithFramed, BeginsWithRecord, IsCutOffRecord, texts_of, loads_of, spans_of};
+ghost use Rattle.hd_records.specs.ParsedRecords.{BeginsWithFramed, BeginsWithRecord, IsCutOffRecord, texts_of, loads_of, spans_of};
 
 use crate::header::{HEADER_LEN, number_at, read_header};
-use crate::in_order::{Loads, Segments, Texts};
+use crate::record_list::{Loads, Segments, Texts};
 use hd_terms::{Cause, IdSize, Load, ReadFault, Span, Text};
 use std::alloc::{AllocError, Global};
 
@@ -46,14 +46,14 @@ pub struct Records {
 
 /// The record that some bytes begin with, and the bytes after it.
 #[derive(Clone, Copy)]
-struct Front<'a> {
+struct ParsedRecord<'a> {
     tag: u8,
     body: &'a [u8],
     after: &'a [u8],
 }
 
 /// The record that these bytes begin with, whatever its body says, unless it runs past their end.
-fn read_framed(rest: &[u8]) -> Option<Front<'_>>
+fn read_framed(rest: &[u8]) -> Option<ParsedRecord<'_>>
     requires { rest.now ≢ [] }
     ensures { MatchOption result (IsCutOffRecord rest.now) (λ f. BeginsWithFramed rest.now f.tag f.body.now f.after.now) }
 {
@@ -64,7 +64,7 @@ fn read_framed(rest: &[u8]) -> Option<Front<'_>>
     if rest.len() < len {
         return None;
     }
-    Some(Front {
+    Some(ParsedRecord {
         tag: rest[0],
         body: &rest[HEAD_LEN..len],
         after: &rest[len..],
@@ -83,18 +83,18 @@ fn least_body(id_size: IdSize, tag: u8) -> usize
 }
 
 /// The record that these bytes begin with, or why none can be read: `Truncated`, or else `ShortRecord`.
-fn read_record(id_size: IdSize, rest: &[u8]) -> Result<Front<'_>, Cause>
+fn read_record(id_size: IdSize, rest: &[u8]) -> Result<ParsedRecord<'_>, Cause>
     requires { rest.now ≢ [] }
     ensures ok { IfOk result (λ f. BeginsWithRecord id_size rest.now f.tag f.body.now f.after.now) }
     ensures err { IfErr result (λ cause. IsStuckRecord id_size rest.now cause) }
 {
-    let Some(front) = read_framed(rest) else {
+    let Some(parsed) = read_framed(rest) else {
         return Err(Cause::Truncated);
     };
-    if front.body.len() < least_body(id_size, front.tag) {
+    if parsed.body.len() < least_body(id_size, parsed.tag) {
         return Err(Cause::ShortRecord);
     }
-    Ok(front)
+    Ok(parsed)
 }
 
 /// Notes the text of the record at a place, if it is a UTF8 record.
@@ -102,19 +102,19 @@ fn note_text(
     texts: &mut Vec<Text>,
     id_size: IdSize,
     at: usize,
-    front: Front<'_>,
+    parsed: ParsedRecord<'_>,
 ) -> Result<(), AllocError>
-    requires room { at + 9 + length front.body.now < 2 ^ 64 }
-    requires fields { records.least_body id_size front.tag ≤ length front.body.now }
-    ensures { OnOk result (texts.new.items ≡ texts.old.items ++ texts_of id_size at front.entry.tag front.entry.body.now) }
+    requires room { at + 9 + length parsed.body.now < 2 ^ 64 }
+    requires fields { records.least_body id_size parsed.tag ≤ length parsed.body.now }
+    ensures { OnOk result (texts.new.items ≡ texts.old.items ++ texts_of id_size at parsed.entry.tag parsed.entry.body.now) }
 {
-    if front.tag == UTF8 {
+    if parsed.tag == UTF8 {
         let id_len = id_size.bytes();
         texts.push(Text {
-            id: id_size.read(front.body),
+            id: id_size.read(parsed.body),
             text: Span {
                 start: (at + HEAD_LEN + id_len) as u64,
-                len: (front.body.len() - id_len) as u64,
+                len: (parsed.body.len() - id_len) as u64,
             },
         })?;
     }
@@ -122,29 +122,37 @@ fn note_text(
 }
 
 /// Notes what a record says of a class, if it is a LOAD CLASS record.
-fn note_load(loads: &mut Vec<Load>, id_size: IdSize, front: Front<'_>) -> Result<(), AllocError>
-    requires { records.least_body id_size front.tag ≤ length front.body.now }
-    ensures { OnOk result (loads.new.items ≡ loads.old.items ++ loads_of id_size front.entry.tag front.entry.body.now) }
+fn note_load(
+    loads: &mut Vec<Load>,
+    id_size: IdSize,
+    parsed: ParsedRecord<'_>,
+) -> Result<(), AllocError>
+    requires { records.least_body id_size parsed.tag ≤ length parsed.body.now }
+    ensures { OnOk result (loads.new.items ≡ loads.old.items ++ loads_of id_size parsed.entry.tag parsed.entry.body.now) }
 {
-    if front.tag == LOAD_CLASS {
+    if parsed.tag == LOAD_CLASS {
         let name_at = SERIAL_LEN + id_size.bytes() + SERIAL_LEN;
         loads.push(Load {
-            class: id_size.read(&front.body[SERIAL_LEN..]),
-            name: id_size.read(&front.body[name_at..]),
+            class: id_size.read(&parsed.body[SERIAL_LEN..]),
+            name: id_size.read(&parsed.body[name_at..]),
         })?;
     }
     Ok(())
 }
 
 /// Notes where the body of the record at a place lies, if it is a segment.
-fn note_segment(spans: &mut Vec<Span>, at: usize, front: Front<'_>) -> Result<(), AllocError>
+fn note_segment(
+    spans: &mut Vec<Span>,
+    at: usize,
+    parsed: ParsedRecord<'_>,
+) -> Result<(), AllocError>
     requires { at + 9 < 2 ^ 64 }
-    ensures { OnOk result (spans.new.items ≡ spans.old.items ++ spans_of at front.entry.tag front.entry.body.now) }
+    ensures { OnOk result (spans.new.items ≡ spans.old.items ++ spans_of at parsed.entry.tag parsed.entry.body.now) }
 {
-    if front.tag == HEAP_DUMP || front.tag == HEAP_DUMP_SEGMENT {
+    if parsed.tag == HEAP_DUMP || parsed.tag == HEAP_DUMP_SEGMENT {
         spans.push(Span {
             start: (at + HEAD_LEN) as u64,
-            len: front.body.len() as u64,
+            len: parsed.body.len() as u64,
         })?;
     }
     Ok(())
@@ -166,8 +174,8 @@ pub fn read_records(alloc: Global, bytes: &[u8]) -> Result<Records, ReadFault>
     let mut rest = &bytes[HEADER_LEN..];
     while !rest.is_empty() {
         let at = bytes.len() - rest.len();
-        let front = match read_record(id_size, rest) {
-            Ok(front) => front,
+        let parsed = match read_record(id_size, rest) {
+            Ok(parsed) => parsed,
             Err(cause) => {
                 return Err(ReadFault {
                     cause,
@@ -175,10 +183,10 @@ pub fn read_records(alloc: Global, bytes: &[u8]) -> Result<Records, ReadFault>
                 });
             }
         };
-        note_text(&mut texts, id_size, at, front)?;
-        note_load(&mut loads, id_size, front)?;
-        note_segment(&mut spans, at, front)?;
-        rest = front.after;
+        note_text(&mut texts, id_size, at, parsed)?;
+        note_load(&mut loads, id_size, parsed)?;
+        note_segment(&mut spans, at, parsed)?;
+        rest = parsed.after;
     }
     Ok(Records {
         id_size,

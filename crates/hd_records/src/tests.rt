@@ -18,9 +18,9 @@ const LOAD: &[u8; 25] = b"\x02\0\0\0\0\0\0\0\x10\0\0\0\x01\0\0\0\x11\0\0\0\0\0\0
 
 const SPAN_AT_40: Span = Span { start: 40, len: 51 };
 
-fn joined(alloc: Global, front: &[u8], more: &[u8]) -> Result<Vec<u8>, AllocError> {
+fn joined(alloc: Global, parsed: &[u8], more: &[u8]) -> Result<Vec<u8>, AllocError> {
     let mut bytes = Vec::new(alloc);
-    bytes.extend_from_slice(front)?;
+    bytes.extend_from_slice(parsed)?;
     bytes.extend_from_slice(more)?;
     Ok(bytes)
 }
@@ -88,12 +88,12 @@ fn records_that_are_cut_off(rt: HostRuntime) -> Result<(), Fail> {
 
 #[test]
 fn segments_among_records(rt: HostRuntime) -> Result<(), Fail> {
-    for (front, start) in [
+    for (parsed, start) in [
         (b"".as_slice(), 40),
         (b"\x77\0\0\0\0\0\0\0\x02\xab\xcd".as_slice(), 51),
         (b"\x2c\0\0\0\0\0\0\0\0".as_slice(), 49),
     ] {
-        let header = joined(rt.alloc(), HEADER, front)?;
+        let header = joined(rt.alloc(), HEADER, parsed)?;
         let bytes = joined(rt.alloc(), &header, SEGMENT)?;
         let records = read_records(rt.alloc(), &bytes)
             .ok()

@@ -12,7 +12,7 @@ use Rattle.hd_terms.specs.Paths.{Standing}
 use Rattle.hd_terms.specs.Dump.{Dump}
 use Rattle.hd_terms.specs.EditedDump.{standing}
 use Rattle.hd_terms.specs.Strengths.{HasStrength}
-use Rattle.hd_terms.specs.Settled.{Kept, Settled, kept_at}
+use Rattle.hd_terms.specs.Settled.{Reached, Settled, reached_at}
 use Rattle.hd_terms.specs.Fell.{FellCount, Falls, IsUnreachable}
 use Rattle.hd_state.specs.Fallen.{is_unreachable, falls_from}
 
@@ -36,17 +36,17 @@ neither true true e other = absurd (other refl)
 neither false b e other = absurd cc
 
 -- what is kept is settled for a dump under two logs
-module _ (gives : (g : Standing) (ks : List Kept) → Settled g ks → (o : ℕ) → HasStrength g o (kept_at ks o).strength)
+module _ (gives : (g : Standing) (ks : List Reached) → Settled g ks → (o : ℕ) → HasStrength g o (reached_at ks o).strength)
     (one : (g : Standing) (o : ℕ) (a b : Strength) → HasStrength g o a → HasStrength g o b → a ≡ b)
     (dump : Dump) where
   -- an object is unreachable exactly where what is kept of it says so
-  says : (log : List Event) (ks : List Kept) → Settled (standing dump log) ks → (o : ℕ) → is_unreachable (kept_at ks o).strength ≡ true → IsUnreachable dump log o
-  says log ks h o e = subst (λ (s : Strength). HasStrength (standing dump log) o s) (unreachable-true (kept_at ks o).strength e) (gives (standing dump log) ks h o)
+  says : (log : List Event) (ks : List Reached) → Settled (standing dump log) ks → (o : ℕ) → is_unreachable (reached_at ks o).strength ≡ true → IsUnreachable dump log o
+  says log ks h o e = subst (λ (s : Strength). HasStrength (standing dump log) o s) (unreachable-true (reached_at ks o).strength e) (gives (standing dump log) ks h o)
 
-  said : (log : List Event) (ks : List Kept) → Settled (standing dump log) ks → (o : ℕ) → IsUnreachable dump log o → is_unreachable (kept_at ks o).strength ≡ true
-  said log ks h o u = ap is_unreachable (one (standing dump log) o (kept_at ks o).strength strengths.Unreachable (gives (standing dump log) ks h o) u)
+  said : (log : List Event) (ks : List Reached) → Settled (standing dump log) ks → (o : ℕ) → IsUnreachable dump log o → is_unreachable (reached_at ks o).strength ≡ true
+  said log ks h o u = ap is_unreachable (one (standing dump log) o (reached_at ks o).strength strengths.Unreachable (gives (standing dump log) ks h o) u)
 
-  pub fell-count : (before after : List Event) (ks ls : List Kept) → Settled (standing dump before) ks → Settled (standing dump after) ls → length ls ≡ length dump.objects
+  pub fell-count : (before after : List Event) (ks ls : List Reached) → Settled (standing dump before) ks → Settled (standing dump after) ls → length ls ≡ length dump.objects
       → (n : ℕ) → n ≡ count_by (falls_from ks ls) (range_with_len 0 (length ls)) → FellCount dump before after n
   fell-count before after ks ls h k same n counted = record {
     falls = falls_from ks ls;
@@ -56,11 +56,11 @@ module _ (gives : (g : Standing) (ks : List Kept) → Settled g ks → (o : ℕ)
     where
       falls : {o : ℕ} → falls_from ks ls o ≡ true → Falls dump before after o
       falls {o} e =
-          let parts = both (is_unreachable (kept_at ls o).strength) (is_unreachable (kept_at ks o).strength) e in
+          let parts = both (is_unreachable (reached_at ls o).strength) (is_unreachable (reached_at ks o).strength) e in
           (says after ls k o parts.0, λ u. absurd (true≢false (sym (said before ks h o u) ∙ parts.1)))
 
       fallen : (o : ℕ) → Falls dump before after o → falls_from ks ls o ≡ true
-      fallen o f = neither (is_unreachable (kept_at ls o).strength) (is_unreachable (kept_at ks o).strength) (said after ls k o f.0) (λ e. f.1 (says before ks h o e))
+      fallen o f = neither (is_unreachable (reached_at ls o).strength) (is_unreachable (reached_at ks o).strength) (said after ls k o f.0) (λ e. f.1 (says before ks h o e))
 
 module _ (p : ℕ → Bool) (n o : ℕ) (within : o < n) where
   here : p (get_or (range_with_len 0 n) o 0) ≡ p o

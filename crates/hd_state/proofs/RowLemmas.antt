@@ -18,12 +18,12 @@ not_not true = refl
 not_not false = refl
 
 -- what is read of a slot is shown as the slot is under the log
-pub shown-slot : (dump : Dump) (log : List Event) (x : Object) (read : SlotRead) (taken : Bool)
-    → read.target ≡ index_of dump.objects read.id → taken ≡ not (slot_stands log x read.slot)
-    → shown read taken ≡ slot_row dump log x (record { slot = read.slot; kind = read.kind; id = read.id })
-shown-slot dump log x read taken target is =
-    let stands : not taken ≡ slot_stands log x read.slot = ap not is ∙ not_not (slot_stands log x read.slot) in
-    ap (λ t. record { slot = read.slot; kind = read.kind; id = read.id; mode = cond (eqb read.id 0) modes.Null (mode_of t (not taken)) }) target
+pub shown-slot : (dump : Dump) (log : List Event) (x : Object) (read : SlotRead) (removed : Bool)
+    → read.target ≡ index_of dump.objects read.id → removed ≡ not (slot_stands log x read.slot)
+    → shown read removed ≡ slot_row dump log x (record { slot = read.slot; kind = read.kind; id = read.id })
+shown-slot dump log x read removed target is =
+    let stands : not removed ≡ slot_stands log x read.slot = ap not is ∙ not_not (slot_stands log x read.slot) in
+    ap (λ t. record { slot = read.slot; kind = read.kind; id = read.id; mode = cond (eqb read.id 0) modes.Null (mode_of t (not removed)) }) target
     ∙ ap (λ (b : Bool). record { slot = read.slot; kind = read.kind; id = read.id; mode = cond (eqb read.id 0) modes.Null (mode_of (index_of dump.objects read.id) b) }) stands
 
 -- one more slot

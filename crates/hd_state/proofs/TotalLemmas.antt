@@ -14,7 +14,7 @@ use Rattle.hd_terms.specs.Paths.{Standing}
 use Rattle.hd_terms.specs.Dump.{Dump, object_at}
 use Rattle.hd_terms.specs.EditedDump.{standing}
 use Rattle.hd_terms.specs.Strengths.{HasStrength}
-use Rattle.hd_terms.specs.Settled.{Kept, Settled, kept_at}
+use Rattle.hd_terms.specs.Settled.{Reached, Settled, reached_at}
 use Rattle.hd_terms.specs.Totals.{IsTotal}
 use Rattle.hd_state.specs.declared.totals.Total.{Total}
 use Rattle.hd_state.specs.declared.totals.StrengthTotals.{StrengthTotals}
@@ -94,7 +94,7 @@ case-le true n = omega arith
 case-le false n = omega arith
 
 -- no object
-pub none-counted : (dump : Dump) (ks : List Kept) (totals : StrengthTotals) → ((s : Strength) → total_for totals s ≡ record { count = 0; bytes = 0 }) → AreCounted dump ks 0 totals
+pub none-counted : (dump : Dump) (ks : List Reached) (totals : StrengthTotals) → ((s : Strength) → total_for totals s ≡ record { count = 0; bytes = 0 }) → AreCounted dump ks 0 totals
 none-counted dump ks totals none = record {
   counts = λ s. ap (λ (t : Total). t.count) (none s);
   bytes = λ s. ap (λ (t : Total). t.bytes) (none s);
@@ -103,20 +103,20 @@ none-counted dump ks totals none = record {
 }
 
 -- one more object
-module _ (dump : Dump) (ks : List Kept) (o : ℕ) (old : StrengthTotals) (h : AreCounted dump ks o old) (within : o < length dump.objects) (small : (object_at dump o).bytes ≤ largest_file) where
+module _ (dump : Dump) (ks : List Reached) (o : ℕ) (old : StrengthTotals) (h : AreCounted dump ks o old) (within : o < length dump.objects) (small : (object_at dump o).bytes ≤ largest_file) where
   sum-more : (f : ℕ → ℕ) → sum_by f (take (o + 1) (range_with_len 0 (length dump.objects))) ≡ sum_by f (take o (range_with_len 0 (length dump.objects))) + f o
   sum-more f =
       sum_by_more f (range_with_len 0 (length dump.objects)) o 0 (omega (arith, length-range_with_len 0 (length dump.objects)))
       ∙ ap (λ (n : ℕ). sum_by f (take o (range_with_len 0 (length dump.objects))) + f n) (get_or-range_with_len 0 (length dump.objects) o 0 within ∙ zero-add o)
 
   abbrev new : StrengthTotals
-  new = with_object old (kept_at ks o).strength (object_at dump o).bytes
+  new = with_object old (reached_at ks o).strength (object_at dump o).bytes
 
   count-is : (s : Strength) → (total_for new s).count ≡ (total_for old s).count + cond (has_kept ks s o) 1 0
-  count-is s = ap (λ (t : Total). t.count) (added old (object_at dump o).bytes (kept_at ks o).strength s) ∙ case-count (has_kept ks s o) (total_for old s) (object_at dump o).bytes
+  count-is s = ap (λ (t : Total). t.count) (added old (object_at dump o).bytes (reached_at ks o).strength s) ∙ case-count (has_kept ks s o) (total_for old s) (object_at dump o).bytes
 
   bytes-is : (s : Strength) → (total_for new s).bytes ≡ (total_for old s).bytes + bytes_with dump ks s o
-  bytes-is s = ap (λ (t : Total). t.bytes) (added old (object_at dump o).bytes (kept_at ks o).strength s) ∙ case-bytes (has_kept ks s o) (total_for old s) (object_at dump o).bytes
+  bytes-is s = ap (λ (t : Total). t.bytes) (added old (object_at dump o).bytes (reached_at ks o).strength s) ∙ case-bytes (has_kept ks s o) (total_for old s) (object_at dump o).bytes
 
   pub one-more-counted : AreCounted dump ks (o + 1) new
   one-more-counted = record {
@@ -127,9 +127,9 @@ module _ (dump : Dump) (ks : List Kept) (o : ℕ) (old : StrengthTotals) (h : Ar
   }
 
 -- all objects, where what is kept is settled for the dump under a log
-module _ (gives : (g : Standing) (ks : List Kept) → Settled g ks → (o : ℕ) → HasStrength g o (kept_at ks o).strength)
+module _ (gives : (g : Standing) (ks : List Reached) → Settled g ks → (o : ℕ) → HasStrength g o (reached_at ks o).strength)
     (one : (g : Standing) (o : ℕ) (a b : Strength) → HasStrength g o a → HasStrength g o b → a ≡ b)
-    (dump : Dump) (log : List Event) (ks : List Kept) (settled : Settled (standing dump log) ks) where
+    (dump : Dump) (log : List Event) (ks : List Reached) (settled : Settled (standing dump log) ks) where
   pub total-is : (totals : StrengthTotals) → AreCounted dump ks (length dump.objects) totals → (s : Strength) → IsTotal dump log s (total_for totals s).count (total_for totals s).bytes
   total-is totals h s = record {
     has = has_kept ks s;
@@ -139,7 +139,7 @@ module _ (gives : (g : Standing) (ks : List Kept) → Settled g ks → (o : ℕ)
   }
     where
       has : {o : ℕ} → has_kept ks s o ≡ true → HasStrength (standing dump log) o s
-      has {o} e = subst (HasStrength (standing dump log) o) (one-rank (kept_at ks o).strength s e) (gives (standing dump log) ks settled o)
+      has {o} e = subst (HasStrength (standing dump log) o) (one-rank (reached_at ks o).strength s e) (gives (standing dump log) ks settled o)
 
       had : (o : ℕ) → HasStrength (standing dump log) o s → has_kept ks s o ≡ true
-      had o h = eq-eqb (rank (kept_at ks o).strength) (rank s) (ap rank (one (standing dump log) o (kept_at ks o).strength s (gives (standing dump log) ks settled o) h))
+      had o h = eq-eqb (rank (reached_at ks o).strength) (rank s) (ap rank (one (standing dump log) o (reached_at ks o).strength s (gives (standing dump log) ks settled o) h))

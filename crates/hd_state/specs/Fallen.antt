@@ -3,7 +3,7 @@
 use Rattle.std.specs.Prelude.{ℕ, Bool, true, false, ◌&&◌, not, List}
 use Rattle.hd_terms.specs.declared.Strength.{Strength}
 use Rattle.hd_terms.specs.declared.Strength.TheVariants as strengths
-use Rattle.hd_terms.specs.Settled.{Kept, kept_at}
+use Rattle.hd_terms.specs.Settled.{Reached, reached_at}
 
 -- the strength of what nothing reaches
 abbrev pub is_unreachable : Strength → Bool
@@ -19,5 +19,5 @@ abbrev pub falls_to : (before after : Strength) → Bool
 falls_to before after = is_unreachable after && not (is_unreachable before)
 
 -- the object of a number becomes unreachable
-abbrev pub falls_from : (before after : List Kept) → ℕ → Bool
-falls_from before after o = falls_to (kept_at before o).strength (kept_at after o).strength
+abbrev pub falls_from : (before after : List Reached) → ℕ → Bool
+falls_from before after o = falls_to (reached_at before o).strength (reached_at after o).strength

@@ -8,9 +8,9 @@ use Rattle.hd_graph.specs.declared.graph.SlotRead.{SlotRead}
 
 -- a slot whose reference a live edit takes away, or doesn't
 abbrev pub shown : SlotRead → Bool → SlotRow
-shown read taken = record {
+shown read removed = record {
   slot = read.slot;
   kind = read.kind;
   id = read.id;
-  mode = if read.id == 0 then modes.Null else mode_of read.target (not taken);
+  mode = if read.id == 0 then modes.Null else mode_of read.target (not removed);
 }

@@ -7,7 +7,7 @@ use Rattle.hd_terms.specs.declared.Strength.TheVariants as strengths
 use Rattle.hd_terms.specs.Ranks.{rank}
 use Rattle.hd_terms.specs.Records.{largest_file}
 use Rattle.hd_terms.specs.Dump.{Dump, object_at}
-use Rattle.hd_terms.specs.Settled.{Kept, kept_at}
+use Rattle.hd_terms.specs.Settled.{Reached, reached_at}
 use Rattle.hd_state.specs.declared.totals.Total.{Total}
 use Rattle.hd_state.specs.declared.totals.StrengthTotals.{StrengthTotals}
 
@@ -34,15 +34,15 @@ with_object totals strengths.Phantom bytes = record totals { phantom = plus_obje
 with_object totals strengths.Unreachable bytes = record totals { unreachable = plus_object totals.unreachable bytes }
 
 -- the object of a number has a strength, by what is kept of it
-abbrev pub has_kept : List Kept → Strength → ℕ → Bool
-has_kept ks s o = rank (kept_at ks o).strength == rank s
+abbrev pub has_kept : List Reached → Strength → ℕ → Bool
+has_kept ks s o = rank (reached_at ks o).strength == rank s
 
 -- the recorded bytes of the object of a number, if it has a strength
-abbrev pub bytes_with : Dump → List Kept → Strength → ℕ → ℕ
+abbrev pub bytes_with : Dump → List Reached → Strength → ℕ → ℕ
 bytes_with dump ks s o = if has_kept ks s o then (object_at dump o).bytes else 0
 
 -- the totals of so many first objects
-pub record AreCounted (dump : Dump) (ks : List Kept) (k : ℕ) (totals : StrengthTotals) : Type 0 where
+pub record AreCounted (dump : Dump) (ks : List Reached) (k : ℕ) (totals : StrengthTotals) : Type 0 where
   pub counts : (s : Strength) → (total_for totals s).count ≡ count_by (has_kept ks s) (take k (range_with_len 0 (length dump.objects)))
   pub bytes : (s : Strength) → (total_for totals s).bytes ≡ sum_by (bytes_with dump ks s) (take k (range_with_len 0 (length dump.objects)))
   pub few : (s : Strength) → (total_for totals s).count ≤ k

@@ -7,12 +7,12 @@ use Rattle.hd_terms.specs.declared.Support.{Support}
 use Rattle.hd_terms.specs.declared.Support.TheVariants as supports
 use Rattle.hd_terms.specs.Ranks.{rank, given_by, weaker_of}
 use Rattle.hd_terms.specs.Paths.{Edge, Standing}
-use Rattle.hd_terms.specs.Settled.{Kept, kept_at, PassesOn, IsSupported, SupportedBy, Settled}
+use Rattle.hd_terms.specs.Settled.{Reached, reached_at, PassesOn, IsSupported, SupportedBy, Settled}
 use Rattle.hd_terms.proofs.RankLemmas.{same_rank, weaker-le_left}
 use Rattle.hd_strength.specs.declared.buckets.Offer.{Offer}
 use Rattle.hd_strength.specs.declared.buckets.Buckets.{Buckets}
 use Rattle.hd_strength.specs.Buckets.{bucket, TakesBest}
-use Rattle.hd_strength.specs.Growing.{rank_at, gift, offer_at, IsBacked, IsGrowing, Every, AddsOffers}
+use Rattle.hd_strength.specs.Growing.{rank_at, offered_strength, offer_at, IsBacked, IsGrowing, Every, AddsOffers}
 use Rattle.hd_strength.proofs.Lists.{Contains-nil}
 
 -- places give the edges that stand, each from its own object
@@ -67,8 +67,8 @@ takes old new s x h = record {
 }
 
 -- an edge gives no more than its source has
-gift-le : (ks : List Kept) (e : Edge) → rank (gift ks e) ≤ rank_at ks e.source
-gift-le ks e = weaker-le_left (kept_at ks e.source).strength (given_by e.kind)
+offered_strength-le : (ks : List Reached) (e : Edge) → rank (offered_strength ks e) ≤ rank_at ks e.source
+offered_strength-le ks e = weaker-le_left (reached_at ks e.source).strength (given_by e.kind)
 
 -- the offer at a place is that of its edge
 module _ (at : ℕ → ℕ → Option Edge) (x : Offer) (e : Edge) (is : at x.source x.place ≡ Some e) where
@@ -79,7 +79,7 @@ module _ (at : ℕ → ℕ → Option Edge) (x : Offer) (e : Edge) (is : at x.so
   edge_at_offer o i f same there = one_edge f (subst (λ (y : Offer). at y.source y.place ≡ Some f) same there)
 
 -- an offer to an object that is reached is let go
-pub decline : (g : Standing) (at : ℕ → ℕ → Option Edge) (ks : List Kept) (old new : Strength → List Offer) (count : ℕ) (s : Strength) (x : Offer) (e : Edge)
+pub decline : (g : Standing) (at : ℕ → ℕ → Option Edge) (ks : List Reached) (old new : Strength → List Offer) (count : ℕ) (s : Strength) (x : Offer) (e : Edge)
     → IsGrowing g at ks old count Every → Takes old new s x → at x.source x.place ≡ Some e → 1 ≤ rank_at ks e.target → IsGrowing g at ks new count Every
 decline g at ks old new count s x e h t is reached = record {
   supported = h.supported;
@@ -87,11 +87,11 @@ decline g at ks old new count s x e h t is reached = record {
   stamps = h.stamps;
   by_edges = λ o i f done there p. elim (h.by_edges o i f tt there p) [
     | inl le ↦ inl le
-    | inr c ↦ elim (t.offer.left (gift ks f) (offer_at o i) c) [
+    | inr c ↦ elim (t.offer.left (offered_strength ks f) (offer_at o i) c) [
       | inr still ↦ inr still
       | inl both ↦
           let same : f ≡ e = edge_at_offer at x e is o i f both.1 there in
-          let gives : rank (gift ks f) ≡ rank s = ap rank both.0 in
+          let gives : rank (offered_strength ks f) ≡ rank s = ap rank both.0 in
           let to : rank_at ks f.target ≡ rank_at ks e.target = ap (λ (f : Edge). rank_at ks f.target) same in
           inl (omega (arith, h.least s x t.offer.made e.target reached))
     ]
@@ -101,8 +101,8 @@ decline g at ks old new count s x e h t is reached = record {
 }
 
 -- only objects that pass their strength on have offers
-pub weaken : (g : Standing) (at : ℕ → ℕ → Option Edge) (ks : List Kept) (offers : Strength → List Offer) (count : ℕ) (D D' : ℕ → Type 0)
-    → IsGrowing g at ks offers count D → ((o : ℕ) → PassesOn (kept_at ks o) → D' o → D o) → IsGrowing g at ks offers count D'
+pub weaken : (g : Standing) (at : ℕ → ℕ → Option Edge) (ks : List Reached) (offers : Strength → List Offer) (count : ℕ) (D D' : ℕ → Type 0)
+    → IsGrowing g at ks offers count D → ((o : ℕ) → PassesOn (reached_at ks o) → D' o → D o) → IsGrowing g at ks offers count D'
 weaken g at ks offers count D D' h part = record {
   supported = h.supported;
   by_roots = h.by_roots;
@@ -113,13 +113,13 @@ weaken g at ks offers count D D' h part = record {
 }
 
 -- one more object offers what it gives
-module _ (g : Standing) (at : ℕ → ℕ → Option Edge) (rows : AreRows g at) (ks : List Kept) (old new : Strength → List Offer) (count : ℕ) (D D' : ℕ → Type 0) (o n : ℕ)
+module _ (g : Standing) (at : ℕ → ℕ → Option Edge) (rows : AreRows g at) (ks : List Reached) (old new : Strength → List Offer) (count : ℕ) (D D' : ℕ → Type 0) (o n : ℕ)
     (h : IsGrowing g at ks old count D) (adds : AddsOffers at ks o n old new) (wide : (i : ℕ) (e : Edge) → at o i ≡ Some e → i < n)
-    (passes : PassesOn (kept_at ks o)) (floor : (p : ℕ) → 1 ≤ rank_at ks p → rank_at ks o ≤ rank_at ks p) (part : (p : ℕ) → D' p → D p ⊎ (p ≡ o)) where
-  gives-le : (i : ℕ) (e : Edge) → at o i ≡ Some e → rank (gift ks e) ≤ rank_at ks o
-  gives-le i e is = let same : rank_at ks e.source ≡ rank_at ks o = ap (rank_at ks) (rows.source o i e is) in omega (arith, gift-le ks e)
+    (passes : PassesOn (reached_at ks o)) (floor : (p : ℕ) → 1 ≤ rank_at ks p → rank_at ks o ≤ rank_at ks p) (part : (p : ℕ) → D' p → D p ⊎ (p ≡ o)) where
+  gives-le : (i : ℕ) (e : Edge) → at o i ≡ Some e → rank (offered_strength ks e) ≤ rank_at ks o
+  gives-le i e is = let same : rank_at ks e.source ≡ rank_at ks o = ap (rank_at ks) (rows.source o i e is) in omega (arith, offered_strength-le ks e)
 
-  of_o : (i : ℕ) (e : Edge) → at o i ≡ Some e → (rank (gift ks e) ≤ rank_at ks e.target) ⊎ Contains (new (gift ks e)) (offer_at o i)
+  of_o : (i : ℕ) (e : Edge) → at o i ≡ Some e → (rank (offered_strength ks e) ≤ rank_at ks e.target) ⊎ Contains (new (offered_strength ks e)) (offer_at o i)
   of_o i e is = elim (adds.done i e (wide i e is) is) [
     | inl reached ↦ inl (omega (arith, gives-le i e is, floor e.target reached))
     | inr c ↦ inr c
@@ -133,57 +133,57 @@ module _ (g : Standing) (at : ℕ → ℕ → Option Edge) (rows : AreRows g at)
     by_edges = λ p i e done is pass. elim (part p done) [
       | inl before ↦ elim (h.by_edges p i e before is pass) [
         | inl le ↦ inl le
-        | inr c ↦ inr (adds.kept (gift ks e) (offer_at p i) c)
+        | inr c ↦ inr (adds.kept (offered_strength ks e) (offer_at p i) c)
       ]
-      | inr same ↦ subst (λ (p : ℕ). (rank (gift ks e) ≤ rank_at ks e.target) ⊎ Contains (new (gift ks e)) (offer_at p i)) (sym same) (of_o i e (subst (λ (p : ℕ). at p i ≡ Some e) same is))
+      | inr same ↦ subst (λ (p : ℕ). (rank (offered_strength ks e) ≤ rank_at ks e.target) ⊎ Contains (new (offered_strength ks e)) (offer_at p i)) (sym same) (of_o i e (subst (λ (p : ℕ). at p i ≡ Some e) same is))
     ];
     backed = λ s y c. elim (adds.made s y c) [
       | inl before ↦ h.backed s y before
       | inr made ↦ record {
         edge = made.1;
         is = subst (λ (p : ℕ). at p y.place ≡ Some made.1) (sym made.0) made.2;
-        passes_on = subst (λ (p : ℕ). PassesOn (kept_at ks p)) (sym made.0) passes;
+        passes_on = subst (λ (p : ℕ). PassesOn (reached_at ks p)) (sym made.0) passes;
         gives = made.3;
       }
     ];
     least = λ s y c p reached. elim (adds.made s y c) [
       | inl before ↦ h.least s y before p reached
-      | inr made ↦ let gives : rank s ≡ rank (gift ks made.1) = ap rank made.3 in omega (arith, gives-le y.place made.1 made.2, floor p reached)
+      | inr made ↦ let gives : rank s ≡ rank (offered_strength ks made.1) = ap rank made.3 in omega (arith, gives-le y.place made.1 made.2, floor p reached)
     ];
   }
 
 -- a best offer is taken
-module _ (g : Standing) (at : ℕ → ℕ → Option Edge) (rows : AreRows g at) (ks ks' : List Kept) (old new : Strength → List Offer) (count : ℕ) (s : Strength) (x : Offer) (e : Edge)
+module _ (g : Standing) (at : ℕ → ℕ → Option Edge) (rows : AreRows g at) (ks ks' : List Reached) (old new : Strength → List Offer) (count : ℕ) (s : Strength) (x : Offer) (e : Edge)
     (h : IsGrowing g at ks old count Every) (t : Takes old new s x) (is : at x.source x.place ≡ Some e) (low : rank_at ks e.target ≡ 0)
-    (here : kept_at ks' e.target ≡ record { strength = s; support = supports.Edge e.source e.slot; stamp = count + 1 })
-    (others : (o : ℕ) → o ≢ e.target → kept_at ks' o ≡ kept_at ks o) where
+    (here : reached_at ks' e.target ≡ record { strength = s; support = supports.Edge e.source e.slot; stamp = count + 1 })
+    (others : (o : ℕ) → o ≢ e.target → reached_at ks' o ≡ reached_at ks o) where
   back : IsBacked at ks s x
   back = h.backed s x t.offer.made
 
   source : e.source ≡ x.source
   source = rows.source x.source x.place e is
 
-  passes : PassesOn (kept_at ks e.source)
-  passes = subst (λ (o : ℕ). PassesOn (kept_at ks o)) (sym source) back.passes_on
+  passes : PassesOn (reached_at ks e.source)
+  passes = subst (λ (o : ℕ). PassesOn (reached_at ks o)) (sym source) back.passes_on
 
-  gives : s ≡ gift ks e
-  gives = back.gives ∙ ap (gift ks) (edge_at_offer at x e is x.source x.place back.edge refl back.is)
+  gives : s ≡ offered_strength ks e
+  gives = back.gives ∙ ap (offered_strength ks) (edge_at_offer at x e is x.source x.place back.edge refl back.is)
 
   -- what is reached stays
-  stays : (o : ℕ) → 1 ≤ rank_at ks o → kept_at ks' o ≡ kept_at ks o
+  stays : (o : ℕ) → 1 ≤ rank_at ks o → reached_at ks' o ≡ reached_at ks o
   stays o reached = others o (λ same. let l : rank_at ks o ≡ 0 = ap (rank_at ks) same ∙ low in omega arith)
 
   rank_here : rank_at ks' e.target ≡ rank s
-  rank_here = ap (λ (k : Kept). rank k.strength) here
+  rank_here = ap (λ (k : Reached). rank k.strength) here
 
-  source_stays : kept_at ks' e.source ≡ kept_at ks e.source
+  source_stays : reached_at ks' e.source ≡ reached_at ks e.source
   source_stays = stays e.source (omega (arith, passes))
 
-  kept_support : (o : ℕ) (by : Support) → kept_at ks' o ≡ kept_at ks o → IsSupported g ks o by → IsSupported g ks' o by
+  kept_support : (o : ℕ) (by : Support) → reached_at ks' o ≡ reached_at ks o → IsSupported g ks o by → IsSupported g ks' o by
   kept_support o supports.Nothing same is = rw same is
   kept_support o (supports.Root n) same is = (is.0, rw same is.1)
   kept_support o (supports.Edge source slot) same (f, is) =
-      let there : kept_at ks' source ≡ kept_at ks source = stays source (omega (arith, is.passes_on)) in (
+      let there : reached_at ks' source ≡ reached_at ks source = stays source (omega (arith, is.passes_on)) in (
         f,
         record {
           stands = is.stands;
@@ -197,7 +197,7 @@ module _ (g : Standing) (at : ℕ → ℕ → Option Edge) (rows : AreRows g at)
       )
 
   less : rank s ≤ rank_at ks e.source
-  less = let same : rank s ≡ rank (gift ks e) = ap rank gives in omega (arith, gift-le ks e)
+  less = let same : rank s ≡ rank (offered_strength ks e) = ap rank gives in omega (arith, offered_strength-le ks e)
 
   new_support : SupportedBy g ks' e.target e.source e.slot e
   new_support = record {
@@ -213,13 +213,13 @@ module _ (g : Standing) (at : ℕ → ℕ → Option Edge) (rows : AreRows g at)
     ]);
   }
 
-  supported : (o : ℕ) → IsSupported g ks' o (kept_at ks' o).support
+  supported : (o : ℕ) → IsSupported g ks' o (reached_at ks' o).support
   supported o = elim (cases_eq o e.target) [
     | inl same ↦ rw (same, here) (e, new_support)
-    | inr other ↦ rw (ap (λ (k : Kept). k.support) (others o other)) (kept_support o (kept_at ks o).support (others o other) (h.supported o))
+    | inr other ↦ rw (ap (λ (k : Reached). k.support) (others o other)) (kept_support o (reached_at ks o).support (others o other) (h.supported o))
   ]
 
-  stamps : (o : ℕ) → (kept_at ks' o).stamp ≤ count + 1
+  stamps : (o : ℕ) → (reached_at ks' o).stamp ≤ count + 1
   stamps o = elim (cases_eq o e.target) [
     | inl same ↦ rw (same, here) (omega arith)
     | inr other ↦ rw (others o other) (omega (arith, h.stamps o))
@@ -229,44 +229,44 @@ module _ (g : Standing) (at : ℕ → ℕ → Option Edge) (rows : AreRows g at)
   raises : (o : ℕ) → rank_at ks o ≤ rank_at ks' o
   raises o = elim (cases_eq o e.target) [
     | inl same ↦ let r : rank_at ks o ≡ 0 = ap (rank_at ks) same ∙ low in omega arith
-    | inr other ↦ let r : rank_at ks' o ≡ rank_at ks o = ap (λ (k : Kept). rank k.strength) (others o other) in omega arith
+    | inr other ↦ let r : rank_at ks' o ≡ rank_at ks o = ap (λ (k : Reached). rank k.strength) (others o other) in omega arith
   ]
 
   -- what is reached has at least what the offer gives
   pub floor : (o : ℕ) → 1 ≤ rank_at ks' o → rank s ≤ rank_at ks' o
   floor o reached = elim (cases_eq o e.target) [
     | inl same ↦ let r : rank_at ks' o ≡ rank s = ap (rank_at ks') same ∙ rank_here in omega arith
-    | inr other ↦ let r : rank_at ks' o ≡ rank_at ks o = ap (λ (k : Kept). rank k.strength) (others o other) in
+    | inr other ↦ let r : rank_at ks' o ≡ rank_at ks o = ap (λ (k : Reached). rank k.strength) (others o other) in
         omega (arith, h.least s x t.offer.made o (omega arith))
   ]
 
-  same_gift : (f : Edge) → kept_at ks' f.source ≡ kept_at ks f.source → gift ks' f ≡ gift ks f
-  same_gift f same = ap (λ (k : Kept). weaker_of k.strength (given_by f.kind)) same
+  same_offered_strength : (f : Edge) → reached_at ks' f.source ≡ reached_at ks f.source → offered_strength ks' f ≡ offered_strength ks f
+  same_offered_strength f same = ap (λ (k : Reached). weaker_of k.strength (given_by f.kind)) same
 
   still_backed : (r : Strength) (y : Offer) → IsBacked at ks r y → IsBacked at ks' r y
   still_backed r y b =
-      let there : kept_at ks' y.source ≡ kept_at ks y.source = stays y.source (omega (arith, b.passes_on)) in
+      let there : reached_at ks' y.source ≡ reached_at ks y.source = stays y.source (omega (arith, b.passes_on)) in
       let from : b.edge.source ≡ y.source = rows.source y.source y.place b.edge b.is in
       record {
         edge = b.edge;
         is = b.is;
         passes_on = rw there b.passes_on;
-        gives = b.gives ∙ sym (same_gift b.edge (subst (λ (o : ℕ). kept_at ks' o ≡ kept_at ks o) (sym from) there));
+        gives = b.gives ∙ sym (same_offered_strength b.edge (subst (λ (o : ℕ). reached_at ks' o ≡ reached_at ks o) (sym from) there));
       }
 
-  still_done : (o i : ℕ) (f : Edge) → o ≢ e.target → at o i ≡ Some f → PassesOn (kept_at ks' o) → (rank (gift ks' f) ≤ rank_at ks' f.target) ⊎ Contains (new (gift ks' f)) (offer_at o i)
+  still_done : (o i : ℕ) (f : Edge) → o ≢ e.target → at o i ≡ Some f → PassesOn (reached_at ks' o) → (rank (offered_strength ks' f) ≤ rank_at ks' f.target) ⊎ Contains (new (offered_strength ks' f)) (offer_at o i)
   still_done o i f other there p =
-      let same : kept_at ks' o ≡ kept_at ks o = others o other in
-      let gifts : gift ks' f ≡ gift ks f = same_gift f (subst (λ (o : ℕ). kept_at ks' o ≡ kept_at ks o) (sym (rows.source o i f there)) same) in
-      let ranks : rank (gift ks' f) ≡ rank (gift ks f) = ap rank gifts in
+      let same : reached_at ks' o ≡ reached_at ks o = others o other in
+      let offered_strengths : offered_strength ks' f ≡ offered_strength ks f = same_offered_strength f (subst (λ (o : ℕ). reached_at ks' o ≡ reached_at ks o) (sym (rows.source o i f there)) same) in
+      let ranks : rank (offered_strength ks' f) ≡ rank (offered_strength ks f) = ap rank offered_strengths in
       elim (h.by_edges o i f tt there (rw (← same) p)) [
         | inl le ↦ inl (omega (arith, raises f.target))
-        | inr c ↦ elim (t.offer.left (gift ks f) (offer_at o i) c) [
-          | inr still ↦ inr (subst (λ (r : Strength). Contains (new r) (offer_at o i)) (sym gifts) still)
+        | inr c ↦ elim (t.offer.left (offered_strength ks f) (offer_at o i) c) [
+          | inr still ↦ inr (subst (λ (r : Strength). Contains (new r) (offer_at o i)) (sym offered_strengths) still)
           | inl both ↦
               let edge : f ≡ e = edge_at_offer at x e is o i f both.1 there in
               let to : rank_at ks' f.target ≡ rank_at ks' e.target = ap (λ (f : Edge). rank_at ks' f.target) edge in
-              let gave : rank (gift ks f) ≡ rank s = ap rank both.0 in
+              let gave : rank (offered_strength ks f) ≡ rank s = ap rank both.0 in
               inl (omega (arith, rank_here))
         ]
       ]
@@ -274,7 +274,7 @@ module _ (g : Standing) (at : ℕ → ℕ → Option Edge) (rows : AreRows g at)
   pub take : IsGrowing g at ks' new (count + 1) (λ o. o ≢ e.target)
   take = record {
     supported = supported;
-    by_roots = λ r c. let strong : (kept_at ks r.target).strength ≡ strengths.Strong = h.by_roots r c in rw (stays r.target (rw strong (omega arith))) strong;
+    by_roots = λ r c. let strong : (reached_at ks r.target).strength ≡ strengths.Strong = h.by_roots r c in rw (stays r.target (rw strong (omega arith))) strong;
     stamps = stamps;
     by_edges = λ o i f other there p. still_done o i f other there p;
     backed = λ r y c. still_backed r y (h.backed r y (t.offer.within r y c));
@@ -282,7 +282,7 @@ module _ (g : Standing) (at : ℕ → ℕ → Option Edge) (rows : AreRows g at)
   }
 
 -- once no offer is left all is settled
-pub settled_in_the_end : (g : Standing) (at : ℕ → ℕ → Option Edge) → AreRows g at → (ks : List Kept) (offers : Strength → List Offer) (count : ℕ) → IsGrowing g at ks offers count Every → ((s : Strength) → offers s ≡ []) → Settled g ks
+pub settled_in_the_end : (g : Standing) (at : ℕ → ℕ → Option Edge) → AreRows g at → (ks : List Reached) (offers : Strength → List Offer) (count : ℕ) → IsGrowing g at ks offers count Every → ((s : Strength) → offers s ≡ []) → Settled g ks
 settled_in_the_end g at rows ks offers count h none = record {
   supported = h.supported;
   by_roots = h.by_roots;
@@ -290,6 +290,6 @@ settled_in_the_end g at rows ks offers count h none = record {
       let place : (i : ℕ) × (at e.source i ≡ Some e) = rows.all e c in
       elim (h.by_edges e.source place.0 e tt place.1 p) [
         | inl le ↦ le
-        | inr offer ↦ absurd (Contains-nil (offer_at e.source place.0) (subst (λ (xs : List Offer). Contains xs (offer_at e.source place.0)) (none (gift ks e)) offer))
+        | inr offer ↦ absurd (Contains-nil (offer_at e.source place.0) (subst (λ (xs : List Offer). Contains xs (offer_at e.source place.0)) (none (offered_strength ks e)) offer))
       ];
 }

@@ -1,5 +1,5 @@
 pub mod Lists
-pub mod TakenLemmas
+pub mod RemovedLemmas
 pub mod RowLemmas
 pub mod Grow
 pub mod Offering

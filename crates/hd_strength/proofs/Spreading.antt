@@ -7,12 +7,12 @@ use Rattle.hd_terms.specs.Ranks.{rank, least_passed_on}
 use Rattle.hd_terms.specs.Paths.{Edge}
 use Rattle.hd_terms.specs.Dump.{Dump}
 use Rattle.hd_terms.specs.EditedDump.{standing}
-use Rattle.hd_terms.specs.Settled.{Kept, unreached}
+use Rattle.hd_terms.specs.Settled.{Reached, unreached}
 use Rattle.hd_strength.specs.declared.buckets.Offer.{Offer}
 use Rattle.hd_strength.specs.declared.buckets.Buckets.{Buckets}
 use Rattle.hd_strength.specs.Buckets.{bucket, pending, TakesBest}
 use Rattle.hd_strength.specs.Rows.{width, edge_at, root_count}
-use Rattle.hd_strength.specs.Growing.{rank_at, AreHeld, IsBacked, IsGrowing, Every, AddsOffers, IsDeclined, IsTaken, unreached_count}
+use Rattle.hd_strength.specs.Growing.{rank_at, AreHeld, IsBacked, IsGrowing, Every, AddsOffers, IsDeclined, IsAccepted, unreached_count}
 use Rattle.hd_strength.proofs.RowLemmas.{edge_stands_at, at_source, edge_has_place, is_at, IsAt}
 use Rattle.hd_strength.proofs.Grow.{AreRows, Takes, takes, decline, weaken, offered, take, floor}
 use Rattle.hd_strength.proofs.Offering.{held_rank}
@@ -26,10 +26,10 @@ wide : (dump : Dump) (log : List Event) (o i : ℕ) (e : Edge) → edge_at dump 
 wide dump log o i e is = (is_at dump log o i e is).place
 
 -- the objects below n that roots hold have offered what they give
-abbrev pub HasOffered : Dump → List Event → List Kept → Buckets → ℕ → Type 0
+abbrev pub HasOffered : Dump → List Event → List Reached → Buckets → ℕ → Type 0
 HasOffered dump log ks b n = IsGrowing (standing dump log) (edge_at dump log) ks (bucket b) 0 (λ o. o < n)
 
-module _ (dump : Dump) (log : List Event) (ks : List Kept) (held : AreHeld dump log ks (root_count dump log)) (n : ℕ) (b : Buckets) (h : HasOffered dump log ks b n) where
+module _ (dump : Dump) (log : List Event) (ks : List Reached) (held : AreHeld dump log ks (root_count dump log)) (n : ℕ) (b : Buckets) (h : HasOffered dump log ks b n) where
   pub one_offers : (b' : Buckets) → 1 ≤ rank_at ks n → AddsOffers (edge_at dump log) ks n (width dump n) (bucket b) (bucket b') → HasOffered dump log ks b' (n + 1)
   one_offers b' reached adds =
       let five : rank_at ks n ≡ 5 = held_rank dump log ks n (held.each n) reached in
@@ -48,11 +48,11 @@ module _ (dump : Dump) (log : List Event) (ks : List Kept) (held : AreHeld dump 
   all_offered le = weaken (standing dump log) (edge_at dump log) ks (bucket b) 0 (λ o. o < n) Every h
       (λ p passes all. elim (cases_lt p n) [
         | inl lt ↦ lt
-        | inr past ↦ let none : rank_at ks p ≡ 0 = ap (λ (k : Kept). rank k.strength) (get_or_past ks p unreached (omega arith)) in absurd (omega (arith, passes))
+        | inr past ↦ let none : rank_at ks p ≡ 0 = ap (λ (k : Reached). rank k.strength) (get_or_past ks p unreached (omega arith)) in absurd (omega (arith, passes))
       ])
 
 -- one step: an offer is taken out and let go or taken
-module _ (dump : Dump) (log : List Event) (ks : List Kept) (b b1 : Buckets) (s : Strength) (x : Offer) (n : ℕ) (h : IsGrowing (standing dump log) (edge_at dump log) ks (bucket b) n Every) (best : TakesBest b b1 s x) where
+module _ (dump : Dump) (log : List Event) (ks : List Reached) (b b1 : Buckets) (s : Strength) (x : Offer) (n : ℕ) (h : IsGrowing (standing dump log) (edge_at dump log) ks (bucket b) n Every) (best : TakesBest b b1 s x) where
   out : Takes (bucket b) (bucket b1) s x
   out = takes b b1 s x best
 
@@ -62,17 +62,17 @@ module _ (dump : Dump) (log : List Event) (ks : List Kept) (b b1 : Buckets) (s :
   pub at_offer : IsAt dump log x.source x.place backing.edge
   at_offer = is_at dump log x.source x.place backing.edge backing.is
 
-  module _ (ks' : List Kept) (b2 : Buckets) (e : Edge) (n' : ℕ) (is : edge_at dump log x.source x.place ≡ Some e) where
+  module _ (ks' : List Reached) (b2 : Buckets) (e : Edge) (n' : ℕ) (is : edge_at dump log x.source x.place ≡ Some e) where
     declined : IsDeclined ks ks' b1 b2 e n n' → IsGrowing (standing dump log) (edge_at dump log) ks' (bucket b2) n' Every
     declined d = rw (d.same_kept, d.same_offers, d.same_count) (decline (standing dump log) (edge_at dump log) ks (bucket b) (bucket b1) n s x e h out is d.reached)
 
-    taken : IsTaken (edge_at dump log) (width dump) ks ks' b1 b2 s e n n' → IsGrowing (standing dump log) (edge_at dump log) ks' (bucket b2) n' Every
-    taken d =
+    removed : IsAccepted (edge_at dump log) (width dump) ks ks' b1 b2 s e n n' → IsGrowing (standing dump log) (edge_at dump log) ks' (bucket b2) n' Every
+    removed d =
         let g = standing dump log in
         let at = edge_at dump log in
         let grown : IsGrowing g at ks' (bucket b1) (n + 1) (λ o. o ≢ e.target) = take g at (rows_of dump log) ks ks' (bucket b) (bucket b1) n s x e h out is d.was_unreached d.here d.others in
         let least : (p : ℕ) → 1 ≤ rank_at ks' p → rank s ≤ rank_at ks' p = floor g at (rows_of dump log) ks ks' (bucket b) (bucket b1) n s x e h out is d.was_unreached d.here d.others in
-        let here : rank_at ks' e.target ≡ rank s = ap (λ (k : Kept). rank k.strength) d.here in
+        let here : rank_at ks' e.target ≡ rank s = ap (λ (k : Reached). rank k.strength) d.here in
         rw d.counted (elim (cases_lt (rank s) (rank least_passed_on)) [
           | inl low ↦ rw (d.adds_none (λ high. omega arith)) (weaken g at ks' (bucket b1) (n + 1) (λ o. o ≢ e.target) Every grown
               (λ p passes all same. let r : rank_at ks' p ≡ rank_at ks' e.target = ap (rank_at ks') same in absurd (omega (arith, passes))))
@@ -81,18 +81,18 @@ module _ (dump : Dump) (log : List Event) (ks : List Kept) (b b1 : Buckets) (s :
               (λ p all. elim (cases_eq p e.target) [ inl same ↦ inr same | inr other ↦ inl other ])
         ])
 
-    pub grows : IsDeclined ks ks' b1 b2 e n n' ⊎ IsTaken (edge_at dump log) (width dump) ks ks' b1 b2 s e n n' → IsGrowing (standing dump log) (edge_at dump log) ks' (bucket b2) n' Every
+    pub grows : IsDeclined ks ks' b1 b2 e n n' ⊎ IsAccepted (edge_at dump log) (width dump) ks ks' b1 b2 s e n n' → IsGrowing (standing dump log) (edge_at dump log) ks' (bucket b2) n' Every
     grows (inl d) = declined d
-    grows (inr d) = taken d
+    grows (inr d) = removed d
 
-    pub same_length : IsDeclined ks ks' b1 b2 e n n' ⊎ IsTaken (edge_at dump log) (width dump) ks ks' b1 b2 s e n n' → length ks' ≡ length ks
+    pub same_length : IsDeclined ks ks' b1 b2 e n n' ⊎ IsAccepted (edge_at dump log) (width dump) ks ks' b1 b2 s e n n' → length ks' ≡ length ks
     same_length (inl d) = ap length d.same_kept
     same_length (inr d) = d.same_length
 
-    pub still_few : IsDeclined ks ks' b1 b2 e n n' ⊎ IsTaken (edge_at dump log) (width dump) ks ks' b1 b2 s e n n' → n' + unreached_count ks' ≤ n + unreached_count ks
+    pub still_few : IsDeclined ks ks' b1 b2 e n n' ⊎ IsAccepted (edge_at dump log) (width dump) ks ks' b1 b2 s e n n' → n' + unreached_count ks' ≤ n + unreached_count ks
     still_few (inl d) = omega (arith, d.same_count, ap unreached_count d.same_kept)
     still_few (inr d) = omega (arith, d.counted, d.fewer)
 
-    pub less_to_do : IsDeclined ks ks' b1 b2 e n n' ⊎ IsTaken (edge_at dump log) (width dump) ks ks' b1 b2 s e n n' → unreached_count ks' * 2 ^ 32 + pending b2 < unreached_count ks * 2 ^ 32 + pending b
+    pub less_to_do : IsDeclined ks ks' b1 b2 e n n' ⊎ IsAccepted (edge_at dump log) (width dump) ks ks' b1 b2 s e n n' → unreached_count ks' * 2 ^ 32 + pending b2 < unreached_count ks * 2 ^ 32 + pending b
     less_to_do (inl d) = omega (arith, ap unreached_count d.same_kept, ap pending d.same_offers, best.count)
     less_to_do (inr d) = omega (arith, d.fewer, d.few, best.count)

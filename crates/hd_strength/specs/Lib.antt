@@ -1,5 +1,5 @@
-pub mod Held
+pub mod PackedReached
 pub mod Buckets
-pub mod Taken
+pub mod Removed
 pub mod Rows
 pub mod Growing

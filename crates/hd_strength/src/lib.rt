@@ -2,30 +2,30 @@
 #![tactic(auto)]
 
 ghost use Rattle.std.specs.Prelude.{◌≡◌, ◌<◌, length};
-ghost use Rattle.hd_terms.specs.Settled.{kept_at};
+ghost use Rattle.hd_terms.specs.Settled.{reached_at};
 
 mod buckets;
-mod held;
+mod packed_reached;
+mod removed;
 mod scratch;
-mod taken;
 
 use hd_terms::{Strength, Support};
-use held::Held;
+use packed_reached::PackedReached;
+pub use removed::Removed;
 pub use scratch::from_scratch;
 use std::marker::Model;
-pub use taken::Taken;
 
 /// What is kept of each object: its strength, what it owes it to, and its stamp.
 #[derive(Drop)]
 pub struct Strengths {
-    kept: Vec<Held>,
+    kept: Vec<PackedReached>,
 }
 
 impl Model for Strengths {
     ghost use Rattle.std.specs.Prelude.{List, length, ◌^◌, ◌<◌};
-    ghost use Rattle.hd_terms.specs.Settled.{Kept};
+    ghost use Rattle.hd_terms.specs.Settled.{Reached};
 
-    ghost Value = { List Kept };
+    ghost Value = { List Reached };
 
     ghost view = { λ s. s.kept.items };
 
@@ -43,7 +43,7 @@ impl Strengths {
     /// How well an object can be reached.
     pub fn strength(&self, o: u32) -> Strength
         requires { o < length self.now }
-        ensures { result ≡ (kept_at self.now o).strength }
+        ensures { result ≡ (reached_at self.now o).strength }
     {
         self.kept[o as usize].strength()
     }
@@ -51,7 +51,7 @@ impl Strengths {
     /// What an object owes its strength to.
     pub fn support(&self, o: u32) -> Support
         requires { o < length self.now }
-        ensures { result ≡ (kept_at self.now o).support }
+        ensures { result ≡ (reached_at self.now o).support }
     {
         self.kept[o as usize].support()
     }
@@ -59,7 +59,7 @@ impl Strengths {
     /// The number that orders objects of one strength: that of a source is less.
     pub fn stamp(&self, o: u32) -> u64
         requires { o < length self.now }
-        ensures { result ≡ (kept_at self.now o).stamp }
+        ensures { result ≡ (reached_at self.now o).stamp }
     {
         self.kept[o as usize].stamp()
     }

@@ -5,16 +5,16 @@ ghost use Rattle.std.specs.Option.{option_map};
 ghost use Rattle.hd_terms.specs.Log.{live_flags};
 ghost use Rattle.hd_terms.specs.Paths.{Edge, RootEntry};
 ghost use Rattle.hd_terms.specs.EditedDump.{standing};
-ghost use Rattle.hd_terms.specs.Settled.{Settled, kept_at, unreached};
+ghost use Rattle.hd_terms.specs.Settled.{Settled, reached_at, unreached};
 ghost use Rattle.hd_strength.specs.Buckets.{bucket, pending};
 ghost use Rattle.hd_strength.specs.Rows.{width, added_id, edge_at, root_at, root_count};
-ghost use Rattle.hd_strength.specs.Growing.{rank_at, gift, AreHeld, IsBacked, IsGrowing, Every, AddsOffers, IsDeclined, IsTaken};
-ghost use Rattle.hd_strength.specs.Taken.{IsTakenBy};
+ghost use Rattle.hd_strength.specs.Growing.{rank_at, offered_strength, AreHeld, IsBacked, IsGrowing, Every, AddsOffers, IsDeclined, IsAccepted};
+ghost use Rattle.hd_strength.specs.Removed.{IsRemovedBy};
 
 use crate::Strengths;
 use crate::buckets::{Best, Buckets, Offer};
-use crate::held::Held;
-use crate::taken::{Taken, live_edit};
+use crate::packed_reached::PackedReached;
+use crate::removed::{Removed, live_edit};
 use hd_graph::Graph;
 use hd_log::Front;
 use hd_terms::{Edit, NoMemory, Strength};
@@ -25,28 +25,28 @@ use std::alloc::Global;
 struct Edited<'a> {
     graph: &'a Graph,
     front: &'a Front,
-    taken: &'a Taken,
+    removed: &'a Removed,
 }
 
 /// What is kept where nothing reaches an object.
-fn none_reached(alloc: Global, objects: u32) -> Result<Vec<Held>, NoMemory>
+fn none_reached(alloc: Global, objects: u32) -> Result<Vec<PackedReached>, NoMemory>
     ensures count { IfOk result (λ v. length v.items ≡ objects) }
-    ensures unreached { IfOk result (λ v. (o : ℕ) → kept_at v.items o ≡ unreached) }
+    ensures unreached { IfOk result (λ v. (o : ℕ) → reached_at v.items o ≡ unreached) }
 {
     let mut kept = Vec::with_capacity(alloc, objects as usize)?;
     for _ in 0..objects {
-        kept.push(Held::unreached())?;
+        kept.push(PackedReached::unreached())?;
     }
     Ok(kept)
 }
 
 /// The object that a root of the dump holds, where the root stands.
 fn root_object(edited: Edited<'_>, r: u32) -> Option<u32>
-    requires taken { IsTakenBy edited.graph.now edited.front.now edited.taken.now }
+    requires removed { IsRemovedBy edited.graph.now edited.front.now edited.removed.now }
     requires root { r < length edited.graph.now.roots }
     ensures { result ≡ option_map (λ (x : RootEntry). x.target) (root_at edited.entry.graph.now edited.entry.front.now r) }
 {
-    if edited.taken.root(u64::from(r)) {
+    if edited.removed.root(u64::from(r)) {
         return None;
     }
     edited.graph.roots(r).object
@@ -64,7 +64,7 @@ fn added_id(edit: Edit) -> Option<u64>
 
 /// The object that the root holds which event k adds, where the event is live and the root stands.
 fn added_object(edited: Edited<'_>, live: &[bool], k: u32) -> Option<u32>
-    requires taken { IsTakenBy edited.graph.now edited.front.now edited.taken.now }
+    requires removed { IsRemovedBy edited.graph.now edited.front.now edited.removed.now }
     requires event { k < length edited.front.now }
     requires flags { live.now ≡ live_flags edited.front.now }
     ensures { result ≡ option_map (λ (x : RootEntry). x.target) (root_at edited.entry.graph.now edited.entry.front.now (length edited.entry.graph.now.roots + k)) }
@@ -72,7 +72,7 @@ fn added_object(edited: Edited<'_>, live: &[bool], k: u32) -> Option<u32>
     let edit = live_edit(edited.front, live, k)?;
     let id = added_id(edit)?;
     if edited
-        .taken
+        .removed
         .root(u64::from(edited.graph.roots_len()) + u64::from(k))
     {
         return None;
@@ -81,8 +81,8 @@ fn added_object(edited: Edited<'_>, live: &[bool], k: u32) -> Option<u32>
 }
 
 /// What is kept where only the roots of the dump hold their objects, so far as they stand.
-fn held_by_dump(alloc: Global, edited: Edited<'_>) -> Result<Vec<Held>, NoMemory>
-    requires taken { IsTakenBy edited.graph.now edited.front.now edited.taken.now }
+fn apply_dump_roots(alloc: Global, edited: Edited<'_>) -> Result<Vec<PackedReached>, NoMemory>
+    requires removed { IsRemovedBy edited.graph.now edited.front.now edited.removed.now }
     ensures few { length edited.entry.graph.now.objects < 2 ^ 32 }
     ensures count { IfOk result (λ v. length v.items ≡ length edited.entry.graph.now.objects) }
     ensures held { IfOk result (λ v. AreHeld edited.entry.graph.now edited.entry.front.now v.items (length edited.entry.graph.now.roots)) }
@@ -90,7 +90,7 @@ fn held_by_dump(alloc: Global, edited: Edited<'_>) -> Result<Vec<Held>, NoMemory
     let mut kept = none_reached(alloc, edited.graph.objects())?;
     for r in 0..edited.graph.roots_len() {
         if let Some(o) = root_object(edited, r) {
-            kept[o as usize] = Held::by_root(u64::from(r));
+            kept[o as usize] = PackedReached::by_root(u64::from(r));
         }
     }
     Ok(kept)
@@ -98,31 +98,31 @@ fn held_by_dump(alloc: Global, edited: Edited<'_>) -> Result<Vec<Held>, NoMemory
 
 /// What is kept where only the roots hold their objects: those of the dump and those that were added, so far as they
 /// stand. An added root has the number of the event after those of the dump's roots.
-fn rooted(alloc: Global, edited: Edited<'_>) -> Result<Vec<Held>, NoMemory>
-    requires taken { IsTakenBy edited.graph.now edited.front.now edited.taken.now }
+fn apply_roots(alloc: Global, edited: Edited<'_>) -> Result<Vec<PackedReached>, NoMemory>
+    requires removed { IsRemovedBy edited.graph.now edited.front.now edited.removed.now }
     ensures few { length edited.entry.graph.now.objects < 2 ^ 32 }
     ensures count { IfOk result (λ v. length v.items ≡ length edited.entry.graph.now.objects) }
     ensures held { IfOk result (λ v. AreHeld edited.entry.graph.now edited.entry.front.now v.items (root_count edited.entry.graph.now edited.entry.front.now)) }
 {
-    let mut kept = held_by_dump(alloc, edited)?;
+    let mut kept = apply_dump_roots(alloc, edited)?;
     let live = edited.front.live(alloc)?;
     for k in 0..edited.front.len() {
         if let Some(o) = added_object(edited, &live, k) {
             let root = u64::from(edited.graph.roots_len()) + u64::from(k);
-            kept[o as usize] = Held::by_root(root);
+            kept[o as usize] = PackedReached::by_root(root);
         }
     }
     Ok(kept)
 }
 
 /// What the reference at a place of an object's slots gives its target, if nothing reaches that yet.
-fn gift_at(edited: Edited<'_>, kept: &[Held], o: u32, place: u32) -> Option<Strength>
-    requires taken { IsTakenBy edited.graph.now edited.front.now edited.taken.now }
+fn offered_at(edited: Edited<'_>, kept: &[PackedReached], o: u32, place: u32) -> Option<Strength>
+    requires removed { IsRemovedBy edited.graph.now edited.front.now edited.removed.now }
     requires object { o < length edited.graph.now.objects }
     requires place { place < width edited.graph.now o }
     requires count { length kept.now ≡ length edited.graph.now.objects }
     ensures none { IfNone result ((e : Edge) → edge_at edited.entry.graph.now edited.entry.front.now o place ≡ Some e → 1 ≤ rank_at kept.now e.target) }
-    ensures some { IfSome result (λ s. (e : Edge) × (edge_at edited.entry.graph.now edited.entry.front.now o place ≡ Some e) × (s ≡ gift kept.now e)) }
+    ensures some { IfSome result (λ s. (e : Edge) × (edge_at edited.entry.graph.now edited.entry.front.now o place ≡ Some e) × (s ≡ offered_strength kept.now e)) }
     ensures source { IfSome result (λ s. 1 ≤ rank_at kept.now o → 1 ≤ rank s) }
 {
     let read = edited.graph.slots(o, place);
@@ -130,20 +130,20 @@ fn gift_at(edited: Edited<'_>, kept: &[Held], o: u32, place: u32) -> Option<Stre
     if kept[target as usize].strength().rank() > 0 {
         return None;
     }
-    if edited.taken.slot(o, place) {
+    if edited.removed.slot(o, place) {
         return None;
     }
     Some(kept[o as usize].strength().weaker(read.kind.strength()))
 }
 
 /// Offers what the references of an object give that is reached.
-fn offer_out(
+fn relax_edges(
     edited: Edited<'_>,
-    kept: &[Held],
+    kept: &[PackedReached],
     o: u32,
     buckets: &mut Buckets,
 ) -> Result<(), NoMemory>
-    requires taken { IsTakenBy edited.graph.now edited.front.now edited.taken.now }
+    requires removed { IsRemovedBy edited.graph.now edited.front.now edited.removed.now }
     requires object { o < length edited.graph.now.objects }
     requires count { length kept.now ≡ length edited.graph.now.objects }
     requires reached { 1 ≤ rank_at kept.now o }
@@ -151,7 +151,7 @@ fn offer_out(
     ensures few { OnOk result (pending buckets.new < pending buckets.old + 2 ^ 32) }
 {
     for place in 0..edited.graph.slots_len(o) {
-        if let Some(strength) = gift_at(edited, kept, o, place) {
+        if let Some(strength) = offered_at(edited, kept, o, place) {
             buckets.push(strength, Offer { source: o, place })?;
         }
     }
@@ -159,8 +159,12 @@ fn offer_out(
 }
 
 /// What the objects offer that roots hold.
-fn offer_held(alloc: Global, edited: Edited<'_>, kept: &[Held]) -> Result<Buckets, NoMemory>
-    requires taken { IsTakenBy edited.graph.now edited.front.now edited.taken.now }
+fn relax_roots(
+    alloc: Global,
+    edited: Edited<'_>,
+    kept: &[PackedReached],
+) -> Result<Buckets, NoMemory>
+    requires removed { IsRemovedBy edited.graph.now edited.front.now edited.removed.now }
     requires count { length kept.now ≡ length edited.graph.now.objects }
     requires held { AreHeld edited.graph.now edited.front.now kept.now (root_count edited.graph.now edited.front.now) }
     ensures { IfOk result (λ b. IsGrowing (standing edited.entry.graph.now edited.entry.front.now) (edge_at edited.entry.graph.now edited.entry.front.now) kept.now (bucket b) 0 Every) }
@@ -168,7 +172,7 @@ fn offer_held(alloc: Global, edited: Edited<'_>, kept: &[Held]) -> Result<Bucket
     let mut buckets = Buckets::new(alloc);
     for o in 0..edited.graph.objects() {
         if kept[o as usize].strength().rank() > 0 {
-            offer_out(edited, kept, o, &mut buckets)?;
+            relax_edges(edited, kept, o, &mut buckets)?;
         }
     }
     Ok(buckets)
@@ -177,12 +181,12 @@ fn offer_held(alloc: Global, edited: Edited<'_>, kept: &[Held]) -> Result<Bucket
 /// Takes an offer, if nothing reaches its target yet. Answers how many objects have a stamp then.
 fn accept(
     edited: Edited<'_>,
-    kept: &mut Vec<Held>,
+    kept: &mut Vec<PackedReached>,
     buckets: &mut Buckets,
     best: Best,
     count: u64,
 ) -> Result<u64, NoMemory>
-    requires taken { IsTakenBy edited.graph.now edited.front.now edited.taken.now }
+    requires removed { IsRemovedBy edited.graph.now edited.front.now edited.removed.now }
     requires object { best.offer.source < length edited.graph.now.objects }
     requires place { best.offer.place < width edited.graph.now best.offer.source }
     requires count { length kept.old.items ≡ length edited.graph.now.objects }
@@ -190,7 +194,7 @@ fn accept(
     requires room { count < 2 ^ 32 }
     ensures { IfOk result (λ n. (e : Edge) → edge_at edited.entry.graph.now edited.entry.front.now best.offer.source best.offer.place ≡ Some e →
         (IsDeclined kept.old.items kept.new.items buckets.old buckets.new e count n
-        ⊎ IsTaken (edge_at edited.entry.graph.now edited.entry.front.now) (width edited.entry.graph.now) kept.old.items kept.new.items buckets.old buckets.new best.strength e count n)) }
+        ⊎ IsAccepted (edge_at edited.entry.graph.now edited.entry.front.now) (width edited.entry.graph.now) kept.old.items kept.new.items buckets.old buckets.new best.strength e count n)) }
 {
     let read = edited.graph.slots(best.offer.source, best.offer.place);
     let Some(target) = read.target else {
@@ -199,9 +203,14 @@ fn accept(
     if kept[target as usize].strength().rank() > 0 {
         return Ok(count);
     }
-    kept[target as usize] = Held::by_edge(best.strength, best.offer.source, read.slot, count + 1);
+    kept[target as usize] = PackedReached::by_edge(
+        best.strength,
+        best.offer.source,
+        read.slot,
+        count + 1,
+    );
     if best.strength.rank() >= Strength::Final.rank() {
-        offer_out(edited, kept, target, buckets)?;
+        relax_edges(edited, kept, target, buckets)?;
     }
     Ok(count + 1)
 }
@@ -209,16 +218,16 @@ fn accept(
 /// Takes offers, the greatest first, until none is left.
 fn spread(
     edited: Edited<'_>,
-    mut kept: Vec<Held>,
+    mut kept: Vec<PackedReached>,
     mut buckets: Buckets,
-) -> Result<Vec<Held>, NoMemory>
-    requires taken { IsTakenBy edited.graph.now edited.front.now edited.taken.now }
+) -> Result<Vec<PackedReached>, NoMemory>
+    requires removed { IsRemovedBy edited.graph.now edited.front.now edited.removed.now }
     requires few { length edited.graph.now.objects < 2 ^ 32 }
     requires count { length kept.items ≡ length edited.graph.now.objects }
     requires growing { IsGrowing (standing edited.graph.now edited.front.now) (edge_at edited.graph.now edited.front.now) kept.items (bucket buckets) 0 Every }
     ensures count { IfOk result (λ v. length v.items ≡ length edited.entry.graph.now.objects) }
     ensures settled { IfOk result (λ v. Settled (standing edited.entry.graph.now edited.entry.front.now) v.items) }
-    ensures stamps { IfOk result (λ v. (o : ℕ) → (kept_at v.items o).stamp ≤ length edited.entry.graph.now.objects) }
+    ensures stamps { IfOk result (λ v. (o : ℕ) → (reached_at v.items o).stamp ≤ length edited.entry.graph.now.objects) }
 {
     let mut count = 0;
     while let Some(best) = buckets.pop() {
@@ -231,16 +240,16 @@ fn spread(
 pub fn from_scratch(alloc: Global, graph: &Graph, front: &Front) -> Result<Strengths, NoMemory>
     ensures count { IfOk result (λ ks. length ks ≡ length graph.now.objects) }
     ensures settled { IfOk result (λ ks. Settled (standing graph.now front.now) ks) }
-    ensures stamps { IfOk result (λ ks. (o : ℕ) → (kept_at ks o).stamp ≤ length graph.now.objects) }
+    ensures stamps { IfOk result (λ ks. (o : ℕ) → (reached_at ks o).stamp ≤ length graph.now.objects) }
 {
-    let taken = Taken::of(alloc, graph, front)?;
+    let removed = Removed::of(alloc, graph, front)?;
     let edited = Edited {
         graph,
         front,
-        taken: &taken,
+        removed: &removed,
     };
-    let kept = rooted(alloc, edited)?;
-    let buckets = offer_held(alloc, edited, &kept)?;
+    let kept = apply_roots(alloc, edited)?;
+    let buckets = relax_roots(alloc, edited, &kept)?;
     let kept = spread(edited, kept, buckets)?;
     Ok(Strengths { kept })
 }

@@ -1,6 +1,6 @@
 pub mod Classes
 pub mod Padding
-pub mod Fronts
+pub mod ParsedSubs
 pub mod Parts
 pub mod Values
 pub mod Heads

@@ -7,7 +7,7 @@ use Rattle.hd_terms.specs.declared.IdSize.{IdSize}
 use Rattle.hd_terms.specs.declared.errors.Cause.{Cause}
 use Rattle.hd_terms.specs.SubRecords.{SubRecord, RootOf, ClassDump, InstanceDump, ObjectArray, PrimitiveArray, IsSubRecord, sub_record_text, Sub, item_at, subs_at}
 use Rattle.hd_terms.specs.ReadFaults.{fault, IsStuck, IsSegmentFault}
-use Rattle.hd_subs.specs.Fronts.{BeginsWithSub, AppendsSub}
+use Rattle.hd_subs.specs.ParsedSubs.{BeginsWithSub, AppendsSub}
 use Rattle.hd_subs.specs.Reading.{AppendsSegment, HasGrown}
 
 -- what was read, and what is left

@@ -9,7 +9,7 @@ use Rattle.hd_terms.specs.ReadFaults.{IsStuck, short, other_class_type, IsBefore
 use Rattle.hd_subs.specs.declared.class_reading.Head.{Head}
 use Rattle.hd_subs.specs.declared.class_reading.Stop.{Stop}
 use Rattle.hd_subs.specs.declared.class_reading.Stop.TheVariants as stops
-use Rattle.hd_subs.specs.Fronts.{BeginsWithSub}
+use Rattle.hd_subs.specs.ParsedSubs.{BeginsWithSub}
 use Rattle.hd_subs.specs.Parts.{BeginsWith, EndsInside, HasOtherType, IsListStop, IsClassStop, items_at, list_at, typed_item, static_item, field_at, head_item}
 use Rattle.hd_subs.proofs.Parts.{nil_front}
 

@@ -1,6 +1,6 @@
 pub mod Views
 pub mod Rows
-pub mod Fronts
+pub mod ParsedSubs
 pub mod Parts
 pub mod Reading
 pub mod Joined

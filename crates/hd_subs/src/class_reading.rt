@@ -5,7 +5,7 @@ ghost use Rattle.hd_terms.specs.Records.{id_len};
 ghost use Rattle.hd_terms.specs.SubRecords.{Class, IsClassHead, IsClassValue, IsClassField, IsCounted, class_head_text, value_text, field_text, counted_text};
 ghost use Rattle.hd_terms.specs.Types.{is_type, value_len};
 ghost use Rattle.hd_subs.specs.Views.{constant_view, static_view, field_view, class_view};
-ghost use Rattle.hd_subs.specs.Fronts.{BeginsWithSub};
+ghost use Rattle.hd_subs.specs.ParsedSubs.{BeginsWithSub};
 ghost use Rattle.hd_subs.specs.Parts.{BeginsWith, EndsInside, HasOtherType, HasCount, BeginsWithType, IsTypeStop, IsItemStop, IsListStop, IsClassStop, list_at, typed_item, static_item, field_at, head_item};
 
 use crate::class::{ClassDump, Constant, Field, Static};

@@ -7,7 +7,7 @@ ghost use Rattle.hd_terms.specs.SubRecords.{root_tag, root_more};
 ghost use Rattle.hd_terms.specs.ReadFaults.{fault, IsStuck};
 ghost use Rattle.hd_subs.specs.Rows.{row_view, instance_kind, array_kind};
 ghost use Rattle.hd_subs.specs.declared.row.Kind.TheVariants.{Class};
-ghost use Rattle.hd_subs.specs.Fronts.{BeginsWithSub, AppendsSub, IsFaultAt, IsNoRow};
+ghost use Rattle.hd_subs.specs.ParsedSubs.{BeginsWithSub, AppendsSub, IsFaultAt, IsNoRow};
 ghost use Rattle.hd_subs.specs.Reading.{ReadsSegment, AppendsSegment, HasGrown, IsSegmentFaultOrMemory};
 
 use crate::class_reading::{Stop, read_class};
@@ -20,7 +20,7 @@ use std::alloc::Global;
 
 /// The sub-record that some bytes begin with, which is no class, and the bytes after it.
 #[derive(Clone, Copy)]
-struct Front<'a> {
+struct ParsedSub<'a> {
     row: Row,
     after: &'a [u8],
     ghost no_class: { row.kind ≢ Class },
@@ -79,7 +79,7 @@ fn bytes_behind_id(kind: RootKind, id_size: IdSize) -> usize
 }
 
 /// The ROOT of this kind whose fields these bytes begin with, unless they run out.
-fn read_root(kind: RootKind, fields: &[u8], id_size: IdSize, offset: u64) -> Option<Front<'_>>
+fn read_root(kind: RootKind, fields: &[u8], id_size: IdSize, offset: u64) -> Option<ParsedSub<'_>>
     requires { offset + 25 < 2 ^ 64 }
     ensures { MatchOption result (IsStuck id_size (root_tag kind ∷ fields.now) ShortSub) (λ f. BeginsWithSub id_size offset (root_tag kind ∷ fields.now) (row_view [] f.row) f.after.now) }
 {
@@ -94,7 +94,7 @@ fn read_root(kind: RootKind, fields: &[u8], id_size: IdSize, offset: u64) -> Opt
         count: 0,
         kind: Kind::Root(kind),
     };
-    Some(Front {
+    Some(ParsedSub {
         row,
         after: &fields[len..],
     })
@@ -109,7 +109,7 @@ fn read_count(fields: &[u8], id_len: usize) -> u32
 }
 
 /// The INSTANCE DUMP whose fields these bytes begin with, unless they run out.
-fn read_instance(fields: &[u8], id_size: IdSize, offset: u64) -> Option<Front<'_>>
+fn read_instance(fields: &[u8], id_size: IdSize, offset: u64) -> Option<ParsedSub<'_>>
     requires { offset + 25 < 2 ^ 64 }
     ensures { MatchOption result (IsStuck id_size (0x21 ∷ fields.now) ShortSub) (λ f. BeginsWithSub id_size offset (0x21 ∷ fields.now) (row_view [] f.row) f.after.now) }
 {
@@ -129,14 +129,14 @@ fn read_instance(fields: &[u8], id_size: IdSize, offset: u64) -> Option<Front<'_
         count,
         kind: kind_of_instance(id_size),
     };
-    Some(Front {
+    Some(ParsedSub {
         row,
         after: &fields[len..],
     })
 }
 
 /// The OBJECT ARRAY DUMP whose fields these bytes begin with, unless they run out.
-fn read_array(fields: &[u8], id_size: IdSize, offset: u64) -> Option<Front<'_>>
+fn read_array(fields: &[u8], id_size: IdSize, offset: u64) -> Option<ParsedSub<'_>>
     requires { offset + 25 < 2 ^ 64 }
     ensures { MatchOption result (IsStuck id_size (0x22 ∷ fields.now) ShortSub) (λ f. BeginsWithSub id_size offset (0x22 ∷ fields.now) (row_view [] f.row) f.after.now) }
 {
@@ -156,7 +156,7 @@ fn read_array(fields: &[u8], id_size: IdSize, offset: u64) -> Option<Front<'_>>
         count,
         kind: kind_of_array(id_size),
     };
-    Some(Front {
+    Some(ParsedSub {
         row,
         after: &fields[len..],
     })
@@ -171,7 +171,7 @@ enum NoRow {
 }
 
 /// The PRIMITIVE ARRAY DUMP whose fields these bytes begin with, or why there is none.
-fn read_primitive_array(fields: &[u8], id_size: IdSize, offset: u64) -> Result<Front<'_>, NoRow>
+fn read_primitive_array(fields: &[u8], id_size: IdSize, offset: u64) -> Result<ParsedSub<'_>, NoRow>
     requires { offset + 25 < 2 ^ 64 }
     ensures ok { IfOk result (λ f. BeginsWithSub id_size offset (0x23 ∷ fields.now) (row_view [] f.row) f.after.now) }
     ensures err { IfErr result (λ why. IsNoRow id_size 0x23 fields.now why) }
@@ -196,14 +196,14 @@ fn read_primitive_array(fields: &[u8], id_size: IdSize, offset: u64) -> Result<F
         count,
         kind: Kind::PrimArray(element),
     };
-    Ok(Front {
+    Ok(ParsedSub {
         row,
         after: &fields[len..],
     })
 }
 
 /// The sub-record of a tag and of the fields that these bytes begin with, or why there is none that is no class.
-fn read_row(tag: u8, fields: &[u8], id_size: IdSize, offset: u64) -> Result<Front<'_>, NoRow>
+fn read_row(tag: u8, fields: &[u8], id_size: IdSize, offset: u64) -> Result<ParsedSub<'_>, NoRow>
     requires { offset + 25 < 2 ^ 64 }
     ensures ok { IfOk result (λ f. BeginsWithSub id_size offset (tag ∷ fields.now) (row_view [] f.row) f.after.now) }
     ensures err { IfErr result (λ why. IsNoRow id_size tag fields.now why) }

@@ -3,7 +3,7 @@ use Rattle.std.proofs.Common.{◌≡◌, ◌∙◌, ℕ, zero, suc, ◌+◌, ◌
 use Rattle.std.proofs.lemmas.Bool.{cases_eq, cases_lt, ne_eqb}
 use Rattle.std.proofs.lemmas.List.{length-append}
 use Rattle.hd_terms.specs.SubRecords.{ClassItem}
-use Rattle.hd_terms.specs.Classes.{class_at, LeadUp, IsClassChain, NeverEnds, Trail, trail_on, trail, longest_trail, chain_of, never_ends}
+use Rattle.hd_terms.specs.Classes.{class_at, LeadUp, IsClassChain, NeverEnds, ChainPrefix, prefix_on, chain_prefix, longest_prefix, chain_of, never_ends}
 use Rattle.hd_terms.proofs.Pigeonhole.{Lead-append, too_long}
 
 -- something isn't nothing
@@ -45,65 +45,65 @@ module _ (classes : List ClassItem) where
     | inr most ↦ most
   ]
 
-  -- the next class of a trail
+  -- the next class of a chain_prefix
   abbrev Next : Type 0
-  Next = ClassItem → Trail
+  Next = ClassItem → ChainPrefix
 
-  -- a trail leads up
+  -- a chain_prefix leads up
   leads_on : (id : ℕ) (more : Next) (o : Option ClassItem) → class_at classes id ≡ o → ((c : ClassItem) → LeadUp classes c.super (more c).classes (more c).end)
-      → LeadUp classes id (trail_on id o more).classes (trail_on id o more).end
+      → LeadUp classes id (prefix_on id o more).classes (prefix_on id o more).end
   leads_on id more None e h = refl
   leads_on id more (Some c) e h = (e, h c)
 
-  trail_leads : (n id : ℕ) → LeadUp classes id (trail n classes id).classes (trail n classes id).end
-  trail_leads zero id = refl
-  trail_leads (suc n) id = leads_on id (λ (c : ClassItem). trail n classes c.super) (class_at classes id) refl (λ c. trail_leads n c.super)
+  prefix_leads : (n id : ℕ) → LeadUp classes id (chain_prefix n classes id).classes (chain_prefix n classes id).end
+  prefix_leads zero id = refl
+  prefix_leads (suc n) id = leads_on id (λ (c : ClassItem). chain_prefix n classes c.super) (class_at classes id) refl (λ c. prefix_leads n c.super)
 
   -- it has no more classes than were asked for
-  short_on : (n id : ℕ) (more : Next) (o : Option ClassItem) → ((c : ClassItem) → length (more c).classes ≤ n) → length (trail_on id o more).classes ≤ suc n
+  short_on : (n id : ℕ) (more : Next) (o : Option ClassItem) → ((c : ClassItem) → length (more c).classes ≤ n) → length (prefix_on id o more).classes ≤ suc n
   short_on n id more None h = omega arith
   short_on n id more (Some c) h = let rest : length (more c).classes ≤ n = h c in omega arith
 
-  trail_short : (n id : ℕ) → length (trail n classes id).classes ≤ n
-  trail_short zero id = omega arith
-  trail_short (suc n) id = short_on n id (λ (c : ClassItem). trail n classes c.super) (class_at classes id) (λ c. trail_short n c.super)
+  prefix_short : (n id : ℕ) → length (chain_prefix n classes id).classes ≤ n
+  prefix_short zero id = omega arith
+  prefix_short (suc n) id = short_on n id (λ (c : ClassItem). chain_prefix n classes c.super) (class_at classes id) (λ c. prefix_short n c.super)
 
   -- it has as many, or it ends where no class is
-  abbrev IsFull : ℕ → Trail → Type 0
+  abbrev IsFull : ℕ → ChainPrefix → Type 0
   IsFull n t = (length t.classes ≡ n) ⊎ (class_at classes t.end ≡ None)
 
-  full_on : (n id : ℕ) (more : Next) (o : Option ClassItem) → class_at classes id ≡ o → ((c : ClassItem) → IsFull n (more c)) → IsFull (suc n) (trail_on id o more)
+  full_on : (n id : ℕ) (more : Next) (o : Option ClassItem) → class_at classes id ≡ o → ((c : ClassItem) → IsFull n (more c)) → IsFull (suc n) (prefix_on id o more)
   full_on n id more None e h = inr e
   full_on n id more (Some c) e h = elim (h c) [ inl long ↦ inl (ap suc long) | inr none ↦ inr none ]
 
-  trail_full : (n id : ℕ) → IsFull n (trail n classes id)
-  trail_full zero id = inl refl
-  trail_full (suc n) id = full_on n id (λ (c : ClassItem). trail n classes c.super) (class_at classes id) refl (λ c. trail_full n c.super)
+  prefix_full : (n id : ℕ) → IsFull n (chain_prefix n classes id)
+  prefix_full zero id = inl refl
+  prefix_full (suc n) id = full_on n id (λ (c : ClassItem). chain_prefix n classes c.super) (class_at classes id) refl (λ c. prefix_full n c.super)
 
-  -- the trail of a way that ends where no class is and isn't longer is that way
-  trail_whole : (n : ℕ) (up : List ClassItem) (id end : ℕ) → LeadUp classes id up end → class_at classes end ≡ None → length up ≤ n → trail n classes id ≡ record { classes = up; end = end }
-  trail_whole zero [] id end h none le = ap (λ (x : ℕ). let t : Trail = record { classes = []; end = x } in t) h
-  trail_whole zero (u ∷ us) id end h none le = absurd (omega arith)
-  trail_whole (suc n) [] id end h none le =
-      ap (λ (o : Option ClassItem). trail_on id o (λ (c : ClassItem). trail n classes c.super)) (ap (class_at classes) h ∙ none)
-      ∙ ap (λ (x : ℕ). let t : Trail = record { classes = []; end = x } in t) h
-  trail_whole (suc n) (u ∷ us) id end h none le =
-      ap (λ (o : Option ClassItem). trail_on id o (λ (c : ClassItem). trail n classes c.super)) h.0
-      ∙ ap (λ (t : Trail). let v : Trail = record { classes = u ∷ t.classes; end = t.end } in v) (trail_whole n us u.super end h.1 none (omega arith))
+  -- the chain_prefix of a way that ends where no class is and isn't longer is that way
+  prefix_whole : (n : ℕ) (up : List ClassItem) (id end : ℕ) → LeadUp classes id up end → class_at classes end ≡ None → length up ≤ n → chain_prefix n classes id ≡ record { classes = up; end = end }
+  prefix_whole zero [] id end h none le = ap (λ (x : ℕ). let t : ChainPrefix = record { classes = []; end = x } in t) h
+  prefix_whole zero (u ∷ us) id end h none le = absurd (omega arith)
+  prefix_whole (suc n) [] id end h none le =
+      ap (λ (o : Option ClassItem). prefix_on id o (λ (c : ClassItem). chain_prefix n classes c.super)) (ap (class_at classes) h ∙ none)
+      ∙ ap (λ (x : ℕ). let t : ChainPrefix = record { classes = []; end = x } in t) h
+  prefix_whole (suc n) (u ∷ us) id end h none le =
+      ap (λ (o : Option ClassItem). prefix_on id o (λ (c : ClassItem). chain_prefix n classes c.super)) h.0
+      ∙ ap (λ (t : ChainPrefix). let v : ChainPrefix = record { classes = u ∷ t.classes; end = t.end } in v) (prefix_whole n us u.super end h.1 none (omega arith))
 
-  -- the classes of a trail that ends at ID 0
-  abbrev whole_chain : Trail → Option (List ClassItem)
+  -- the classes of a chain_prefix that ends at ID 0
+  abbrev whole_chain : ChainPrefix → Option (List ClassItem)
   whole_chain t = if t.end == 0 then Some t.classes else None
 
   -- the chain of a class is found
   pub chain_found : (id : ℕ) (chain : List ClassItem) → IsClassChain classes id chain → chain_of classes id ≡ Some chain
   chain_found id chain is =
       let some : (id == 0) ≡ false = ne_eqb id 0 is.some in
-      let same : longest_trail classes id ≡ record { classes = chain; end = 0 } = trail_whole (length classes) chain id 0 is.whole refl (no_more chain id 0 is.whole refl) in
+      let same : longest_prefix classes id ≡ record { classes = chain; end = 0 } = prefix_whole (length classes) chain id 0 is.whole refl (no_more chain id 0 is.whole refl) in
       rw some (ap whole_chain same)
 
   -- what is found at ID 0
-  whole_at : (t : Trail) (chain : List ClassItem) → whole_chain t ≡ Some chain → (t.end ≡ 0) × (t.classes ≡ chain)
+  whole_at : (t : ChainPrefix) (chain : List ClassItem) → whole_chain t ≡ Some chain → (t.end ≡ 0) × (t.classes ≡ chain)
   whole_at t chain h = elim (cases_eq t.end 0) [
     | inl top ↦
         let here : (t.end == 0) ≡ true = eq-eqb t.end 0 top in
@@ -125,35 +125,35 @@ module _ (classes : List ClassItem) where
         absurd cc
     | inr some ↦
         let there : (id == 0) ≡ false = ne_eqb id 0 some in
-        let found : whole_chain (longest_trail classes id) ≡ Some chain = rw there at h in
-        let t : Trail = longest_trail classes id in
+        let found : whole_chain (longest_prefix classes id) ≡ Some chain = rw there at h in
+        let t : ChainPrefix = longest_prefix classes id in
         let is = whole_at t chain found in
-        let to_top : LeadUp classes id t.classes 0 = subst (λ (x : ℕ). LeadUp classes id t.classes x) is.0 (trail_leads (length classes) id) in
+        let to_top : LeadUp classes id t.classes 0 = subst (λ (x : ℕ). LeadUp classes id t.classes x) is.0 (prefix_leads (length classes) id) in
         record { some = some; whole = subst (λ (cs : List ClassItem). LeadUp classes id cs 0) is.1 to_top }
   ]
 
   -- a chain that never ends is told
   pub cycle_told : (id : ℕ) → NeverEnds classes id → never_ends classes id ≡ true
   cycle_told id h =
-      let t : Trail = longest_trail classes id in
+      let t : ChainPrefix = longest_prefix classes id in
       elim (some_or_not (class_at classes t.end)) [
         | inl some ↦ some
         | inr none ↦
             let long = h (suc (length classes)) in
             let many : length long.0 ≡ suc (length classes) = long.2 in
-            let short : length long.0 ≤ length t.classes = no_longer t.classes long.0 id t.end long.1 (trail_leads (length classes) id) none long.3 in
-            let few : length t.classes ≤ length classes = trail_short (length classes) id in
+            let short : length long.0 ≤ length t.classes = no_longer t.classes long.0 id t.end long.1 (prefix_leads (length classes) id) none long.3 in
+            let few : length t.classes ≤ length classes = prefix_short (length classes) id in
             absurd (omega arith)
       ]
 
   -- and what is told never ends
   pub told_never_ends : (id : ℕ) → never_ends classes id ≡ true → NeverEnds classes id
   told_never_ends id h =
-      let t : Trail = longest_trail classes id in
+      let t : ChainPrefix = longest_prefix classes id in
       let next = the_some (class_at classes t.end) h in
       let way : List ClassItem = t.classes ++ next.0 ∷ [] in
-      let leads : LeadUp classes id way next.0.super = Lead-append classes t.classes (next.0 ∷ []) id t.end next.0.super (trail_leads (length classes) id) (next.1, refl) in
-      elim (trail_full (length classes) id) [
+      let leads : LeadUp classes id way next.0.super = Lead-append classes t.classes (next.0 ∷ []) id t.end next.0.super (prefix_leads (length classes) id) (next.1, refl) in
+      elim (prefix_full (length classes) id) [
         | inl full ↦
             let long : length way ≡ length t.classes + 1 = length-append t.classes (next.0 ∷ []) in
             too_long classes id way next.0.super leads (omega arith)

@@ -10,17 +10,17 @@ use Rattle.hd_terms.specs.Strengths.{HasStrength}
 use Rattle.hd_terms.specs.Dump.{Dump}
 use Rattle.hd_terms.specs.EditedDump.{standing}
 use Rattle.hd_terms.specs.Fell.{IsUnreachable, FellCount}
-use Rattle.hd_terms.specs.Settled.{Kept, kept_at}
+use Rattle.hd_terms.specs.Settled.{Reached, reached_at}
 use Rattle.hd_terms.proofs.RankLemmas.{same_rank}
 use Rattle.hd_terms.proofs.OneStrength.{one_strength}
 use Rattle.hd_terms.proofs.SettledByTest.{is_settled, strengths_of}
 
 -- nothing reaches an object, as what is kept of it says
-abbrev is_out : List Kept → ℕ → Bool
-is_out ks o = rank (kept_at ks o).strength == 0
+abbrev is_out : List Reached → ℕ → Bool
+is_out ks o = rank (reached_at ks o).strength == 0
 
 -- it is unreachable after, and was not before
-abbrev pub falls_by : (ks ls : List Kept) → ℕ → Bool
+abbrev pub falls_by : (ks ls : List Reached) → ℕ → Bool
 falls_by ks ls o = is_out ls o && not (is_out ks o)
 
 parts : (a b : Bool) → (a && not b) ≡ true → (a ≡ true) × (b ≡ false)
@@ -37,15 +37,15 @@ contrary : (b : Bool) → b ≡ true → b ≡ false → ⊥
 contrary true h k = cc
 contrary false h k = cc
 
-module _ (dump : Dump) (log : List Event) (ks : List Kept) (h : is_settled (standing dump log) ks ≡ true) (o : ℕ) where
+module _ (dump : Dump) (log : List Event) (ks : List Reached) (h : is_settled (standing dump log) ks ≡ true) (o : ℕ) where
   says : is_out ks o ≡ true → IsUnreachable dump log o
-  says out = subst (HasStrength (standing dump log) o) (same_rank (kept_at ks o).strength strengths.Unreachable (eqb-true (rank (kept_at ks o).strength) 0 out)) (strengths_of (standing dump log) ks h o)
+  says out = subst (HasStrength (standing dump log) o) (same_rank (reached_at ks o).strength strengths.Unreachable (eqb-true (rank (reached_at ks o).strength) 0 out)) (strengths_of (standing dump log) ks h o)
 
   said : IsUnreachable dump log o → is_out ks o ≡ true
-  said out = eq-eqb (rank (kept_at ks o).strength) 0 (ap rank (one_strength (standing dump log) o (kept_at ks o).strength strengths.Unreachable (strengths_of (standing dump log) ks h o) out))
+  said out = eq-eqb (rank (reached_at ks o).strength) 0 (ap rank (one_strength (standing dump log) o (reached_at ks o).strength strengths.Unreachable (strengths_of (standing dump log) ks h o) out))
 
 -- what passes the tests is counted
-pub fell : (dump : Dump) (before after : List Event) (ks ls : List Kept) → is_settled (standing dump before) ks ≡ true → is_settled (standing dump after) ls ≡ true
+pub fell : (dump : Dump) (before after : List Event) (ks ls : List Reached) → is_settled (standing dump before) ks ≡ true → is_settled (standing dump after) ls ≡ true
     → FellCount dump before after (count_by (falls_by ks ls) (range_with_len 0 (length dump.objects)))
 fell dump before after ks ls h k = record {
   falls = falls_by ks ls;

@@ -10,7 +10,7 @@ use Rattle.hd_terms.specs.declared.Support.TheVariants as supports
 use Rattle.hd_terms.specs.Ranks.{rank, given_by, weaker_of, IsPassedOn}
 use Rattle.hd_terms.specs.Paths.{Edge, RootEntry, Standing, Lead, PassOn, path_strength, IsPath, objects_on}
 use Rattle.hd_terms.specs.Chains.{NoneTwice, IsChain}
-use Rattle.hd_terms.specs.Settled.{Kept, Settled, IsStoredChain, kept_at, PassesOn, IsBefore, SupportedBy, IsSupported}
+use Rattle.hd_terms.specs.Settled.{Reached, Settled, IsStoredChain, reached_at, PassesOn, IsBefore, SupportedBy, IsSupported}
 use Rattle.hd_terms.proofs.RankLemmas.{weaker-le_left, weaker-le_right, rank-le, reached_rank, weaker_comm, weaker_assoc}
 
 -- one more edge at the end
@@ -50,43 +50,43 @@ NoneTwice-push o (x ∷ xs) h new = (
 
 -- the order of supports
 
-before_trans : (a b c : Kept) → IsBefore a b → IsBefore b c → IsBefore a c
+before_trans : (a b c : Reached) → IsBefore a b → IsBefore b c → IsBefore a c
 before_trans a b c (inl h) (inl k) = inl (omega arith)
 before_trans a b c (inl h) (inr k) = inl (omega arith)
 before_trans a b c (inr h) (inl k) = inl (omega arith)
 before_trans a b c (inr h) (inr k) = inr (omega arith, omega arith)
 
-not_before_itself : (a : Kept) → IsBefore a a → ⊥
+not_before_itself : (a : Reached) → IsBefore a a → ⊥
 not_before_itself a (inl h) = omega arith
 not_before_itself a (inr h) = omega arith
 
 -- each object that these edges lead to is supported by its edge
-abbrev pub AreSupports : List Kept → List Edge → Type 0
-AreSupports ks es = AllByRecursion (λ e. (kept_at ks e.target).support ≡ supports.Edge e.source e.slot) es
+abbrev pub AreSupports : List Reached → List Edge → Type 0
+AreSupports ks es = AllByRecursion (λ e. (reached_at ks e.target).support ≡ supports.Edge e.source e.slot) es
 
-AreSupports-push : (ks : List Kept) (e : Edge) (es : List Edge) → AreSupports ks es → (kept_at ks e.target).support ≡ supports.Edge e.source e.slot → AreSupports ks (es ++ e ∷ [])
+AreSupports-push : (ks : List Reached) (e : Edge) (es : List Edge) → AreSupports ks es → (reached_at ks e.target).support ≡ supports.Edge e.source e.slot → AreSupports ks (es ++ e ∷ [])
 AreSupports-push ks e [] h is = (is, tt)
 AreSupports-push ks e (f ∷ es) h is = (h.0, AreSupports-push ks e es h.1 is)
 
 -- a chain to an object, whose objects come before it
-pub record Found (g : Standing) (ks : List Kept) (o : ℕ) : Type 0 where
+pub record Found (g : Standing) (ks : List Reached) (o : ℕ) : Type 0 where
   pub root : RootEntry
   pub edges : List Edge
   pub path : IsPath g root edges o
-  pub strength : path_strength edges ≡ (kept_at ks o).strength
+  pub strength : path_strength edges ≡ (reached_at ks o).strength
   pub simple : NoneTwice (objects_on root edges)
-  pub by_root : (kept_at ks root.target).support ≡ supports.Root root.number
+  pub by_root : (reached_at ks root.target).support ≡ supports.Root root.number
   pub stored : AreSupports ks edges
-  pub earlier : (x : ℕ) → Contains (objects_on root edges) x → (x ≡ o) ⊎ IsBefore (kept_at ks x) (kept_at ks o)
+  pub earlier : (x : ℕ) → Contains (objects_on root edges) x → (x ≡ o) ⊎ IsBefore (reached_at ks x) (reached_at ks o)
 
-module _ (g : Standing) (ks : List Kept) where
+module _ (g : Standing) (ks : List Reached) where
   -- a chain to the source of a support makes one to its object
-  extend : (b o : ℕ) (slot : Slot) (e : Edge) → Found g ks b → (kept_at ks o).support ≡ supports.Edge b slot → SupportedBy g ks o b slot e → Found g ks o
+  extend : (b o : ℕ) (slot : Slot) (e : Edge) → Found g ks b → (reached_at ks o).support ≡ supports.Edge b slot → SupportedBy g ks o b slot e → Found g ks o
   extend b o slot e f is s =
       let new : Contains (objects_on f.root f.edges) o → ⊥ = λ c.
       elim (f.earlier o c) [
-        | inl same ↦ not_before_itself (kept_at ks o) (subst (λ (x : ℕ). IsBefore (kept_at ks x) (kept_at ks o)) (sym same) s.earlier)
-        | inr earlier ↦ not_before_itself (kept_at ks o) (before_trans (kept_at ks o) (kept_at ks b) (kept_at ks o) earlier s.earlier)
+        | inl same ↦ not_before_itself (reached_at ks o) (subst (λ (x : ℕ). IsBefore (reached_at ks x) (reached_at ks o)) (sym same) s.earlier)
+        | inr earlier ↦ not_before_itself (reached_at ks o) (before_trans (reached_at ks o) (reached_at ks b) (reached_at ks o) earlier s.earlier)
       ] in
       let objects : objects_on f.root (f.edges ++ e ∷ []) ≡ objects_on f.root f.edges ++ o ∷ [] =
       ap (λ (xs : List ℕ). f.root.target ∷ xs) (map-append (λ (e : Edge). e.target) f.edges (e ∷ []) ∙ ap (λ (x : ℕ). map (λ (e : Edge). e.target) f.edges ++ x ∷ []) s.to_object) in
@@ -105,15 +105,15 @@ module _ (g : Standing) (ks : List Kept) where
         earlier = λ x c.
             elim (Contains-push_cases (objects_on f.root f.edges) o x (subst (λ (xs : List ℕ). Contains xs x) objects c)) [
               | inl old ↦ elim (f.earlier x old) [
-                | inl same ↦ inr (subst (λ (y : ℕ). IsBefore (kept_at ks y) (kept_at ks o)) (sym same) s.earlier)
-                | inr earlier ↦ inr (before_trans (kept_at ks x) (kept_at ks b) (kept_at ks o) earlier s.earlier)
+                | inl same ↦ inr (subst (λ (y : ℕ). IsBefore (reached_at ks y) (reached_at ks o)) (sym same) s.earlier)
+                | inr earlier ↦ inr (before_trans (reached_at ks x) (reached_at ks b) (reached_at ks o) earlier s.earlier)
               ]
               | inr same ↦ inl (sym same)
             ];
       }
 
   -- a root alone
-  at_root : (o n : ℕ) → Contains g.roots (record { number = n; target = o }) → (kept_at ks o).strength ≡ strengths.Strong → (kept_at ks o).support ≡ supports.Root n → Found g ks o
+  at_root : (o n : ℕ) → Contains g.roots (record { number = n; target = o }) → (reached_at ks o).strength ≡ strengths.Strong → (reached_at ks o).support ≡ supports.Root n → Found g ks o
   at_root o n stands strong is = record {
     root = record { number = n; target = o };
     edges = [];
@@ -126,15 +126,15 @@ module _ (g : Standing) (ks : List Kept) where
   }
 
 -- the rank and the stamp kept of an object
-abbrev rank_at : List Kept → ℕ → ℕ
-rank_at ks o = rank (kept_at ks o).strength
+abbrev rank_at : List Reached → ℕ → ℕ
+rank_at ks o = rank (reached_at ks o).strength
 
-abbrev stamp_at : List Kept → ℕ → ℕ
-stamp_at ks o = (kept_at ks o).stamp
+abbrev stamp_at : List Reached → ℕ → ℕ
+stamp_at ks o = (reached_at ks o).stamp
 
-module _ (g : Standing) (ks : List Kept) (settled : Settled g ks) where
+module _ (g : Standing) (ks : List Reached) (settled : Settled g ks) where
   -- where each object that comes before o and passes on has a chain, o has one
-  one_more : (o : ℕ) (s : Support) → (kept_at ks o).support ≡ s → IsSupported g ks o s → 1 ≤ rank_at ks o → ((b : ℕ) → IsBefore (kept_at ks b) (kept_at ks o) → PassesOn (kept_at ks b) → Found g ks b) → Found g ks o
+  one_more : (o : ℕ) (s : Support) → (reached_at ks o).support ≡ s → IsSupported g ks o s → 1 ≤ rank_at ks o → ((b : ℕ) → IsBefore (reached_at ks b) (reached_at ks o) → PassesOn (reached_at ks b) → Found g ks b) → Found g ks o
   one_more o supports.Nothing is h reached earlier = let none : rank_at ks o ≡ 0 = ap rank h in absurd (omega arith)
   one_more o (supports.Root n) is h reached earlier = at_root g ks o n h.0 h.1 is
   one_more o (supports.Edge source slot) is (e, h) reached earlier = extend g ks source o slot e (earlier source h.earlier h.passes_on) is h
@@ -143,7 +143,7 @@ module _ (g : Standing) (ks : List Kept) (settled : Settled g ks) where
   by_stamp : (d : ℕ) → ((o : ℕ) → 5 < rank_at ks o + d → 1 ≤ rank_at ks o → Found g ks o) → (t : ℕ) (o : ℕ) → 5 < rank_at ks o + suc d → stamp_at ks o < t → 1 ≤ rank_at ks o → Found g ks o
   by_stamp d higher zero o near lt reached = absurd (omega arith)
   by_stamp d higher (suc t) o near lt reached =
-      one_more o (kept_at ks o).support refl (settled.supported o) reached (λ b earlier passes.
+      one_more o (reached_at ks o).support refl (settled.supported o) reached (λ b earlier passes.
       elim earlier [
         | inl above ↦ higher b (omega arith) (omega arith)
         | inr same ↦ by_stamp d higher t b (omega arith) (omega arith) (omega arith)
@@ -151,11 +151,11 @@ module _ (g : Standing) (ks : List Kept) (settled : Settled g ks) where
 
   -- by the ranks
   by_rank : (d : ℕ) (o : ℕ) → 5 < rank_at ks o + d → 1 ≤ rank_at ks o → Found g ks o
-  by_rank zero o near reached = let top : rank_at ks o ≤ 5 = rank-le (kept_at ks o).strength in absurd (omega arith)
+  by_rank zero o near reached = let top : rank_at ks o ≤ 5 = rank-le (reached_at ks o).strength in absurd (omega arith)
   by_rank (suc d) o near reached = by_stamp d (by_rank d) (suc (stamp_at ks o)) o near (omega arith) reached
 
   -- each object that is reached has a chain
-  pub found : (o : ℕ) → (kept_at ks o).strength ≢ strengths.Unreachable → (r : RootEntry) × (es : List Edge) × IsChain g r es o (kept_at ks o).strength × IsStoredChain g ks r es o
+  pub found : (o : ℕ) → (reached_at ks o).strength ≢ strengths.Unreachable → (r : RootEntry) × (es : List Edge) × IsChain g r es o (reached_at ks o).strength × IsStoredChain g ks r es o
   found o reached =
-      let f : Found g ks o = by_rank 6 o (let low : 1 ≤ rank_at ks o = reached_rank (kept_at ks o).strength reached in omega arith) (reached_rank (kept_at ks o).strength reached) in
+      let f : Found g ks o = by_rank 6 o (let low : 1 ≤ rank_at ks o = reached_rank (reached_at ks o).strength reached in omega arith) (reached_rank (reached_at ks o).strength reached) in
       (f.root, f.edges, record { path = f.path; strength = f.strength; simple = f.simple }, record { root = f.by_root; edges = f.stored; leads = f.path.edges })

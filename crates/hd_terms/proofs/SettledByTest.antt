@@ -15,7 +15,7 @@ use Rattle.hd_terms.specs.Ranks.{rank, given_by, weaker_of}
 use Rattle.hd_terms.specs.Paths.{Edge, RootEntry, Standing}
 use Rattle.hd_terms.specs.Strengths.{HasStrength}
 use Rattle.hd_terms.specs.EditedDump.{slot_code, same_slot}
-use Rattle.hd_terms.specs.Settled.{Kept, Settled, unreached, kept_at, IsBefore, SupportedBy, IsSupported}
+use Rattle.hd_terms.specs.Settled.{Reached, Settled, unreached, reached_at, IsBefore, SupportedBy, IsSupported}
 use Rattle.hd_terms.proofs.RankLemmas.{same_rank}
 use Rattle.hd_terms.proofs.Upper.{greatest}
 use Rattle.hd_terms.proofs.Lower.{found}
@@ -53,45 +53,45 @@ same_slot-true a b h =
     ∙ of_code-slot_code b
 
 -- the rank kept of an object
-abbrev rank_at : List Kept → ℕ → ℕ
-rank_at ks o = rank (kept_at ks o).strength
+abbrev rank_at : List Reached → ℕ → ℕ
+rank_at ks o = rank (reached_at ks o).strength
 
 -- what an edge gives its target
-abbrev gives : List Kept → Edge → Strength
-gives ks e = weaker_of (kept_at ks e.source).strength (given_by e.kind)
+abbrev gives : List Reached → Edge → Strength
+gives ks e = weaker_of (reached_at ks e.source).strength (given_by e.kind)
 
 -- `IsBefore` as a test
-abbrev is_before : Kept → Kept → Bool
+abbrev is_before : Reached → Reached → Bool
 is_before a b = nat_lt (rank b.strength) (rank a.strength) || ((rank b.strength == rank a.strength) && nat_lt a.stamp b.stamp)
 
 -- `SupportedBy` as a test of an edge that stands: first that it is the edge, then that it supports
 abbrev is_the_edge : ℕ → ℕ → Slot → Edge → Bool
 is_the_edge o source slot e = (e.source == source) && (same_slot e.slot slot && (e.target == o))
 
-abbrev gives_enough : List Kept → Edge → Bool
-gives_enough ks e = nat_le 2 (rank_at ks e.source) && ((rank_at ks e.target == rank (gives ks e)) && is_before (kept_at ks e.source) (kept_at ks e.target))
+abbrev gives_enough : List Reached → Edge → Bool
+gives_enough ks e = nat_le 2 (rank_at ks e.source) && ((rank_at ks e.target == rank (gives ks e)) && is_before (reached_at ks e.source) (reached_at ks e.target))
 
 -- `IsSupported` as a test
-abbrev is_supported : Standing → List Kept → ℕ → Support → Bool
+abbrev is_supported : Standing → List Reached → ℕ → Support → Bool
 is_supported g ks o supports.Nothing = rank_at ks o == 0
 is_supported g ks o (supports.Root n) = list_any (λ (r : RootEntry). (r.number == n) && (r.target == o)) g.roots && (rank_at ks o == 5)
 is_supported g ks o (supports.Edge source slot) = list_any (λ (e : Edge). is_the_edge o source slot e && gives_enough ks e) g.edges
 
 -- the same of all objects from a number on
-abbrev are_supported : Standing → List Kept → ℕ → List Kept → Bool
+abbrev are_supported : Standing → List Reached → ℕ → List Reached → Bool
 are_supported g ks o [] = true
 are_supported g ks o (k ∷ rest) = is_supported g ks o k.support && are_supported g ks (o + 1) rest
 
 -- a root's object is strong
-abbrev is_strong : List Kept → RootEntry → Bool
+abbrev is_strong : List Reached → RootEntry → Bool
 is_strong ks r = rank_at ks r.target == 5
 
 -- an edge gives no more than its target has
-abbrev is_enough : List Kept → Edge → Bool
+abbrev is_enough : List Reached → Edge → Bool
 is_enough ks e = nat_lt (rank_at ks e.source) 2 || nat_le (rank (gives ks e)) (rank_at ks e.target)
 
 -- `Settled` as a test
-abbrev pub is_settled : Standing → List Kept → Bool
+abbrev pub is_settled : Standing → List Reached → Bool
 is_settled g ks = are_supported g ks 0 ks && (list_all (is_strong ks) g.roots && list_all (is_enough ks) g.edges)
 
 -- one of two tests passes
@@ -103,7 +103,7 @@ or_parts false y h = inr h
 pub all_contains : {X : Type 0} (p : X → Bool) (xs : List X) (x : X) → list_all p xs ≡ true → Contains xs x → p x ≡ true
 all_contains {X} p xs x h (k, lt, is) = subst (λ (y : X). p y ≡ true) is (and_at (list_all p) p refl (λ _ _. refl) xs k x lt h)
 
-is_before-true : (a b : Kept) → is_before a b ≡ true → IsBefore a b
+is_before-true : (a b : Reached) → is_before a b ≡ true → IsBefore a b
 is_before-true a b h =
     elim (or_parts (nat_lt (rank b.strength) (rank a.strength)) ((rank b.strength == rank a.strength) && nat_lt a.stamp b.stamp) h) [
       | inl more ↦ inl (ltb-true (rank b.strength) (rank a.strength) more)
@@ -112,22 +112,22 @@ is_before-true a b h =
     ]
 
 -- an edge that gives its target enough supports it
-supports_its_target : (g : Standing) (ks : List Kept) (e : Edge) → Contains g.edges e → gives_enough ks e ≡ true → SupportedBy g ks e.target e.source e.slot e
+supports_its_target : (g : Standing) (ks : List Reached) (e : Edge) → Contains g.edges e → gives_enough ks e ≡ true → SupportedBy g ks e.target e.source e.slot e
 supports_its_target g ks e stands h =
-    let a = and_parts (nat_le 2 (rank_at ks e.source)) ((rank_at ks e.target == rank (gives ks e)) && is_before (kept_at ks e.source) (kept_at ks e.target)) h in
-    let b = and_parts (rank_at ks e.target == rank (gives ks e)) (is_before (kept_at ks e.source) (kept_at ks e.target)) a.1 in
+    let a = and_parts (nat_le 2 (rank_at ks e.source)) ((rank_at ks e.target == rank (gives ks e)) && is_before (reached_at ks e.source) (reached_at ks e.target)) h in
+    let b = and_parts (rank_at ks e.target == rank (gives ks e)) (is_before (reached_at ks e.source) (reached_at ks e.target)) a.1 in
     record {
       stands = stands;
       from_source = refl;
       from_slot = refl;
       to_object = refl;
       passes_on = leb-true 2 (rank_at ks e.source) a.0;
-      strength = same_rank (kept_at ks e.target).strength (gives ks e) (eqb-true (rank_at ks e.target) (rank (gives ks e)) b.0);
-      earlier = is_before-true (kept_at ks e.source) (kept_at ks e.target) b.1;
+      strength = same_rank (reached_at ks e.target).strength (gives ks e) (eqb-true (rank_at ks e.target) (rank (gives ks e)) b.0);
+      earlier = is_before-true (reached_at ks e.source) (reached_at ks e.target) b.1;
     }
 
-is_supported-true : (g : Standing) (ks : List Kept) (o : ℕ) (s : Support) → is_supported g ks o s ≡ true → IsSupported g ks o s
-is_supported-true g ks o supports.Nothing h = same_rank (kept_at ks o).strength strengths.Unreachable (eqb-true (rank_at ks o) 0 h)
+is_supported-true : (g : Standing) (ks : List Reached) (o : ℕ) (s : Support) → is_supported g ks o s ≡ true → IsSupported g ks o s
+is_supported-true g ks o supports.Nothing h = same_rank (reached_at ks o).strength strengths.Unreachable (eqb-true (rank_at ks o) 0 h)
 is_supported-true g ks o (supports.Root n) h =
     let parts = and_parts (list_any (λ (r : RootEntry). (r.number == n) && (r.target == o)) g.roots) (rank_at ks o == 5) h in
     let any = Any-from_list_any (λ (r : RootEntry). (r.number == n) && (r.target == o)) g.roots parts.0 in
@@ -136,7 +136,7 @@ is_supported-true g ks o (supports.Root n) h =
     let is : r ≡ record { number = n; target = o } =
     ap (λ (m : ℕ). let entry : RootEntry = record { number = m; target = r.target } in entry) (eqb-true r.number n same.0)
     ∙ ap (λ (m : ℕ). let entry : RootEntry = record { number = n; target = m } in entry) (eqb-true r.target o same.1) in
-    (subst (λ (x : RootEntry). Contains g.roots x) is (any.0, any.2, any.3), same_rank (kept_at ks o).strength strengths.Strong (eqb-true (rank_at ks o) 5 parts.1))
+    (subst (λ (x : RootEntry). Contains g.roots x) is (any.0, any.2, any.3), same_rank (reached_at ks o).strength strengths.Strong (eqb-true (rank_at ks o) 5 parts.1))
 is_supported-true g ks o (supports.Edge source slot) h =
     let any = Any-from_list_any (λ (e : Edge). is_the_edge o source slot e && gives_enough ks e) g.edges h in
     let e : Edge = any.1 in
@@ -149,7 +149,7 @@ is_supported-true g ks o (supports.Edge source slot) h =
     (e, subst (λ (x : ℕ). SupportedBy g ks x source slot e) (eqb-true e.target o b.1) at_slot)
 
 -- the objects from a number on, and beyond the list
-are_supported-true : (g : Standing) (ks : List Kept) (o : ℕ) (rest : List Kept) → are_supported g ks o rest ≡ true → (i : ℕ) → i < length rest → IsSupported g ks (o + i) (slice_index_or rest i unreached).support
+are_supported-true : (g : Standing) (ks : List Reached) (o : ℕ) (rest : List Reached) → are_supported g ks o rest ≡ true → (i : ℕ) → i < length rest → IsSupported g ks (o + i) (slice_index_or rest i unreached).support
 are_supported-true g ks o [] h i lt = absurd (omega arith)
 are_supported-true g ks o (k ∷ rest) h zero lt =
     let parts = and_parts (is_supported g ks o k.support) (are_supported g ks (o + 1) rest) h in
@@ -161,20 +161,20 @@ are_supported-true g ks o (k ∷ rest) h (suc i) lt =
     subst (λ (x : ℕ). IsSupported g ks x (slice_index_or rest i unreached).support) same (are_supported-true g ks (o + 1) rest parts.1 i (omega arith))
 
 -- of an object beyond the list
-beyond : (g : Standing) (ks : List Kept) (o : ℕ) (k : Kept) → kept_at ks o ≡ unreached → k ≡ unreached → IsSupported g ks o k.support
-beyond g ks o k is same = subst (λ (x : Kept). IsSupported g ks o x.support) (sym same) (ap (λ (x : Kept). x.strength) is)
+beyond : (g : Standing) (ks : List Reached) (o : ℕ) (k : Reached) → reached_at ks o ≡ unreached → k ≡ unreached → IsSupported g ks o k.support
+beyond g ks o k is same = subst (λ (x : Reached). IsSupported g ks o x.support) (sym same) (ap (λ (x : Reached). x.strength) is)
 
 -- what passes the test is settled
-settled : (g : Standing) (ks : List Kept) → is_settled g ks ≡ true → Settled g ks
+settled : (g : Standing) (ks : List Reached) → is_settled g ks ≡ true → Settled g ks
 settled g ks h =
     let a = and_parts (are_supported g ks 0 ks) (list_all (is_strong ks) g.roots && list_all (is_enough ks) g.edges) h in
     let b = and_parts (list_all (is_strong ks) g.roots) (list_all (is_enough ks) g.edges) a.1 in
     record {
       supported = λ o. elim (cases_lt o (length ks)) [
-        | inl within ↦ (let same : 0 + o ≡ o = omega arith in subst (λ (x : ℕ). IsSupported g ks x (kept_at ks o).support) same (are_supported-true g ks 0 ks a.0 o within))
-        | inr past ↦ (let is : kept_at ks o ≡ unreached = get_or_past ks o unreached past in beyond g ks o (kept_at ks o) is is)
+        | inl within ↦ (let same : 0 + o ≡ o = omega arith in subst (λ (x : ℕ). IsSupported g ks x (reached_at ks o).support) same (are_supported-true g ks 0 ks a.0 o within))
+        | inr past ↦ (let is : reached_at ks o ≡ unreached = get_or_past ks o unreached past in beyond g ks o (reached_at ks o) is is)
       ];
-      by_roots = λ r c. same_rank (kept_at ks r.target).strength strengths.Strong (eqb-true (rank_at ks r.target) 5 (all_contains (is_strong ks) g.roots r b.0 c));
+      by_roots = λ r c. same_rank (reached_at ks r.target).strength strengths.Strong (eqb-true (rank_at ks r.target) 5 (all_contains (is_strong ks) g.roots r b.0 c));
       by_edges = λ e c passes. elim (or_parts (nat_lt (rank_at ks e.source) 2) (nat_le (rank (gives ks e)) (rank_at ks e.target)) (all_contains (is_enough ks) g.edges e b.1 c)) [
         | inl low ↦ absurd (omega (arith, ltb-true (rank_at ks e.source) 2 low))
         | inr enough ↦ leb-true (rank (gives ks e)) (rank_at ks e.target) enough
@@ -182,7 +182,7 @@ settled g ks h =
     }
 
 -- so each object has the strength that is kept of it
-pub strengths_of : (g : Standing) (ks : List Kept) → is_settled g ks ≡ true → (o : ℕ) → HasStrength g o (kept_at ks o).strength
+pub strengths_of : (g : Standing) (ks : List Reached) → is_settled g ks ≡ true → (o : ℕ) → HasStrength g o (reached_at ks o).strength
 strengths_of g ks h o =
     let is : Settled g ks = settled g ks h in
     record {

@@ -1,13 +1,13 @@
 use Rattle.std.proofs.Common.{◌≡◌, ℕ, ◌≤◌, List, [], ◌∷◌, Contains, subst, arith}
 use Rattle.hd_terms.specs.Ranks.{rank, given_by, weaker_of, least_passed_on}
 use Rattle.hd_terms.specs.Paths.{Edge, RootEntry, Standing, Lead, PassOn, path_strength, IsPath}
-use Rattle.hd_terms.specs.Settled.{Kept, Settled, kept_at}
+use Rattle.hd_terms.specs.Settled.{Reached, Settled, reached_at}
 use Rattle.hd_terms.proofs.RankLemmas.{weaker-le_left, weaker-le_right, weaker-greatest, rank-le}
 
-module _ (g : Standing) (ks : List Kept) (settled : Settled g ks) where
+module _ (g : Standing) (ks : List Reached) (settled : Settled g ks) where
   -- the rank kept of an object
   abbrev at : ℕ → ℕ
-  at o = rank (kept_at ks o).strength
+  at o = rank (reached_at ks o).strength
 
   -- the least rank that is passed on
   abbrev least : ℕ
@@ -18,8 +18,8 @@ module _ (g : Standing) (ks : List Kept) (settled : Settled g ks) where
   along a n e stands from passes low given =
       let P : ℕ → Type 0 = λ x. (least ≤ at x) × (n ≤ at x) in
       let here : P e.source = rw from (passes, low) in
-      let step : rank (weaker_of (kept_at ks e.source).strength (given_by e.kind)) ≤ at e.target = settled.by_edges e stands here.0 in
-      omega (arith, weaker-greatest n (kept_at ks e.source).strength (given_by e.kind) here.1 given)
+      let step : rank (weaker_of (reached_at ks e.source).strength (given_by e.kind)) ≤ at e.target = settled.by_edges e stands here.0 in
+      omega (arith, weaker-greatest n (reached_at ks e.source).strength (given_by e.kind) here.1 given)
 
   -- what a and the edges of a path from a to b have, b has
   carried : (es : List Edge) (a b n : ℕ) → Lead g a es b → PassOn es → least ≤ at a → n ≤ at a → n ≤ rank (path_strength es) → n ≤ at b

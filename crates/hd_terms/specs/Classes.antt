@@ -86,31 +86,31 @@ abbrev pub NeverEnds : List ClassItem → ℕ → Type 0
 NeverEnds classes id = (n : ℕ) → (up : List ClassItem) × (end : ℕ) × (length up ≡ n) × LeadUp classes id up end
 
 -- the first classes of a chain, and the ID at which they end
-pub record Trail : Type 0 where
+pub record ChainPrefix : Type 0 where
   pub classes : List ClassItem
   pub end : ℕ
 
--- a trail that ends at an ID, unless this is a class's; then it goes on
-abbrev pub trail_on : ℕ → Option ClassItem → (ClassItem → Trail) → Trail
-trail_on id None more = record { classes = []; end = id }
-trail_on id (Some c) more = record { classes = c ∷ (more c).classes; end = (more c).end }
+-- a chain_prefix that ends at an ID, unless this is a class's; then it goes on
+abbrev pub prefix_on : ℕ → Option ClassItem → (ClassItem → ChainPrefix) → ChainPrefix
+prefix_on id None more = record { classes = []; end = id }
+prefix_on id (Some c) more = record { classes = c ∷ (more c).classes; end = (more c).end }
 
 -- the first so many classes of the chain of an ID, or all where it has fewer
-abbrev pub trail : ℕ → List ClassItem → ℕ → Trail
-trail zero classes id = record { classes = []; end = id }
-trail (suc n) classes id = trail_on id (class_at classes id) (λ (c : ClassItem). trail n classes c.super)
+abbrev pub chain_prefix : ℕ → List ClassItem → ℕ → ChainPrefix
+chain_prefix zero classes id = record { classes = []; end = id }
+chain_prefix (suc n) classes id = prefix_on id (class_at classes id) (λ (c : ClassItem). chain_prefix n classes c.super)
 
 -- no chain that ends has more classes than there are
-abbrev pub longest_trail : List ClassItem → ℕ → Trail
-longest_trail classes id = trail (length classes) classes id
+abbrev pub longest_prefix : List ClassItem → ℕ → ChainPrefix
+longest_prefix classes id = chain_prefix (length classes) classes id
 
 -- the chain of an ID, if it has one: `class_chains` proves that this is the list that `IsClassChain` speaks of
 abbrev pub chain_of : List ClassItem → ℕ → Option (List ClassItem)
-chain_of classes id = if id == 0 then None else if (longest_trail classes id).end == 0 then Some (longest_trail classes id).classes else None
+chain_of classes id = if id == 0 then None else if (longest_prefix classes id).end == 0 then Some (longest_prefix classes id).classes else None
 
 -- whether a chain never ends: `class_chains` proves that it is so where `NeverEnds` says it
 abbrev pub never_ends : List ClassItem → ℕ → Bool
-never_ends classes id = is_some (class_at classes (longest_trail classes id).end)
+never_ends classes id = is_some (class_at classes (longest_prefix classes id).end)
 
 -- layouts
 
@@ -157,13 +157,13 @@ kind_in t chain = unwrap_or (slice_get (filter_map (λ (c : ClassItem). referenc
 
 -- what is known of a class whose chain is whole: the IDs of its chain, its layout, the number of the referent field, and the
 -- kind of the reference in it
-pub record KnownClass : Type 0 where
+pub record ResolvedClass : Type 0 where
   pub chain : List ℕ
   pub layout : List LayoutField
   pub referent : Option ℕ
   pub kind : EdgeKind
 
-abbrev pub known_by : ClassTable → List ClassItem → KnownClass
+abbrev pub known_by : ClassTable → List ClassItem → ResolvedClass
 known_by t chain = record {
   chain = map (λ (c : ClassItem). c.id) chain;
   layout = layout_of chain;
@@ -172,10 +172,10 @@ known_by t chain = record {
 }
 
 -- what is known of the class of an ID; of ID 0, of an ID that is no class's, and where the chain meets one, nothing
-abbrev pub known_class : ClassTable → ℕ → Option KnownClass
-known_class t id = option_map (known_by t) (chain_of t.classes id)
+abbrev pub resolved_class : ClassTable → ℕ → Option ResolvedClass
+resolved_class t id = option_map (known_by t) (chain_of t.classes id)
 
 -- the class by whose layout so many bytes of values are read: the one of the ID, if it is known and they fit its layout. An
 -- instance whose values don't fit is a fault where it stands; where it repeats an ID, it is no object
-abbrev pub fitting_class : ClassTable → IdSize → ℕ → ℕ → Option KnownClass
-fitting_class t size len class = option_and_then (λ (k : KnownClass). if len == layout_len size k.layout then Some k else None) (known_class t class)
+abbrev pub fitting_class : ClassTable → IdSize → ℕ → ℕ → Option ResolvedClass
+fitting_class t size len class = option_and_then (λ (k : ResolvedClass). if len == layout_len size k.layout then Some k else None) (resolved_class t class)

@@ -225,16 +225,16 @@ abbrev pub null_class_file : List ℕ
 null_class_file = head_of 4 ++ segment_of (class_of narrow 0 5 [])
 
 -- an instance with one byte of values, and its class, which declares no fields
-abbrev pub misfit_file : List ℕ
-misfit_file = head_of 4 ++ segment_of (instance_of narrow 0x20 0x11 (0x00 ∷ []) ++ class_of narrow 0x11 0 [])
+abbrev pub size_mismatch_file : List ℕ
+size_mismatch_file = head_of 4 ++ segment_of (instance_of narrow 0x20 0x11 (0x00 ∷ []) ++ class_of narrow 0x11 0 [])
 
 -- the same, and then a byte that is no tag
-abbrev pub misfit_before_unknown_file : List ℕ
-misfit_before_unknown_file = head_of 4 ++ segment_of (instance_of narrow 0x20 0x11 (0x00 ∷ []) ++ class_of narrow 0x11 0 [] ++ 0x09 ∷ [])
+abbrev pub size_mismatch_before_unknown_file : List ℕ
+size_mismatch_before_unknown_file = head_of 4 ++ segment_of (instance_of narrow 0x20 0x11 (0x00 ∷ []) ++ class_of narrow 0x11 0 [] ++ 0x09 ∷ [])
 
 -- a misfit that repeats the ID of an instance that fits its class
-abbrev pub repeated_misfit_file : List ℕ
-repeated_misfit_file = head_of 4 ++ segment_of (class_of narrow 0x11 0 ((0x107, 2) ∷ []) ++ instance_of narrow 2 0x11 (four 5) ++ instance_of narrow 2 0x11 (0x00 ∷ []))
+abbrev pub repeated_size_mismatch_file : List ℕ
+repeated_size_mismatch_file = head_of 4 ++ segment_of (class_of narrow 0x11 0 ((0x107, 2) ∷ []) ++ instance_of narrow 2 0x11 (four 5) ++ instance_of narrow 2 0x11 (0x00 ∷ []))
 
 -- behind an instance and its root, with identifiers of eight bytes: its super class, its class, and two arrays
 abbrev pub behind_instance : List ℕ
@@ -247,8 +247,8 @@ abbrev pub wide_instance_file : List ℕ
 wide_instance_file = head_of 8 ++ segment_of (instance_of wide 0x20 0x12 (wide 5 ++ 0x01 ∷ wide 6) ++ behind_instance)
 
 -- the same without the last byte of its values
-abbrev pub wide_misfit_file : List ℕ
-wide_misfit_file = head_of 8 ++ segment_of (instance_of wide 0x20 0x12 (wide 5 ++ 0x01 ∷ four 0 ++ 0x00 ∷ 0x00 ∷ 0x00 ∷ []) ++ behind_instance)
+abbrev pub wide_size_mismatch_file : List ℕ
+wide_size_mismatch_file = head_of 8 ++ segment_of (instance_of wide 0x20 0x12 (wide 5 ++ 0x01 ∷ four 0 ++ 0x00 ∷ 0x00 ∷ 0x00 ∷ []) ++ behind_instance)
 
 -- an object array of a class that isn't there, an instance that is there twice, and one of a class that isn't there
 abbrev pub opaque_and_repeated_file : List ℕ
@@ -444,8 +444,8 @@ abbrev pub absent_super : Dump
 absent_super = record { objects = class_object 1 2 ∷ class_object 2 9 ∷ []; roots = []; repeated = none_repeated; opaque = 0 }
 
 -- <11: 0>  (2 of 11: 5)
-abbrev pub repeated_misfit : Dump
-repeated_misfit = record {
+abbrev pub repeated_size_mismatch : Dump
+repeated_size_mismatch = record {
   objects = class_object 0x11 0 ∷ instance 2 0x11 4 (strong (slots.Field 0) 5 ∷ []) ∷ [];
   roots = [];
   repeated = record { objects = 1; strings = 0; loads = 0 };

@@ -12,7 +12,7 @@ use Rattle.hd_terms.specs.Records.{id_len, Record, HasHeader, AreRecords, header
 use Rattle.hd_terms.specs.SubRecords.{SubRecord, RootOf, ClassDump, InstanceDump, ObjectArray, PrimitiveArray, Item, Instance, ObjArray, PrimArray, Sub, AreDumpSubRecords, dump_subs_at}
 use Rattle.hd_terms.specs.SubRecords as subs
 use Rattle.hd_terms.specs.FirstRecords.{first_of_each, repeats, standing_subs}
-use Rattle.hd_terms.specs.Classes.{ClassTable, KnownClass, class_table, known_class, fitting_class}
+use Rattle.hd_terms.specs.Classes.{ClassTable, ResolvedClass, class_table, resolved_class, fitting_class}
 use Rattle.hd_terms.specs.Groups.{instance_group, instance_bytes, array_group, array_bytes, class_group, class_bytes, primitive_group, primitive_bytes}
 use Rattle.hd_terms.specs.Slots.{instance_slots, array_slots, class_slots}
 use Rattle.hd_terms.specs.Roots.{roots_of}
@@ -34,7 +34,7 @@ object_of t size (InstanceDump id serial class count values) = Some (record {
   group = instance_group size class;
   bytes = instance_bytes count;
   slots = instance_slots size (fitting_class t size (instance_bytes count) (big_number (id_len size) class)) class values;
-  referent = option_and_then (λ (k : KnownClass). option_map (λ (i : ℕ). slots.Field i) k.referent) (fitting_class t size (instance_bytes count) (big_number (id_len size) class));
+  referent = option_and_then (λ (k : ResolvedClass). option_map (λ (i : ℕ). slots.Field i) k.referent) (fitting_class t size (instance_bytes count) (big_number (id_len size) class));
 })
 object_of t size (ObjectArray id serial count class elements) = Some (record {
   id = big_number (id_len size) id;
@@ -67,7 +67,7 @@ repeated_of t size records subs = record {
 abbrev pub is_opaque : ClassTable → Item → Bool
 is_opaque t (subs.Root kind id) = false
 is_opaque t (subs.Class c) = false
-is_opaque t (Instance id class values) = is_none (known_class t class)
+is_opaque t (Instance id class values) = is_none (resolved_class t class)
 is_opaque t (ObjArray id class elements) = false
 is_opaque t (PrimArray id element count) = false
 

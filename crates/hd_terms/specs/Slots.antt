@@ -12,7 +12,7 @@ use Rattle.hd_terms.specs.declared.EdgeKind.TheVariants as kinds
 use Rattle.hd_terms.specs.Records.{id_len}
 use Rattle.hd_terms.specs.Types.{is_id_type, value_len}
 use Rattle.hd_terms.specs.SubRecords.{ClassHead, ClassValue}
-use Rattle.hd_terms.specs.Classes.{LayoutField, KnownClass}
+use Rattle.hd_terms.specs.Classes.{LayoutField, ResolvedClass}
 use Rattle.hd_terms.specs.Dump.{SlotEntry}
 
 -- a plain reference in a slot
@@ -61,6 +61,6 @@ field_slots size referent kind i (f ∷ fs) values =
     else field_slots size referent kind (i + 1) fs (drop (value_len size f.code) values)
 
 -- the slots of an instance: its fields, then its class. Of one whose class isn't known, the class alone
-abbrev pub instance_slots : IdSize → Option KnownClass → List ℕ → List ℕ → List SlotEntry
+abbrev pub instance_slots : IdSize → Option ResolvedClass → List ℕ → List ℕ → List SlotEntry
 instance_slots size None class values = strong_slot slots.OfClass (big_number (id_len size) class) ∷ []
 instance_slots size (Some k) class values = field_slots size k.referent k.kind 0 k.layout values ++ strong_slot slots.OfClass (big_number (id_len size) class) ∷ []

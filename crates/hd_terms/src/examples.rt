@@ -70,11 +70,11 @@ pub fn instance_examples()
     ensures absent_super { IsDumpOf examples.absent_super_file examples.absent_super }
     ensures null_class_before_a_cycle { IsReadFault examples.null_class_before_a_cycle_file (fault causes.ClassCycle 83) }
     ensures null_class { IsReadFault examples.null_class_file (fault causes.NullObject 40) }
-    ensures misfit { IsReadFault examples.misfit_file (fault causes.InstanceSize 40) }
-    ensures misfit_before_unknown { IsReadFault examples.misfit_before_unknown_file (fault causes.UnknownSub 101) }
-    ensures repeated_misfit { IsDumpOf examples.repeated_misfit_file examples.repeated_misfit }
+    ensures size_mismatch { IsReadFault examples.size_mismatch_file (fault causes.InstanceSize 40) }
+    ensures size_mismatch_before_unknown { IsReadFault examples.size_mismatch_before_unknown_file (fault causes.UnknownSub 101) }
+    ensures repeated_size_mismatch { IsDumpOf examples.repeated_size_mismatch_file examples.repeated_size_mismatch }
     ensures wide_instance { IsDumpOf examples.wide_instance_file examples.wide_instance }
-    ensures wide_misfit { IsReadFault examples.wide_misfit_file (fault causes.InstanceSize 40) }
+    ensures wide_size_mismatch { IsReadFault examples.wide_size_mismatch_file (fault causes.InstanceSize 40) }
     ensures opaque_and_repeated { IsDumpOf examples.opaque_and_repeated_file examples.opaque_and_repeated }
     ensures counts { counts_of examples.opaque_and_repeated ≡ record { objects = 4; roots = 1; edges = 3; unresolved = 2; repeated_objects = 1; repeated_strings = 0; repeated_loads = 0; opaque = 1 } }
     ensures weak_reference { IsDumpOf examples.weak_reference_file examples.weak_reference }

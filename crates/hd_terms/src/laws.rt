@@ -16,14 +16,14 @@ ghost use Rattle.hd_terms.specs.Log.{IsLawful, log_fault};
 ghost use Rattle.hd_terms.specs.Paths.{Edge, RootEntry, Standing};
 ghost use Rattle.hd_terms.specs.Strengths.{HasStrength};
 ghost use Rattle.hd_terms.specs.Chains.{IsChain};
-ghost use Rattle.hd_terms.specs.Settled.{Kept, Settled, IsStoredChain, kept_at};
+ghost use Rattle.hd_terms.specs.Settled.{Reached, Settled, IsStoredChain, reached_at};
 
 /// Whatever is settled for what stands has, of each object, the strength that the definition over root paths gives;
 /// and the supports of each reachable object, followed back, are a chain of that strength.
 pub fn settled_supports_give_strengths()
-    ensures strengths { (g : Standing) (ks : List Kept) → Settled g ks → (o : ℕ) → HasStrength g o (kept_at ks o).strength }
-    ensures chains { (g : Standing) (ks : List Kept) → Settled g ks → (o : ℕ) → (kept_at ks o).strength ≢ strengths.Unreachable
-        → (r : RootEntry) × (es : List Edge) × IsChain g r es o (kept_at ks o).strength × IsStoredChain g ks r es o }
+    ensures strengths { (g : Standing) (ks : List Reached) → Settled g ks → (o : ℕ) → HasStrength g o (reached_at ks o).strength }
+    ensures chains { (g : Standing) (ks : List Reached) → Settled g ks → (o : ℕ) → (reached_at ks o).strength ≢ strengths.Unreachable
+        → (r : RootEntry) × (es : List Edge) × IsChain g r es o (reached_at ks o).strength × IsStoredChain g ks r es o }
 {}
 
 /// A file reads as one list of records, a body as one list of sub-records. So a file has one dump or one fault at most,

@@ -246,8 +246,8 @@ fn class_cycle(rt: HostRuntime) -> Result<(), Fail> {
 
 #[test]
 fn instance_size(rt: HostRuntime) -> Result<(), Fail> {
-    let misfit = [MISFIT, NO_FIELDS];
-    assert_eq!(rt; opens(&rt, &misfit)?, dump_fault(Cause::InstanceSize, 40));
+    let size_mismatch = [MISFIT, NO_FIELDS];
+    assert_eq!(rt; opens(&rt, &size_mismatch)?, dump_fault(Cause::InstanceSize, 40));
     // the phase of the sub-records comes before that of the objects
     let unknown_behind = [MISFIT, NO_FIELDS, Part::Bytes(&[9])];
     assert_eq!(rt;
@@ -280,7 +280,7 @@ fn faults_in_order(rt: HostRuntime) -> Result<(), Fail> {
 }
 
 #[test]
-fn repeated_misfit(rt: HostRuntime) -> Result<(), Fail> {
+fn repeated_size_mismatch(rt: HostRuntime) -> Result<(), Fail> {
     let parts = [
         Part::Array(5, &[]),
         Part::Instance(5, 0x11, &[0]),

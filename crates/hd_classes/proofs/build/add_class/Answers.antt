@@ -1,7 +1,7 @@
 use Rattle.std.proofs.Common.{◌≡◌, ◌∙◌, Some, inr, length, sym, ap, arith}
-use Rattle.hd_terms.specs.Classes.{ClassTable, KnownClass}
+use Rattle.hd_terms.specs.Classes.{ClassTable, ResolvedClass}
 use Rattle.hd_classes.specs.Sources.{table_of}
-use Rattle.hd_classes.specs.Standing.{ClassPlace, place_view}
+use Rattle.hd_classes.specs.FirstClass.{ClassPlace, place_view}
 use Rattle.hd_classes.proofs.KnownLemmas.{zero-ends, zero-unknown, whole-known, whole-ends, end-unknown, end-ends, end-cycle, cycle-found, known-skips, known-adds, length-layout, one-longer}
 use Rattle.hd_classes.proofs.build.add_class.Goals as goal
 
@@ -25,7 +25,7 @@ returns-then-end-eq0-clause-ok c =
       ends = whole-ends t x.class.id w c.if-id-eq0.false h end;
       more = λ before k. known-adds t before x c.args.known.now.entries c.insert.new.self.entries c.known_of_walk.result
           (whole-known t x.class.id w c.if-id-eq0.false h end ∙ ap Some (sym c.known_of_walk.ensures))
-          (omega (arith, ap (λ (known : KnownClass). length known.layout) c.known_of_walk.ensures, length-layout w.layout.items, h.short)) c.in_ok-insert.ensures.updates.0 c.in_ok-insert.ensures.entries (one-longer _ _ _ c.in_ok-insert.ensures.len) k;
+          (omega (arith, ap (λ (known : ResolvedClass). length known.layout) c.known_of_walk.ensures, length-layout w.layout.items, h.short)) c.in_ok-insert.ensures.updates.0 c.in_ok-insert.ensures.entries (one-longer _ _ _ c.in_ok-insert.ensures.len) k;
     }
 
 pub returns-in-Some-clause-err : goal.returns-in-Some-clause-err

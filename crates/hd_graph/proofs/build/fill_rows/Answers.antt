@@ -14,15 +14,15 @@ fill_one-requires-clause-room c =
 
 pub loop-i-preserved : goal.loop-i-preserved
 loop-i-preserved c =
-    let first = c.args.references.now in
+    let first = c.args.slot_table.now in
     record {
       so_far = fill-next (known_at c.args.classes.now) first.bytes first.size c.args.list.now c.loop-i.i _ c.get.ensures
-          (columns c.loop-i.references c.loop-i.shapes.objects) (columns c.fill_one.new.references c.fill_one.new.shapes.objects) c.loop-i.invariant.so_far c.in_ok-fill_one.ensures.filled;
+          (columns c.loop-i.slot_table c.loop-i.shapes.objects) (columns c.fill_one.new.slot_table c.fill_one.new.shapes.objects) c.loop-i.invariant.so_far c.in_ok-fill_one.ensures.filled;
       layouts = rw c.in_ok-fill_one.ensures.kept c.loop-i.invariant.layouts;
     }
 
 pub fill_one-requires-clause-few : goal.fill_one-requires-clause-few
 fill_one-requires-clause-few c =
-    let first = c.args.references.now in
-    let few = few-shapes (known_at c.args.classes.now) first.bytes first.size (take c.loop-i.i c.args.list.now) (object_ids c.args.list.now) (columns c.loop-i.references c.loop-i.shapes.objects) c.loop-i.invariant.so_far in
+    let first = c.args.slot_table.now in
+    let few = few-shapes (known_at c.args.classes.now) first.bytes first.size (take c.loop-i.i c.args.list.now) (object_ids c.args.list.now) (columns c.loop-i.slot_table c.loop-i.shapes.objects) c.loop-i.invariant.so_far in
     omega (arith, few, length-take c.loop-i.i c.args.list.now, length-le-weight c.args.list.now, c.requires.within.few)

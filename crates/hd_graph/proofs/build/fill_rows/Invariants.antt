@@ -8,6 +8,6 @@ use Rattle.hd_graph.proofs.build.fill_rows.Given as goal
 -- the rows and shapes of the objects so far, over the same layouts
 abbrev pub invariant-loop-i : goal.invariant-loop-i
 invariant-loop-i l = record {
-  so_far : IsFilledSoFar (known_at l.classes) l.initial.references.bytes l.initial.references.size (take l.i l.list) (object_ids l.list) (columns l.references l.shapes.objects);
-  layouts : AreLayouts l.initial.references.size l.classes l.shapes.layouts;
+  so_far : IsFilledSoFar (known_at l.classes) l.initial.slot_table.bytes l.initial.slot_table.size (take l.i l.list) (object_ids l.list) (columns l.slot_table l.shapes.objects);
+  layouts : AreLayouts l.initial.slot_table.size l.classes l.shapes.layouts;
 }

@@ -3,4 +3,4 @@ use Rattle.hd_graph.proofs.build.push_ids.Given as goal
 
 -- the IDs so far were added
 abbrev pub invariant-loop-i : goal.invariant-loop-i
-invariant-loop-i l = AreIdsPushed l.initial.references l.start l.count l.i l.references l.place
+invariant-loop-i l = AreIdsPushed l.initial.slot_table l.start l.count l.i l.slot_table l.place

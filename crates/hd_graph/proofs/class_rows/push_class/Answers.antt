@@ -6,7 +6,7 @@ use Rattle.hd_subs.specs.declared.class.Static.{Static}
 use Rattle.hd_subs.specs.declared.class.Constant.{Constant}
 use Rattle.hd_subs.specs.Views.{static_view, constant_view, class_view}
 use Rattle.hd_graph.specs.ArrayRows.{HasLinks, values_of_statics, values_of_constants, value_ids, value_names, static_bytes}
-use Rattle.hd_graph.specs.KeptShapes.{ShapeLists}
+use Rattle.hd_graph.specs.PackedShapes.{ShapeLists}
 use Rattle.hd_graph.specs.Building.{GrowsBy}
 use Rattle.hd_graph.proofs.ValueLemmas.{length-static-values, length-constant-values}
 use Rattle.hd_graph.proofs.AddedLemmas.{grown-room, class-added}
@@ -14,8 +14,8 @@ use Rattle.hd_graph.proofs.class_rows.push_class.Goals as goal
 
 pub push_constants-requires-clause-room : goal.push_constants-requires-clause-room
 push_constants-requires-clause-room c =
-    let first = c.args.references.now in
-    let grown = grown-room first.bytes first.size (values_of_statics (map static_view c.as_slice.result.now)) first c.push_statics.new.references c.in_ok-push_statics.ensures.row in
+    let first = c.args.slot_table.now in
+    let grown = grown-room first.bytes first.size (values_of_statics (map static_view c.as_slice.result.now)) first c.push_statics.new.slot_table c.in_ok-push_statics.ensures.row in
     omega (
       arith,
       grown.0,
@@ -30,10 +30,10 @@ push_constants-requires-clause-room c =
 
 pub push_links-requires-clause-room : goal.push_links-requires-clause-room
 push_links-requires-clause-room c =
-    let first = c.args.references.now in
-    let second = c.push_statics.new.references in
+    let first = c.args.slot_table.now in
+    let second = c.push_statics.new.slot_table in
     let grown = grown-room first.bytes first.size (values_of_statics (map static_view c.as_slice.result.now)) first second c.in_ok-push_statics.ensures.row in
-    let more = grown-room second.bytes second.size (values_of_constants (map constant_view c.as_slice-2.result.now)) second c.push_constants.new.references c.in_ok-push_constants.ensures.row in
+    let more = grown-room second.bytes second.size (values_of_constants (map constant_view c.as_slice-2.result.now)) second c.push_constants.new.slot_table c.in_ok-push_constants.ensures.row in
     omega (
       arith,
       grown.0,
@@ -51,10 +51,10 @@ push_links-requires-clause-room c =
 
 pub returns-clause-added : goal.returns-clause-added
 returns-clause-added c =
-    let first = c.args.references.now in
-    let second = c.push_statics.new.references in
-    let third = c.push_constants.new.references in
-    class-added c.args.class.now (c.args.offset + 5 + c.id_len.result) first second third c.push_links.new.references c.end_row.new.self
+    let first = c.args.slot_table.now in
+    let second = c.push_statics.new.slot_table in
+    let third = c.push_constants.new.slot_table in
+    class-added c.args.class.now (c.args.offset + 5 + c.id_len.result) first second third c.push_links.new.slot_table c.end_row.new.self
     c.args.shapes.now.objects c.push_class.new.self.objects c.push_statics.new.names.items c.push_constants.new.names.items c.push_links.new.names.items c.bytes_of_statics-bytes.result
     c.requires.filled
     (subst (λ (n : ℕ). HasLinks first.bytes first.size (c.args.offset + 5 + n) (class_view c.args.class.now)) (sym c.id_len.ensures) c.requires.links)

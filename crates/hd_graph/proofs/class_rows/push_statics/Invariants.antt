@@ -7,4 +7,4 @@ use Rattle.hd_graph.proofs.class_rows.push_statics.Given as goal
 
 -- the IDs of the statics so far were added
 abbrev pub invariant-loop-i : goal.invariant-loop-i
-invariant-loop-i l = IsPushedSoFar (λ i. slots.Static i) (values_of_statics (map static_view l.statics)) l.i l.fn.references l.references l.fn.names.items l.names.items
+invariant-loop-i l = IsPushedSoFar (λ i. slots.Static i) (values_of_statics (map static_view l.statics)) l.i l.fn.slot_table l.slot_table l.fn.names.items l.names.items

@@ -3,4 +3,4 @@ use Rattle.hd_graph.proofs.instance_rows.push_fields.Given as goal
 
 -- the IDs in the fields so far were added
 abbrev pub invariant-loop-i : goal.invariant-loop-i
-invariant-loop-i l = ArePushed l.start l.layout l.i l.initial.references l.references l.at
+invariant-loop-i l = ArePushed l.start l.layout l.i l.initial.slot_table l.slot_table l.at

@@ -6,7 +6,7 @@ use Rattle.hd_terms.specs.SubRecords.{Sub, Item}
 use Rattle.hd_classes.specs.Known.{known_at}
 use Rattle.hd_subs.specs.Views.{sub_view, item_view}
 use Rattle.hd_graph.specs.ArrayRows.{root_of_item}
-use Rattle.hd_graph.specs.Numbering.{is_misfit, is_opaque, NotesObject, IsObjectStop}
+use Rattle.hd_graph.specs.Numbering.{is_size_mismatch, is_opaque, NotesObject, IsObjectStop}
 use Rattle.hd_graph.proofs.NumberLemmas.{root-push, object-push, plain-notes, null-stop}
 use Rattle.hd_graph.proofs.number.number_one.Goals as goal
 
@@ -26,7 +26,7 @@ returns-in_ok-number_object-in-Class-clause-ok c = λ front h.
     let done = c.in_ok-number_object-in-Class.ensures in
     object-push (known_at c.args.classes.now) c.args.id_size front c.args.ids.now.keys c.args.roots.now.items c.args.tally.now h s c.in-Class.class.now.id _ _
     (plain-notes (known_at c.args.classes.now) c.args.id_size s.item c.in-Class.class.now.id c.args.ids.now.keys c.args.tally.now _ _ done.noted.0 done.noted.1 done.opaque
-    (ap (λ i. is_misfit (known_at c.args.classes.now) c.args.id_size (item_view i)) c.in-Class.is)
+    (ap (λ i. is_size_mismatch (known_at c.args.classes.now) c.args.id_size (item_view i)) c.in-Class.is)
     (ap (λ i. is_opaque (known_at c.args.classes.now) (item_view i)) c.in-Class.is))
     (ap (λ i. id_of_item (item_view i)) c.in-Class.is)
     (ap (λ i. cons_option (root_of_item (item_view i)) []) c.in-Class.is)
@@ -42,7 +42,7 @@ returns-in_ok-number_object-in-ObjArray-clause-ok c = λ front h.
     let done = c.in_ok-number_object-in-ObjArray.ensures in
     object-push (known_at c.args.classes.now) c.args.id_size front c.args.ids.now.keys c.args.roots.now.items c.args.tally.now h s c.in-ObjArray.id _ _
     (plain-notes (known_at c.args.classes.now) c.args.id_size s.item c.in-ObjArray.id c.args.ids.now.keys c.args.tally.now _ _ done.noted.0 done.noted.1 done.opaque
-    (ap (λ i. is_misfit (known_at c.args.classes.now) c.args.id_size (item_view i)) c.in-ObjArray.is)
+    (ap (λ i. is_size_mismatch (known_at c.args.classes.now) c.args.id_size (item_view i)) c.in-ObjArray.is)
     (ap (λ i. is_opaque (known_at c.args.classes.now) (item_view i)) c.in-ObjArray.is))
     (ap (λ i. id_of_item (item_view i)) c.in-ObjArray.is)
     (ap (λ i. cons_option (root_of_item (item_view i)) []) c.in-ObjArray.is)
@@ -58,7 +58,7 @@ returns-in_ok-number_object-in-PrimArray-clause-ok c = λ front h.
     let done = c.in_ok-number_object-in-PrimArray.ensures in
     object-push (known_at c.args.classes.now) c.args.id_size front c.args.ids.now.keys c.args.roots.now.items c.args.tally.now h s c.in-PrimArray.id _ _
     (plain-notes (known_at c.args.classes.now) c.args.id_size s.item c.in-PrimArray.id c.args.ids.now.keys c.args.tally.now _ _ done.noted.0 done.noted.1 done.opaque
-    (ap (λ i. is_misfit (known_at c.args.classes.now) c.args.id_size (item_view i)) c.in-PrimArray.is)
+    (ap (λ i. is_size_mismatch (known_at c.args.classes.now) c.args.id_size (item_view i)) c.in-PrimArray.is)
     (ap (λ i. is_opaque (known_at c.args.classes.now) (item_view i)) c.in-PrimArray.is))
     (ap (λ i. id_of_item (item_view i)) c.in-PrimArray.is)
     (ap (λ i. cons_option (root_of_item (item_view i)) []) c.in-PrimArray.is)

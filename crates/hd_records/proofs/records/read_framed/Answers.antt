@@ -1,6 +1,6 @@
 use Rattle.std.proofs.Common.{◌≡◌, ◌+◌, ◌-◌, sym, arith}
 use Rattle.std.proofs.lemmas.List.{take_rest}
-use Rattle.hd_records.proofs.Fronts.{begins, cut_off}
+use Rattle.hd_records.proofs.ParsedRecords.{begins, cut_off}
 use Rattle.hd_records.proofs.records.read_framed.Goals as goal
 
 pub returns-then-rest-lt-HEAD_LEN : goal.returns-then-rest-lt-HEAD_LEN

@@ -18,4 +18,4 @@ returns-in-Err-clause-err c =
 pub loop-rest-preserved : goal.loop-rest-preserved
 loop-rest-preserved c =
     rw (c.in_ok-note_text.ensures, c.in_ok-note_load.ensures, c.in_ok-note_segment.ensures)
-    (step _ _ _ _ _ _ c.loop-rest.invariant c.in-Ok.front.tag c.in-Ok.front.body.now c.in-Ok.front.after.now c.in-Ok.ensures.ok)
+    (step _ _ _ _ _ _ c.loop-rest.invariant c.in-Ok.parsed.tag c.in-Ok.parsed.body.now c.in-Ok.parsed.after.now c.in-Ok.ensures.ok)

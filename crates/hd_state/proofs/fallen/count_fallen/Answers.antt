@@ -2,7 +2,7 @@ use Rattle.std.proofs.Common.{◌≡◌, ◌∙◌, ◌+◌, ℕ, true, false, l
 use Rattle.std.specs.Prelude.{count_by}
 use Rattle.std.specs.List.{range_with_len}
 use Rattle.hd_terms.specs.declared.Strength.{Strength}
-use Rattle.hd_terms.specs.Settled.{kept_at}
+use Rattle.hd_terms.specs.Settled.{reached_at}
 use Rattle.hd_state.specs.Fallen.{falls_to, falls_from}
 use Rattle.hd_state.proofs.FallenLemmas.{count-more, count-all}
 use Rattle.hd_state.proofs.fallen.count_fallen.Goals as goal
@@ -11,7 +11,7 @@ use Rattle.hd_state.proofs.fallen.count_fallen.Goals.{After-falls, then-falls, e
 -- the answer for an object is by what is kept of it
 tested : (c : After-falls) → falls_from c.args.before.now c.args.after.now c.loop-o.o ≡ c.falls.result
 tested c =
-    ap (λ (s : Strength). falls_to s (kept_at c.args.after.now c.loop-o.o).strength) (sym c.strength.ensures)
+    ap (λ (s : Strength). falls_to s (reached_at c.args.after.now c.loop-o.o).strength) (sym c.strength.ensures)
     ∙ ap (λ (s : Strength). falls_to c.strength.result s) (sym c.strength-in-loop-o.ensures)
     ∙ sym c.falls.ensures
 

@@ -11,8 +11,8 @@ loop-i-preserved c =
     let log = c.args.front.now in
     let x = object_at dump c.args.o in
     let s : SlotEntry = record { slot = c.slots.result.slot; kind = c.slots.result.kind; id = c.slots.result.id } in
-    let taken = c.slot.ensures ∙ c.in_ok-taken.ensures.slots c.args.o c.loop-i.i s c.requires c.slots.ensures.entry in
-    let row = c.row_of.ensures ∙ shown-slot dump log x c.slots.result c.slot.result c.slots.ensures.target taken in
+    let removed = c.slot.ensures ∙ c.in_ok-removed.ensures.slots c.args.o c.loop-i.i s c.requires c.slots.ensures.entry in
+    let row = c.row_of.ensures ∙ shown-slot dump log x c.slots.result c.slot.result c.slots.ensures.target removed in
     c.in_ok-push.ensures.items
     ∙ ap (λ (rows : List SlotRow). rows ++ c.row_of.result ∷ []) c.loop-i.invariant
     ∙ ap (λ (r : SlotRow). map (slot_row dump log x) (take c.loop-i.i x.slots) ++ r ∷ []) row

@@ -2,7 +2,7 @@ use Rattle.std.proofs.Common.{◌≡◌, ◌∙◌, ℕ, ◌+◌, ◌<◌, ◌�
 use Rattle.hd_terms.specs.declared.Strength.{Strength}
 use Rattle.hd_terms.specs.Records.{largest_file}
 use Rattle.hd_terms.specs.Dump.{object_at}
-use Rattle.hd_terms.specs.Settled.{kept_at}
+use Rattle.hd_terms.specs.Settled.{reached_at}
 use Rattle.hd_state.specs.declared.totals.StrengthTotals.{StrengthTotals}
 use Rattle.hd_state.specs.Totals.{AreCounted, with_object}
 use Rattle.hd_state.proofs.TotalLemmas.{one-more-counted}
@@ -15,6 +15,6 @@ loop-o-preserved c =
     let old = c.loop-o.totals in
     let within : c.loop-o.o < length dump.objects = omega arith in
     let small = subst (λ (n : ℕ). n ≤ largest_file) c.bytes_of.ensures.bytes c.bytes_of.ensures.small in
-    let is : c.add.new.self ≡ with_object old (kept_at ks c.loop-o.o).strength (object_at dump c.loop-o.o).bytes =
-    c.add.ensures ∙ ap (λ (s : Strength). with_object old s c.bytes_of.result) c.strength.ensures ∙ ap (λ (n : ℕ). with_object old (kept_at ks c.loop-o.o).strength n) c.bytes_of.ensures.bytes in
+    let is : c.add.new.self ≡ with_object old (reached_at ks c.loop-o.o).strength (object_at dump c.loop-o.o).bytes =
+    c.add.ensures ∙ ap (λ (s : Strength). with_object old s c.bytes_of.result) c.strength.ensures ∙ ap (λ (n : ℕ). with_object old (reached_at ks c.loop-o.o).strength n) c.bytes_of.ensures.bytes in
     subst (λ (totals : StrengthTotals). AreCounted dump ks (c.loop-o.o + 1) totals) (sym is) (one-more-counted dump ks c.loop-o.o old c.loop-o.invariant within small)

@@ -2,7 +2,7 @@ use Rattle.std.proofs.Common.{◌≡◌, ◌+◌, ◌*◌, ◌≤◌, length, dr
 use Rattle.std.proofs.lemmas.List.{take_rest}
 use Rattle.byteorder.specs.Endian.{big_number}
 use Rattle.hd_terms.specs.Records.{id_len}
-use Rattle.hd_subs.proofs.Fronts.{count_in, short_array, begins_array}
+use Rattle.hd_subs.proofs.ParsedSubs.{count_in, short_array, begins_array}
 use Rattle.hd_subs.proofs.reading.read_array.Goals as goal
 
 pub returns-then-fields-id_len : goal.returns-then-fields-id_len

@@ -2,7 +2,7 @@ use Rattle.std.proofs.Common.{◌≡◌, ◌+◌, ◌*◌, ◌≤◌, length, dr
 use Rattle.std.proofs.lemmas.List.{take_rest}
 use Rattle.byteorder.specs.Endian.{big_number}
 use Rattle.hd_terms.specs.Records.{id_len}
-use Rattle.hd_subs.proofs.Fronts.{values_in, short_instance, begins_instance}
+use Rattle.hd_subs.proofs.ParsedSubs.{values_in, short_instance, begins_instance}
 use Rattle.hd_subs.proofs.reading.read_instance.Goals as goal
 
 pub returns-then-fields-id_len : goal.returns-then-fields-id_len

@@ -2,7 +2,7 @@ use Rattle.std.proofs.Common.{◌≡◌, ◌+◌, ◌*◌, ◌≤◌, true, leng
 use Rattle.std.proofs.lemmas.List.{take_rest}
 use Rattle.hd_terms.specs.Records.{id_len}
 use Rattle.hd_terms.specs.Types.{is_element_type, element_len}
-use Rattle.hd_subs.proofs.Fronts.{count_in, short_primitive_fields, unknown_type, short_primitive, begins_primitive}
+use Rattle.hd_subs.proofs.ParsedSubs.{count_in, short_primitive_fields, unknown_type, short_primitive, begins_primitive}
 use Rattle.hd_subs.proofs.reading.read_primitive_array.Goals as goal
 
 pub returns-then-fields-id_len-clause-err : goal.returns-then-fields-id_len-clause-err

@@ -1,6 +1,6 @@
 use Rattle.std.proofs.Common.{◌+◌, arith}
 use Rattle.std.proofs.lemmas.List.{take_rest}
-use Rattle.hd_subs.proofs.Fronts.{short_root, begins_root}
+use Rattle.hd_subs.proofs.ParsedSubs.{short_root, begins_root}
 use Rattle.hd_subs.proofs.reading.read_root.Goals as goal
 
 pub returns-then-fields-len : goal.returns-then-fields-len

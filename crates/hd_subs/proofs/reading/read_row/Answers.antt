@@ -1,5 +1,5 @@
 use Rattle.std.proofs.Common.{arith}
-use Rattle.hd_subs.proofs.Fronts.{is_unknown}
+use Rattle.hd_subs.proofs.ParsedSubs.{is_unknown}
 use Rattle.hd_subs.proofs.reading.read_row.Goals as goal
 
 pub returns-in-None-2-clause-err : goal.returns-in-None-2-clause-err

@@ -3,24 +3,24 @@ use Rattle.hd_terms.specs.declared.Slot.{Slot}
 use Rattle.hd_terms.specs.declared.Slot.TheVariants as slots
 use Rattle.hd_terms.specs.declared.Strength.TheVariants as strengths
 use Rattle.hd_terms.specs.declared.Support.TheVariants as supports
-use Rattle.hd_terms.specs.Settled.{Kept, unreached}
+use Rattle.hd_terms.specs.Settled.{Reached, unreached}
 use Rattle.hd_terms.specs.Examples as examples
 use Rattle.hd_terms.proofs.FellByTest.{fell}
 use Rattle.hd_terms.proofs.examples.edit_examples.Goals as goal
 
 -- held by root 0
-abbrev held : Kept
+abbrev held : Reached
 held = record { strength = strengths.Strong; support = supports.Root 0; stamp = 0 }
 
 -- strong by a slot of an object
-abbrev strong_by : ℕ → Slot → ℕ → Kept
+abbrev strong_by : ℕ → Slot → ℕ → Reached
 strong_by source slot stamp = record { strength = strengths.Strong; support = supports.Edge source slot; stamp = stamp }
 
 -- what is kept of the two arrays, with and without the edge between them
-abbrev both : List Kept
+abbrev both : List Reached
 both = held ∷ strong_by 0 (slots.Element 0) 1 ∷ []
 
-abbrev first : List Kept
+abbrev first : List Reached
 first = held ∷ unreached ∷ []
 
 pub returns-clause-fell : goal.returns-clause-fell

@@ -8,17 +8,17 @@ use Rattle.hd_terms.specs.declared.Support.TheVariants as supports
 use Rattle.hd_terms.specs.Paths.{Standing}
 use Rattle.hd_terms.specs.Strengths.{HasStrength}
 use Rattle.hd_terms.specs.EditedDump.{standing}
-use Rattle.hd_terms.specs.Settled.{Kept, unreached, kept_at}
+use Rattle.hd_terms.specs.Settled.{Reached, unreached, reached_at}
 use Rattle.hd_terms.specs.Examples as examples
 use Rattle.hd_terms.proofs.SettledByTest.{all_contains, strengths_of}
 use Rattle.hd_terms.proofs.examples.heap_examples.Goals as goal
 
 -- held by root 0
-abbrev held : Kept
+abbrev held : Reached
 held = record { strength = strengths.Strong; support = supports.Root 0; stamp = 0 }
 
 -- a strength that is owed to a slot of an object
-abbrev by : Strength → ℕ → Slot → ℕ → Kept
+abbrev by : Strength → ℕ → Slot → ℕ → Reached
 by strength source slot stamp = record { strength = strength; support = supports.Edge source slot; stamp = stamp }
 
 pub returns-clause-two_arrays : goal.returns-clause-two_arrays
@@ -34,7 +34,7 @@ pub returns-clause-no_cut_is_left : goal.returns-clause-no_cut_is_left
 returns-clause-no_cut_is_left c = strengths_of (standing examples.two_arrays examples.two_cuts_of_one_slot) (held ∷ by strengths.Strong 0 (slots.Element 0) 1 ∷ []) refl 1
 
 -- weak_and_final_referents: what is kept of all objects, with that of 0x5 last
-abbrev weak_or_final : Kept → List Kept
+abbrev weak_or_final : Reached → List Reached
 weak_or_final referent =
     by strengths.Strong 2 slots.Super 5 ∷ unreached ∷ by strengths.Strong 7 slots.OfClass 3 ∷ by strengths.Strong 5 slots.Super 6 ∷ unreached ∷ by strengths.Strong 8 slots.OfClass 4
     ∷ held ∷ by strengths.Strong 6 (slots.Element 0) 1 ∷ by strengths.Strong 6 (slots.Element 1) 2 ∷ referent ∷ []
@@ -49,13 +49,13 @@ pub returns-clause-no_referent : goal.returns-clause-no_referent
 returns-clause-no_referent c = strengths_of (standing examples.weak_and_final_referents examples.clears) (weak_or_final unreached) refl 9
 
 -- soft_then_weak: what is kept of all objects, with that of 0x23, 0x5 and 0x4 last
-abbrev soft_and_weak : List Kept → List Kept
+abbrev soft_and_weak : List Reached → List Reached
 soft_and_weak last =
     by strengths.Strong 1 slots.Super 4 ∷ by strengths.Strong 7 slots.OfClass 3 ∷ by strengths.Soft 8 slots.OfClass 6 ∷ unreached ∷ unreached ∷ unreached
     ∷ held ∷ by strengths.Strong 6 (slots.Element 0) 1 ∷ by strengths.Soft 7 (slots.Field 0) 5 ∷ by strengths.Weak 8 (slots.Field 0) 7 ∷ last
 
 -- both ways stand
-abbrev two_ways : List Kept
+abbrev two_ways : List Reached
 two_ways = soft_and_weak (by strengths.Strong 6 (slots.Element 1) 2 ∷ by strengths.Soft 10 (slots.Field 0) 8 ∷ by strengths.Soft 11 (slots.Element 0) 9 ∷ [])
 
 pub returns-clause-soft : goal.returns-clause-soft
@@ -73,13 +73,13 @@ returns-clause-other_way c =
     (soft_and_weak (unreached ∷ unreached ∷ by strengths.Weak 9 (slots.Element 0) 8 ∷ [])) refl 12
 
 -- cycle_behind_one_edge: each object owes its strength to the one before
-abbrev around : List Kept
+abbrev around : List Reached
 around =
     held ∷ by strengths.Strong 0 (slots.Element 0) 1 ∷ by strengths.Strong 1 (slots.Element 0) 2 ∷ by strengths.Strong 2 (slots.Element 1) 3
     ∷ by strengths.Strong 3 (slots.Element 0) 4 ∷ []
 
 -- all five are strong
-all_strong : (o : ℕ) → o ≤ 4 → (kept_at around o).strength ≡ strengths.Strong
+all_strong : (o : ℕ) → o ≤ 4 → (reached_at around o).strength ≡ strengths.Strong
 all_strong zero le = refl
 all_strong (suc zero) le = refl
 all_strong (suc (suc zero)) le = refl
@@ -88,7 +88,7 @@ all_strong (suc (suc (suc (suc zero)))) le = refl
 all_strong (suc (suc (suc (suc (suc o))))) le = absurd (omega arith)
 
 -- only the first is reached
-one_reached : (o : ℕ) → 1 ≤ o → (kept_at (held ∷ []) o).strength ≡ strengths.Unreachable
+one_reached : (o : ℕ) → 1 ≤ o → (reached_at (held ∷ []) o).strength ≡ strengths.Unreachable
 one_reached zero le = absurd (omega arith)
 one_reached (suc o) le = refl
 
@@ -121,7 +121,7 @@ returns-clause-chain c = record {
 }
 
 -- phantom_referent
-abbrev phantom : List Kept
+abbrev phantom : List Reached
 phantom =
     by strengths.Strong 4 slots.Super 3 ∷ unreached ∷ unreached ∷ unreached ∷ by strengths.Strong 7 slots.OfClass 2 ∷ unreached
     ∷ held ∷ by strengths.Strong 6 (slots.Element 0) 1 ∷ by strengths.Phantom 7 (slots.Field 0) 4 ∷ unreached ∷ unreached ∷ []

@@ -194,33 +194,33 @@ returns-clause-null_class c =
 
 -- instances that don't fit their class
 
-abbrev misfit_subs : List SubRecord
-misfit_subs = instance_sub narrow 0x20 0x11 (0x00 ∷ []) ∷ class_sub narrow 0x11 0 [] ∷ []
+abbrev size_mismatch_subs : List SubRecord
+size_mismatch_subs = instance_sub narrow 0x20 0x11 (0x00 ∷ []) ∷ class_sub narrow 0x11 0 [] ∷ []
 
-misfit_read : IsRead examples.misfit_file sizes.Four misfit_subs
-misfit_read =
-    alone examples.misfit_file sizes.Four misfit_subs
+size_mismatch_read : IsRead examples.size_mismatch_file sizes.Four size_mismatch_subs
+size_mismatch_read =
+    alone examples.size_mismatch_file sizes.Four size_mismatch_subs
     (record { fits = lit≤ tt; long = lit≤ tt; magic = refl; id_size = refl })
     refl refl
     (narrow_instance 0x20 0x11 (0x00 ∷ []) refl, (narrow_class 0x11 0 [] refl tt, tt))
 
-pub returns-clause-misfit : goal.returns-clause-misfit
-returns-clause-misfit c =
-    in_objects sizes.Four (segment_with misfit_subs ∷ []) (misfit_subs ∷ [])
-    misfit_read.header misfit_read.whole misfit_read.bodies refl refl
+pub returns-clause-size_mismatch : goal.returns-clause-size_mismatch
+returns-clause-size_mismatch c =
+    in_objects sizes.Four (segment_with size_mismatch_subs ∷ []) (size_mismatch_subs ∷ [])
+    size_mismatch_read.header size_mismatch_read.whole size_mismatch_read.bodies refl refl
 
 -- the body of misfit_before_unknown
-abbrev misfit_before_unknown_body : List ℕ
-misfit_before_unknown_body = flat_map sub_record_text misfit_subs ++ 0x09 ∷ []
+abbrev size_mismatch_before_unknown_body : List ℕ
+size_mismatch_before_unknown_body = flat_map sub_record_text size_mismatch_subs ++ 0x09 ∷ []
 
-pub returns-clause-misfit_before_unknown : goal.returns-clause-misfit_before_unknown
-returns-clause-misfit_before_unknown c =
-    in_sub_records sizes.Four (segment misfit_before_unknown_body ∷ [])
+pub returns-clause-size_mismatch_before_unknown : goal.returns-clause-size_mismatch_before_unknown
+returns-clause-size_mismatch_before_unknown c =
+    in_sub_records sizes.Four (segment size_mismatch_before_unknown_body ∷ [])
     (record { fits = lit≤ tt; long = lit≤ tt; magic = refl; id_size = refl })
-    (record { whole = refl; each = (segment_is sizes.Four misfit_before_unknown_body refl, tt) })
+    (record { whole = refl; each = (segment_is sizes.Four size_mismatch_before_unknown_body refl, tt) })
     (record {
       whole = [];
-      r = segment misfit_before_unknown_body;
+      r = segment size_mismatch_before_unknown_body;
       after = [];
       segments = [];
       span = record { start = 40; len = 62 };
@@ -228,7 +228,7 @@ returns-clause-misfit_before_unknown c =
       before = tt;
       at = refl;
       faulty = record {
-        front = misfit_subs;
+        front = size_mismatch_subs;
         rest = 0x09 ∷ [];
         whole = refl;
         each = (narrow_instance 0x20 0x11 (0x00 ∷ []) refl, (narrow_class 0x11 0 [] refl tt, tt));
@@ -237,22 +237,22 @@ returns-clause-misfit_before_unknown c =
       };
     })
 
-abbrev repeated_misfit_subs : List SubRecord
-repeated_misfit_subs = class_sub narrow 0x11 0 ((0x107, 2) ∷ []) ∷ instance_sub narrow 2 0x11 (four 5) ∷ instance_sub narrow 2 0x11 (0x00 ∷ []) ∷ []
+abbrev repeated_size_mismatch_subs : List SubRecord
+repeated_size_mismatch_subs = class_sub narrow 0x11 0 ((0x107, 2) ∷ []) ∷ instance_sub narrow 2 0x11 (four 5) ∷ instance_sub narrow 2 0x11 (0x00 ∷ []) ∷ []
 
-repeated_misfit_read : IsRead examples.repeated_misfit_file sizes.Four repeated_misfit_subs
-repeated_misfit_read =
-    alone examples.repeated_misfit_file sizes.Four repeated_misfit_subs
+repeated_size_mismatch_read : IsRead examples.repeated_size_mismatch_file sizes.Four repeated_size_mismatch_subs
+repeated_size_mismatch_read =
+    alone examples.repeated_size_mismatch_file sizes.Four repeated_size_mismatch_subs
     (record { fits = lit≤ tt; long = lit≤ tt; magic = refl; id_size = refl })
     refl refl
     (narrow_class 0x11 0 ((0x107, 2) ∷ []) refl (refl, tt), (narrow_instance 2 0x11 (four 5) refl, (narrow_instance 2 0x11 (0x00 ∷ []) refl, tt)))
 
-pub returns-clause-repeated_misfit : goal.returns-clause-repeated_misfit
-returns-clause-repeated_misfit c = record {
+pub returns-clause-repeated_size_mismatch : goal.returns-clause-repeated_size_mismatch
+returns-clause-repeated_size_mismatch c = record {
   size = sizes.Four;
-  records = segment_with repeated_misfit_subs ∷ [];
-  segments = repeated_misfit_subs ∷ [];
-  reads = record { header = repeated_misfit_read.header; whole = repeated_misfit_read.whole; bodies = repeated_misfit_read.bodies; classes = refl; objects = refl };
+  records = segment_with repeated_size_mismatch_subs ∷ [];
+  segments = repeated_size_mismatch_subs ∷ [];
+  reads = record { header = repeated_size_mismatch_read.header; whole = repeated_size_mismatch_read.whole; bodies = repeated_size_mismatch_read.bodies; classes = refl; objects = refl };
   is = refl;
 }
 
@@ -303,20 +303,20 @@ returns-clause-wide_instance c = record {
   is = refl;
 }
 
-abbrev wide_misfit_subs : List SubRecord
-wide_misfit_subs = wide_subs (wide 5 ++ 0x01 ∷ four 0 ++ 0x00 ∷ 0x00 ∷ 0x00 ∷ [])
+abbrev wide_size_mismatch_subs : List SubRecord
+wide_size_mismatch_subs = wide_subs (wide 5 ++ 0x01 ∷ four 0 ++ 0x00 ∷ 0x00 ∷ 0x00 ∷ [])
 
-wide_misfit_read : IsRead examples.wide_misfit_file sizes.Eight wide_misfit_subs
-wide_misfit_read =
-    alone examples.wide_misfit_file sizes.Eight wide_misfit_subs
+wide_size_mismatch_read : IsRead examples.wide_size_mismatch_file sizes.Eight wide_size_mismatch_subs
+wide_size_mismatch_read =
+    alone examples.wide_size_mismatch_file sizes.Eight wide_size_mismatch_subs
     (record { fits = lit≤ tt; long = lit≤ tt; magic = refl; id_size = refl })
     refl refl
     (wide_are (wide 5 ++ 0x01 ∷ four 0 ++ 0x00 ∷ 0x00 ∷ 0x00 ∷ []) refl)
 
-pub returns-clause-wide_misfit : goal.returns-clause-wide_misfit
-returns-clause-wide_misfit c =
-    in_objects sizes.Eight (segment_with wide_misfit_subs ∷ []) (wide_misfit_subs ∷ [])
-    wide_misfit_read.header wide_misfit_read.whole wide_misfit_read.bodies refl refl
+pub returns-clause-wide_size_mismatch : goal.returns-clause-wide_size_mismatch
+returns-clause-wide_size_mismatch c =
+    in_objects sizes.Eight (segment_with wide_size_mismatch_subs ∷ []) (wide_size_mismatch_subs ∷ [])
+    wide_size_mismatch_read.header wide_size_mismatch_read.whole wide_size_mismatch_read.bodies refl refl
 
 -- classes that aren't there
 

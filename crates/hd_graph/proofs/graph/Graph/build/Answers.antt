@@ -21,13 +21,13 @@ pub rows_of-requires-clause-classes : goal.rows_of-requires-clause-classes
 rows_of-requires-clause-classes g c = few-and-short c.args.bytes.now c.args.records.now.id_size _ _ c.args.records.now.segments c.requires.records c.args.list.now c.requires.list c.args.classes.now c.requires.classes c.requires.no_cycle
 
 pub new-requires-clause-columns : goal.new-requires-clause-columns
-new-requires-clause-columns g c = rw c.in_ok-references-2.ensures (whole-columns c.args.bytes.now c.args.records.now.id_size _ _ c.args.records.now.segments c.requires.records c.args.list.now c.requires.list c.args.classes.now c.requires.classes c.requires.no_cycle _ _ _ c.in_ok-ids.ensures.ok (columns c.in_ok-references.field-0.references c.in_ok-references.field-0.shapes.objects) c.in_ok-references.ensures)
+new-requires-clause-columns g c = rw c.in_ok-slot_table-2.ensures (whole-columns c.args.bytes.now c.args.records.now.id_size _ _ c.args.records.now.segments c.requires.records c.args.list.now c.requires.list c.args.classes.now c.requires.classes c.requires.no_cycle _ _ _ c.in_ok-ids.ensures.ok (columns c.in_ok-slot_table.field-0.slot_table c.in_ok-slot_table.field-0.shapes.objects) c.in_ok-slot_table.ensures)
 
 pub new-requires-clause-small : goal.new-requires-clause-small
-new-requires-clause-small g c = small-shapes c.args.bytes.now c.args.records.now.id_size _ _ c.args.records.now.segments c.requires.records c.args.list.now c.requires.list c.args.classes.now c.requires.classes c.requires.no_cycle _ _ _ c.in_ok-ids.ensures.ok (columns c.in_ok-references.field-0.references c.in_ok-references.field-0.shapes.objects) c.in_ok-references.ensures
+new-requires-clause-small g c = small-shapes c.args.bytes.now c.args.records.now.id_size _ _ c.args.records.now.segments c.requires.records c.args.list.now c.requires.list c.args.classes.now c.requires.classes c.requires.no_cycle _ _ _ c.in_ok-ids.ensures.ok (columns c.in_ok-slot_table.field-0.slot_table c.in_ok-slot_table.field-0.shapes.objects) c.in_ok-slot_table.ensures
 
 pub new-requires-clause-few_roots : goal.new-requires-clause-few_roots
 new-requires-clause-few_roots g c = few-roots c.args.bytes.now c.args.records.now.id_size _ _ c.args.records.now.segments c.requires.records c.args.list.now c.requires.list c.args.classes.now c.requires.classes c.requires.no_cycle _ _ _ c.in_ok-ids.ensures.ok
 
 pub returns-clause-ok : goal.returns-clause-ok
-returns-clause-ok g c = rw (c.new.ensures, c.in_ok-references-2.ensures) (opened c.args.bytes.now c.args.records.now.id_size _ _ c.args.records.now.segments c.requires.records c.args.list.now c.requires.list c.args.classes.now c.requires.classes c.requires.no_cycle _ _ _ c.in_ok-ids.ensures.ok (columns c.in_ok-references.field-0.references c.in_ok-references.field-0.shapes.objects) c.in_ok-references.ensures _ _ c.in_ok-strings.ensures c.in_ok-loads.ensures)
+returns-clause-ok g c = rw (c.new.ensures, c.in_ok-slot_table-2.ensures) (opened c.args.bytes.now c.args.records.now.id_size _ _ c.args.records.now.segments c.requires.records c.args.list.now c.requires.list c.args.classes.now c.requires.classes c.requires.no_cycle _ _ _ c.in_ok-ids.ensures.ok (columns c.in_ok-slot_table.field-0.slot_table c.in_ok-slot_table.field-0.shapes.objects) c.in_ok-slot_table.ensures _ _ c.in_ok-strings.ensures c.in_ok-loads.ensures)

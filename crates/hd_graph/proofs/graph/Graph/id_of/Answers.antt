@@ -7,13 +7,13 @@ use Rattle.hd_graph.proofs.graph.Graph.id_of.Goals as goal
 pub bounds-ids-o : goal.bounds-ids-o
 bounds-ids-o c =
     let a = c.self.inside in
-    let lt : c.args.o < length (row_objects a.shapes.objects a.references.ids a.references.rows) = rw (← c.self.view_is) at c.requires in
-    rw c.ids.ensures (omega (arith, length-row_objects a.shapes.objects a.references.ids a.references.rows c.self.invariant.columns))
+    let lt : c.args.o < length (row_objects a.shapes.objects a.slot_table.ids a.slot_table.rows) = rw (← c.self.view_is) at c.requires in
+    rw c.ids.ensures (omega (arith, length-row_objects a.shapes.objects a.slot_table.ids a.slot_table.rows c.self.invariant.columns))
 
 pub returns : goal.returns
 returns c =
     let a = c.self.inside in
-    let lt : c.args.o < length (row_objects a.shapes.objects a.references.ids a.references.rows) = rw (← c.self.view_is) at c.requires in
+    let lt : c.args.o < length (row_objects a.shapes.objects a.slot_table.ids a.slot_table.rows) = rw (← c.self.view_is) at c.requires in
     ap (λ (ids : List ℕ). get_or ids c.args.o 0) c.ids.ensures
-    ∙ sym (ap (λ (x : Object). x.id) (row_objects-at a.shapes.objects a.references.ids a.references.rows c.self.invariant.columns any_shape c.args.o (omega (arith, length-row_objects a.shapes.objects a.references.ids a.references.rows c.self.invariant.columns))))
+    ∙ sym (ap (λ (x : Object). x.id) (row_objects-at a.shapes.objects a.slot_table.ids a.slot_table.rows c.self.invariant.columns any_shape c.args.o (omega (arith, length-row_objects a.shapes.objects a.slot_table.ids a.slot_table.rows c.self.invariant.columns))))
     ∙ ap (λ (dump : Dump). (object_at dump c.args.o).id) c.self.view_is

@@ -7,5 +7,5 @@ pub returns : goal.returns
 returns c =
     let a = c.self.inside in
     ap (λ (ids : List ℕ). length ids) c.ids.ensures
-    ∙ sym (length-row_objects a.shapes.objects a.references.ids a.references.rows c.self.invariant.columns)
+    ∙ sym (length-row_objects a.shapes.objects a.slot_table.ids a.slot_table.rows c.self.invariant.columns)
     ∙ ap (λ (dump : Dump). length dump.objects) c.self.view_is

@@ -8,5 +8,5 @@ pub returns-clause-object : goal.returns-clause-object
 returns-clause-object c =
     let a = c.self.inside in
     c.index_of.ensures.first
-    ∙ sym (index_of-row_objects a.shapes.objects c.index-root.result.now.id a.references.ids a.references.rows c.self.invariant.columns)
+    ∙ sym (index_of-row_objects a.shapes.objects c.index-root.result.now.id a.slot_table.ids a.slot_table.rows c.self.invariant.columns)
     ∙ ap (λ (dump : Dump). index_of dump.objects c.index-root.result.now.id) c.self.view_is

@@ -1,7 +1,7 @@
 use Rattle.std.proofs.Common.{◌∙◌, List, map, ap}
 use Rattle.hd_graph.specs.Shapes.{ObjectShape}
-use Rattle.hd_graph.specs.KeptShapes.{ShapeLists, layout_view}
-use Rattle.hd_graph.proofs.KeptLemmas.{class-push}
+use Rattle.hd_graph.specs.PackedShapes.{ShapeLists, layout_view}
+use Rattle.hd_graph.proofs.PackedLemmas.{class-push}
 use Rattle.hd_graph.proofs.shape.Shapes.push_class.Goals as goal
 
 pub returns : goal.returns

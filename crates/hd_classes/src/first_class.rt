@@ -1,0 +1,78 @@
+//! The classes that stand: the first sub-record of their IDs is theirs.
+ghost use Rattle.std.specs.Prelude.{◌≡◌, ◌≤◌, [], length, drop, IfOk, OnOk};
+ghost use Rattle.std.specs.List.{filter_map};
+ghost use Rattle.hd_subs.specs.Views.{sub_view};
+ghost use Rattle.hd_classes.specs.FirstClass.{class_place, HasFirstClasses, NotesOneMore};
+
+use hd_subs::{ClassDump, DumpSubs, Item, Sub};
+use indexmap::{IndexMap, IndexSet};
+use std::alloc::{AllocError, Global};
+
+/// A class object that stands.
+#[derive(Clone, Copy)]
+pub(crate) struct FirstClass<'a> {
+    pub(crate) class: &'a ClassDump,
+    /// Where its tag lies: an offset into the file in bytes.
+    pub(crate) offset: u64,
+}
+
+/// How many sub-records there are up to the last class.
+fn classes_end(list: &DumpSubs) -> usize
+    ensures within { result ≤ length list.now }
+    ensures none_after { filter_map class_place (drop result list.now) ≡ [] }
+{
+    let mut end = list.len();
+    while end > 0 {
+        if let Item::Class(_) = list.get(end - 1).item {
+            return end;
+        }
+        end -= 1;
+    }
+    0
+}
+
+/// Notes the ID of a sub-record's object, and its class if it is the first of its ID.
+fn note_sub<'a>(
+    ids: &mut IndexSet<u64>,
+    classes: &mut IndexMap<u64, FirstClass<'a>>,
+    sub: Sub<'a>,
+) -> Result<(), AllocError>
+    ensures { OnOk result (NotesOneMore (sub_view sub.entry) ids.old.keys classes.old.entries ids.new.keys classes.new.entries) }
+{
+    match sub.item {
+        Item::Root(..) => {}
+        Item::Class(class) => {
+            if ids.insert(class.id)? {
+                let offset = sub.offset;
+                classes.insert(class.id, FirstClass { class, offset })?;
+            }
+        }
+        Item::Instance { id, .. } => {
+            ids.insert(id)?;
+        }
+        Item::ObjArray { id, .. } => {
+            ids.insert(id)?;
+        }
+        Item::PrimArray { id, .. } => {
+            ids.insert(id)?;
+        }
+    }
+    Ok(())
+}
+
+/// The classes that stand, by their IDs, in file order.
+///
+/// Dumps have their classes at the front, so only the IDs of the objects before the last class are noted.
+pub(crate) fn first_classes<'a>(
+    alloc: Global,
+    list: &'a DumpSubs,
+) -> Result<IndexMap<u64, FirstClass<'a>>, AllocError>
+    ensures { IfOk result (λ m. HasFirstClasses list.now m.entries) }
+{
+    let mut ids = IndexSet::new(alloc);
+    let mut classes = IndexMap::new(alloc);
+    for i in 0..classes_end(list) {
+        note_sub(&mut ids, &mut classes, list.get(i))?;
+    }
+    Ok(classes)
+}

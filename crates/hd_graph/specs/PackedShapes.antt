@@ -1,0 +1,53 @@
+-- How shapes are kept: that of a class by its place among the classes, that of an instance by the number of its class.
+use Rattle.std.specs.Prelude.{ℕ, ◌<◌, ◌≤◌, List, [], map, length, All}
+use Rattle.std.specs.List.{slice_index_or}
+use Rattle.hd_graph.specs.declared.shape.ClassShape.{ClassShape}
+use Rattle.hd_graph.specs.declared.layouts.LayoutShape.{LayoutShape}
+use Rattle.hd_graph.specs.declared.shape.PackedShape.{PackedShape}
+use Rattle.hd_graph.specs.declared.shape.PackedShape.TheVariants as kept
+use Rattle.hd_graph.specs.declared.shape.Shape as declared_shape
+use Rattle.hd_graph.specs.declared.shape.Shape.TheVariants as read
+use Rattle.hd_graph.specs.Shapes.{ObjectShape, ObjectArray, PrimitiveArray, ClassObject, Instance}
+
+-- a class's shape
+abbrev pub class_shape_view : ClassShape → ObjectShape
+class_shape_view c = ClassObject c.bytes c.names.items
+
+-- the shape of a class's instances
+abbrev pub layout_view : LayoutShape → ObjectShape
+layout_view l = Instance l.bytes l.names.items l.referent l.kind
+
+-- a shape as it is read
+abbrev pub shape_view : declared_shape.Shape → ObjectShape
+shape_view (read.ObjectArray bytes) = ObjectArray bytes
+shape_view (read.PrimitiveArray element bytes) = PrimitiveArray element bytes
+shape_view (read.Class class) = class_shape_view class.now
+shape_view (read.Instance layout) = layout_view layout.now
+
+-- the shapes of objects by number, and those of the instances of each class that is known
+pub record ShapeLists : Type 0 where
+  pub objects : List ObjectShape
+  pub layouts : List ObjectShape
+
+-- the shape at a place
+abbrev pub shape_at : List ObjectShape → ℕ → ObjectShape
+shape_at shapes place = slice_index_or shapes place (ClassObject 0 [])
+
+-- a shape as it is kept, over the classes and the layouts
+abbrev pub kept_shape : List ClassShape → List LayoutShape → PackedShape → ObjectShape
+kept_shape classes layouts (kept.ObjectArray bytes) = ObjectArray bytes
+kept_shape classes layouts (kept.PrimitiveArray element bytes) = PrimitiveArray element bytes
+kept_shape classes layouts (kept.Class place) = shape_at (map class_shape_view classes) place
+kept_shape classes layouts (kept.Instance class) = shape_at (map layout_view layouts) class
+
+-- a class and a layout have their places among so many
+abbrev pub IsPackedOver : ℕ → ℕ → PackedShape → Type 0
+IsPackedOver n m (kept.ObjectArray bytes) = Unit {0}
+IsPackedOver n m (kept.PrimitiveArray element bytes) = Unit {0}
+IsPackedOver n m (kept.Class place) = place < n
+IsPackedOver n m (kept.Instance class) = class < m
+
+-- shapes over so many classes, no more than there are shapes, and so many layouts
+pub record ArePacked (ks : List PackedShape) (classes layouts : ℕ) : Type 0 where
+  pub over : All (IsPackedOver classes layouts) ks
+  pub few : classes ≤ length ks

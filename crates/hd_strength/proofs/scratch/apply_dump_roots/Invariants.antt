@@ -1,0 +1,10 @@
+use Rattle.std.proofs.Common.{◌≡◌, length}
+use Rattle.hd_strength.specs.Growing.{AreHeld}
+use Rattle.hd_strength.proofs.scratch.apply_dump_roots.Given as goal
+
+-- the roots so far hold their objects
+abbrev pub invariant-loop-r : goal.invariant-loop-r
+invariant-loop-r l = record {
+  count : length l.kept.items ≡ length l.fn.edited.graph.now.objects;
+  held : AreHeld l.fn.edited.graph.now l.fn.edited.front.now l.kept.items l.r;
+}

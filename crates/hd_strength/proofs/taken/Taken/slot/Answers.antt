@@ -1,8 +1,0 @@
-use Rattle.std.proofs.Common.{◌∙◌, ap, ℕ, nat_eq}
-use Rattle.std.specs.List.{list_any}
-use Rattle.hd_strength.specs.Taken.{Takings, is_taken}
-use Rattle.hd_strength.proofs.TakenLemmas.{place_found}
-use Rattle.hd_strength.proofs.taken.Taken.slot.Goals as goal
-
-pub returns : goal.returns
-returns c = place_found c.self.inside.places.keys c.args.o c.args.place c.contains.result c.place_key.ensures.small (c.contains.ensures ∙ ap (λ (k : ℕ). list_any (nat_eq k) c.self.inside.places.keys) c.place_key.ensures.key) ∙ ap (λ (t : Takings). is_taken t c.args.o c.args.place) c.self.view_is
