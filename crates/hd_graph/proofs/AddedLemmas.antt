@@ -7,7 +7,7 @@ use Rattle.hd_terms.specs.declared.Slot.{Slot}
 use Rattle.hd_terms.specs.declared.Slot.TheVariants as slots
 use Rattle.hd_subs.specs.declared.class.ClassDump.{ClassDump}
 use Rattle.hd_subs.specs.Views.{static_view, constant_view, class_view}
-use Rattle.hd_graph.specs.Table.{Table, id_at}
+use Rattle.hd_slots.specs.Table.{Table, id_at}
 use Rattle.hd_graph.specs.Shapes.{ObjectShape, ClassObject}
 use Rattle.hd_graph.specs.ArrayRows.{HasLinks, links_at, values_of_statics, values_of_constants, value_ids, value_names, static_bytes, class_row, class_names, class_weight}
 use Rattle.hd_graph.specs.Building.{Columns, GrowsBy, Adds, columns}

@@ -2,7 +2,7 @@
 use Rattle.std.proofs.Common.{◌≡◌, ◌∙◌, ℕ, List, length, sym, ap, subst}
 use Rattle.hd_terms.specs.declared.IdSize.{IdSize}
 use Rattle.hd_terms.specs.declared.Span.{Span}
-use Rattle.hd_graph.specs.Table.{Table}
+use Rattle.hd_slots.specs.Table.{Table}
 use Rattle.hd_graph.specs.ArrayRows.{IsValueWithin, value_ids}
 use Rattle.hd_graph.specs.Building.{GrowsBy}
 

@@ -23,10 +23,10 @@ use Rattle.hd_terms.specs.Classes.{ClassTable, LayoutField, ResolvedClass, layou
 use Rattle.hd_terms.specs.Dump.{Object, SlotEntry}
 use Rattle.hd_terms.specs.Slots.{strong_slot, field_kind, field_slots, instance_slots}
 use Rattle.hd_terms.specs.Objects.{object_of}
-use Rattle.hd_graph.specs.Table.{HasIdAt}
+use Rattle.hd_slots.specs.Table.{HasIdAt}
 use Rattle.hd_graph.specs.Shapes.{shape_bytes, named_slots, with_kind, referent_kind, HasShape, ComesBefore, IsRising}
 use Rattle.hd_graph.specs.ArrayRows.{placed_fields, value_ids, field_names, layout_names, fitting, instance_entry}
-use Rattle.hd_graph.proofs.CutLemmas.{last_from-push}
+use Rattle.hd_slots.proofs.CutLemmas.{last_from-push}
 use Rattle.hd_graph.proofs.UnresolvedLemmas.{object_of_entry, id-behind}
 
 -- values that fit a layout have its bytes

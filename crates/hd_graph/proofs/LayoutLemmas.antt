@@ -11,7 +11,7 @@ use Rattle.hd_terms.specs.Classes as classes_of
 use Rattle.hd_terms.specs.Classes.{layout_len}
 use Rattle.hd_classes.specs.declared.known.LayoutField.{LayoutField}
 use Rattle.hd_classes.specs.Known.{field_view}
-use Rattle.hd_graph.specs.Table.{Table}
+use Rattle.hd_slots.specs.Table.{Table}
 use Rattle.hd_graph.specs.ArrayRows.{IsValueWithin, placed_fields, value_ids, field_names}
 use Rattle.hd_graph.specs.Building.{GrowsBy}
 use Rattle.hd_graph.proofs.GrownLemmas.{IsOver, grown-over, ids-over, value-over}

@@ -1,7 +1,3 @@
-pub mod CutLemmas
-pub mod CodeLemmas
-pub mod TableLemmas
-pub mod ResolvingLemmas
 pub mod RowSlots
 pub mod ShapeLemmas
 pub mod PackedLemmas

@@ -27,7 +27,7 @@ use Rattle.hd_classes.specs.Known.{Known, known_at, AreClassesOf, IsClassFaultOr
 use Rattle.hd_graph.specs.declared.graph.RootRow.{RootRow}
 use Rattle.hd_graph.specs.declared.number.Tally.{Tally}
 use Rattle.hd_graph.specs.GraphInside.{root_of_row}
-use Rattle.hd_graph.specs.Table.{Table}
+use Rattle.hd_slots.specs.Table.{Table}
 use Rattle.hd_classes.specs.Firsts.{firsts}
 use Rattle.hd_graph.specs.Shapes.{ObjectShape, IsSmall, AreColumns, row_objects, HasShape}
 use Rattle.hd_graph.specs.ArrayRows.{ObjectEntry, KnownBy, object_id, entry_of, entries_of, weight, item_weight, AreWithin, root_of_item, roots_in}

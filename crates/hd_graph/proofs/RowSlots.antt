@@ -11,7 +11,6 @@ use Rattle.hd_terms.specs.declared.Slot.TheVariants as slots
 use Rattle.hd_terms.specs.Dump.{SlotEntry}
 use Rattle.hd_terms.specs.EditedDump.{same_slot}
 use Rattle.hd_terms.specs.Slots.{strong_slot}
-use Rattle.hd_graph.specs.Cuts.{last_from}
 use Rattle.hd_graph.specs.Arrays.{row_slots, row_place}
 
 pub length-row_slots : (i : ℕ) (row : List ℕ) → length (row_slots i row) ≡ length row
@@ -130,16 +129,3 @@ module _ (row : List ℕ) (slot : Slot) where
 
   pub first-place : row_place (length row) slot ≡ position is_it (row_slots 0 row)
   first-place = by_place (row_place (length row) slot) (position is_it (row_slots 0 row)) refl refl
-
--- the last of a row stands at its last place
-pub last-at : (d : ℕ) (row : List ℕ) (k : ℕ) → suc k ≡ length row → last_from d row ≡ get_or row k 0
-last-at d [] k last = absurd (omega arith)
-last-at d (id ∷ []) zero last = refl
-last-at d (id ∷ []) (suc k) last = absurd (omega arith)
-last-at d (id ∷ next ∷ rest) zero last = absurd (omega arith)
-last-at d (id ∷ next ∷ rest) (suc k) last = last-at id (next ∷ rest) k (omega arith)
-
--- the last of no row is what stands for it
-pub last-none : (row : List ℕ) → length row ≡ 0 → last_from 0 row ≡ 0
-last-none [] none = refl
-last-none (id ∷ rest) none = absurd (omega arith)

@@ -18,11 +18,11 @@ use Rattle.hd_terms.specs.Dump.{Object, SlotEntry}
 use Rattle.hd_terms.specs.Slots.{strong_slot, element_slots}
 use Rattle.hd_terms.specs.Classes.{ClassTable}
 use Rattle.hd_terms.specs.Objects.{object_of}
-use Rattle.hd_graph.specs.Table.{HasIdAt}
+use Rattle.hd_slots.specs.Table.{HasIdAt}
 use Rattle.hd_graph.specs.Arrays.{row_slots}
 use Rattle.hd_graph.specs.Shapes.{ObjectArray, row_object}
 use Rattle.hd_graph.specs.ArrayRows.{ObjectEntry, array_row, ids_in, id_count}
-use Rattle.hd_graph.proofs.CutLemmas.{last_from-push}
+use Rattle.hd_slots.proofs.CutLemmas.{last_from-push}
 
 -- the object of an ID, a row and a shape
 abbrev pub object_of_entry : ObjectEntry → Object

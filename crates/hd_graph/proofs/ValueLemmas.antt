@@ -12,7 +12,7 @@ use Rattle.hd_terms.specs.SubRecords.{StaticItem}
 use Rattle.hd_subs.specs.declared.class.Static.{Static}
 use Rattle.hd_subs.specs.declared.class.Constant.{Constant}
 use Rattle.hd_subs.specs.Views.{static_view, constant_view}
-use Rattle.hd_graph.specs.Table.{Table}
+use Rattle.hd_slots.specs.Table.{Table}
 use Rattle.hd_graph.specs.ArrayRows.{values_of_statics, values_of_constants, value_ids, value_names, static_bytes}
 use Rattle.hd_graph.specs.Building.{GrowsBy}
 use Rattle.hd_graph.proofs.GrownLemmas.{IsOver, grown-over, ids-over}

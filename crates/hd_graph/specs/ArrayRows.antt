@@ -17,7 +17,7 @@ use Rattle.hd_terms.specs.declared.Slot.{Slot}
 use Rattle.hd_terms.specs.declared.Slot.TheVariants as slots
 use Rattle.hd_graph.specs.Shapes.{ObjectShape, ObjectArray, PrimitiveArray, ClassObject, Instance}
 use Rattle.hd_classes.specs.Firsts.{firsts}
-use Rattle.hd_graph.specs.Table.{id_at, HasIdAt}
+use Rattle.hd_slots.specs.Table.{id_at, HasIdAt}
 
 -- so many IDs that stand one after another
 abbrev pub ids_in : ℕ → ℕ → List ℕ → List ℕ

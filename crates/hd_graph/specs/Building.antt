@@ -8,7 +8,7 @@ use Rattle.hd_terms.specs.Classes.{ResolvedClass}
 use Rattle.hd_terms.specs.ReadFaults.{fault, IsReadFault}
 use Rattle.hd_classes.specs.Known.{Known}
 use Rattle.hd_graph.specs.Shapes.{ObjectShape}
-use Rattle.hd_graph.specs.Table.{Table}
+use Rattle.hd_slots.specs.Table.{Table}
 use Rattle.hd_graph.specs.ArrayRows.{ObjectEntry, KnownBy, object_ids, entry_of_item, entries_of, item_weight, layout_shape}
 
 -- want of memory, or the fault of the file

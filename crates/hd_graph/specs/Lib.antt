@@ -1,10 +1,3 @@
-pub mod Table
-pub mod Codes
-pub mod Cuts
-pub mod Parts
-pub mod Inside
-pub mod UnresolvedInside
-pub mod Resolving
 pub mod Arrays
 pub mod Shapes
 pub mod PackedShapes
@@ -14,4 +7,3 @@ pub mod Noted
 pub mod Numbering
 pub mod Building
 pub mod Counting
-pub mod IdHash

@@ -11,7 +11,7 @@ use Rattle.hd_terms.specs.Slots.{strong_slot}
 use Rattle.hd_terms.specs.declared.EdgeKind.{EdgeKind}
 use Rattle.hd_terms.specs.declared.EdgeKind.TheVariants as kinds
 use Rattle.hd_terms.specs.EditedDump.{slot_code, same_slot, is_slot}
-use Rattle.hd_graph.specs.Cuts.{last_from}
+use Rattle.hd_slots.specs.Cuts.{last_from}
 use Rattle.hd_graph.specs.Arrays.{row_slots, row_place}
 
 pub data ObjectShape : Type 0 where

@@ -10,7 +10,7 @@ ghost use Rattle.hd_records.specs.Reading.{ReadsRecords};
 ghost use Rattle.hd_classes.specs.Known.{AreClassesOf, known_at};
 ghost use Rattle.std.specs.Arc.{arc_value};
 ghost use Rattle.hd_decode.specs.Bodies.{ReadsBodies};
-ghost use Rattle.hd_graph.specs.Table.{id_at, IsIdWithin};
+ghost use Rattle.hd_slots.specs.Table.{id_at, IsIdWithin};
 ghost use Rattle.hd_graph.specs.ArrayRows.{AreWithin, IsSubWithin, object_ids, array_row, id_count, ids_in, item_weight};
 ghost use Rattle.hd_graph.specs.Building.{IsReadFaultOrMemory, HasNoRows, HasRowsOf, FillsItem, columns, AreLayouts, AreFewAndShort};
 ghost use Rattle.hd_subs.specs.Views.{item_view, sub_view};

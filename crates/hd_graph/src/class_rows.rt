@@ -4,7 +4,7 @@ ghost use Rattle.hd_terms.specs.Types.{is_id_type};
 ghost use Rattle.hd_terms.specs.declared.Slot.TheVariants as slots;
 ghost use Rattle.hd_subs.specs.Views.{static_view, constant_view, class_view};
 ghost use Rattle.hd_graph.specs.Shapes.{ClassObject};
-ghost use Rattle.hd_graph.specs.Table.{id_at, IsIdWithin};
+ghost use Rattle.hd_slots.specs.Table.{id_at, IsIdWithin};
 ghost use Rattle.hd_terms.specs.Records.{id_len};
 ghost use Rattle.hd_graph.specs.ArrayRows.{IsValueWithin, IsClassWithin, HasLinks, links_at, values_of_statics, values_of_constants, value_ids, value_names, static_bytes, class_row, class_names, class_weight};
 ghost use Rattle.hd_graph.specs.Building.{Adds, GrowsBy, columns};

@@ -3,7 +3,7 @@ ghost use Rattle.std.specs.Prelude.{◌≡◌, ◌+◌, ◌-◌, ◌<◌, ◌≤
 ghost use Rattle.hd_terms.specs.Classes as classes_of;
 ghost use Rattle.hd_classes.specs.Known.{field_view, known_at};
 ghost use Rattle.hd_terms.specs.Records.{id_len};
-ghost use Rattle.hd_graph.specs.Table.{id_at, IsIdWithin, HasIdAt};
+ghost use Rattle.hd_slots.specs.Table.{id_at, IsIdWithin, HasIdAt};
 ghost use Rattle.hd_graph.specs.ArrayRows.{IsValueWithin, HasNumber, fitting, placed_fields, value_ids, instance_row, instance_entry};
 ghost use Rattle.hd_graph.specs.PackedShapes.{shape_at};
 ghost use Rattle.hd_graph.specs.Shapes.{ObjectArray};

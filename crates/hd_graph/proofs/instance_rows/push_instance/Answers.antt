@@ -7,7 +7,7 @@ use Rattle.hd_classes.specs.declared.known.LayoutField.{LayoutField}
 use Rattle.hd_classes.specs.Known.{field_view, known_view, known_at}
 use Rattle.hd_graph.specs.Shapes.{ObjectShape}
 use Rattle.hd_graph.specs.PackedShapes.{shape_at}
-use Rattle.hd_graph.specs.Table.{id_at}
+use Rattle.hd_slots.specs.Table.{id_at}
 use Rattle.hd_graph.specs.ArrayRows.{fitting, instance_row, instance_entry, layout_shape}
 use Rattle.hd_graph.specs.Building.{Adds, columns}
 use Rattle.hd_graph.proofs.InstanceLemmas.{fitting-len, fields-le-bytes}

@@ -2,7 +2,7 @@ use Rattle.std.proofs.Common.{ap, arith, length, map}
 use Rattle.std.proofs.lemmas.List.{length-map}
 use Rattle.hd_classes.specs.Known.{field_view}
 use Rattle.hd_graph.specs.PackedShapes.{ShapeLists, shape_at}
-use Rattle.hd_graph.specs.Table.{Table}
+use Rattle.hd_slots.specs.Table.{Table}
 use Rattle.hd_graph.specs.ArrayRows.{placed_fields, value_ids}
 use Rattle.hd_graph.proofs.LayoutLemmas.{placed-few}
 use Rattle.hd_graph.proofs.AddedLemmas.{instance-added}

@@ -1,6 +1,6 @@
 use Rattle.std.proofs.Common.{◌≡◌, ◌∙◌, ℕ, ◌<◌, length, get_or, ap, sym, arith}
 use Rattle.hd_terms.specs.Dump.{Dump, object_at}
-use Rattle.hd_graph.specs.Table.{row_at}
+use Rattle.hd_slots.specs.Table.{row_at}
 use Rattle.hd_graph.specs.Shapes.{row_objects}
 use Rattle.hd_terms.specs.declared.Group.TheVariants as groups
 use Rattle.hd_graph.specs.Shapes.{ObjectShape, shape_group}

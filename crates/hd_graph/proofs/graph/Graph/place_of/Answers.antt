@@ -2,7 +2,7 @@ use Rattle.std.proofs.Common.{◌≡◌, ◌∙◌, ℕ, ◌<◌, ◌^◌, List,
 use Rattle.std.specs.List.{position, slice_get}
 use Rattle.hd_terms.specs.Dump.{Dump, object_at, SlotEntry}
 use Rattle.hd_terms.specs.EditedDump.{same_slot}
-use Rattle.hd_graph.specs.Table.{row_at}
+use Rattle.hd_slots.specs.Table.{row_at}
 use Rattle.hd_graph.specs.Shapes.{ObjectShape, HasShape, HasFewNames, shape_place, shape_slots, row_objects}
 use Rattle.hd_graph.specs.PackedShapes.{shape_view}
 use Rattle.std.proofs.lemmas.Option.{get_or_from_slice_get}

@@ -4,7 +4,7 @@ use Rattle.hd_terms.specs.Dump.{Dump, object_at, no_object, SlotEntry}
 use Rattle.hd_terms.specs.Edges.{index_of}
 use Rattle.hd_terms.specs.declared.Slot.{Slot}
 use Rattle.hd_terms.specs.declared.EdgeKind.{EdgeKind}
-use Rattle.hd_graph.specs.Table.{row_at}
+use Rattle.hd_slots.specs.Table.{row_at}
 use Rattle.hd_graph.specs.Shapes.{ObjectShape, HasShape, IsNamedAt, slot_name, slot_kind, row_objects}
 use Rattle.hd_graph.specs.PackedShapes.{shape_view}
 use Rattle.std.proofs.lemmas.Option.{get_or_from_slice_get}

@@ -1,0 +1,2 @@
+pub mod IdHash
+pub mod Noted

@@ -1,0 +1,4 @@
+pub mod CutLemmas
+pub mod CodeLemmas
+pub mod TableLemmas
+pub mod ResolvingLemmas

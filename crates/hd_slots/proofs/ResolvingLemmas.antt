@@ -1,0 +1,140 @@
+-- Lemmas on resolving: offsets of IDs become numbers of objects.
+use Rattle.std.proofs.Common.{◌≡◌, ◌≢◌, ◌∙◌, ℕ, ◌+◌, ◌-◌, ◌<◌, ◌≤◌, ◌^◌, inl, inr, List, [], ◌∷◌, ◌++◌, length, map, get_or, take, drop, set, Option, Some, None, refl, sym, ap, subst, arith, All, eqb, eqb-true, ne_eqb, length-append, add-zero}
+use Rattle.std.specs.List.{position}
+use Rattle.std.specs.Option.{option_map_or}
+use Rattle.std.proofs.lemmas.Bool.{cases_eq, lt-ltb, le-ltb}
+use Rattle.std.proofs.lemmas.List.{take_more, take_more_set, map-append, drop-set-lt, get_or-drop}
+use Rattle.std.proofs.lemmas.List.Elements.{All-head, All-tail, All-push, All-nil, All-cons}
+use Rattle.std.proofs.lemmas.List.Quantifiers.{position-Some}
+use Rattle.std.proofs.lemmas.Grind.{drop_more_same}
+use Rattle.hd_terms.specs.declared.IdSize.{IdSize}
+use Rattle.hd_terms.specs.declared.IdSize.TheVariants as sizes
+use Rattle.hd_slots.specs.Table.{null_code, id_at, IsIdWithin}
+use Rattle.hd_slots.specs.Codes.{id_of_code, target_of_code, IsCode, IsLonger}
+use Rattle.hd_slots.specs.Resolving.{mark, found_for, found_code, id_of_found, IsFound}
+use Rattle.hd_slots.proofs.CodeLemmas.{null-nowhere, null-code, absent-code, id-object, codes-longer, ids-longer}
+
+module _ (ids bytes : List ℕ) (size : IdSize) where
+  -- the ID of a number that is an object's, and of a marked offset
+  found-object : (item : ℕ) → length ids < 2 ^ 31 → item < length ids → id_of_found ids bytes size item ≡ get_or ids item 0
+  found-object item few lt = rw (ne_eqb item null_code (omega arith), lt-ltb item (length ids) lt) refl
+
+  found-marked : (item : ℕ) → item ≢ null_code → length ids ≤ item → id_of_found ids bytes size item ≡ id_at bytes size (item - mark)
+  found-marked item other le = rw (ne_eqb item null_code other, le-ltb item (length ids) le) refl
+
+  -- what is found for an ID stands for it
+  module _ (few : length ids < 2 ^ 31) (small : length bytes < 2 ^ 31) (no_null : All (λ id. 0 < id) ids) (offset : ℕ) (within : IsIdWithin size (length bytes) offset) where
+    abbrev id : ℕ
+    id = id_at bytes size offset
+
+    past : (item : ℕ) → length ids ≤ item → target_of_code ids item ≡ None
+    past item le = rw (le-ltb item (length ids) le) refl
+
+    low : offset < 2 ^ 31 - 1
+    low = by_size size within
+      where
+        by_size : (s : IdSize) → IsIdWithin s (length bytes) offset → offset < 2 ^ 31 - 1
+        by_size sizes.Four h = omega arith
+        by_size sizes.Eight h = omega arith
+
+    abbrev Found : ℕ → Type 0
+    Found item = IsFound ids bytes size item × (id_of_found ids bytes size item ≡ id)
+
+    null-found : id ≡ 0 → Found (found_code ids bytes size offset)
+    null-found null =
+        let code : found_for ids offset id ≡ null_code = ap (found_for ids offset) null in
+        let is : IsFound ids bytes size null_code = record { target = null-nowhere ids no_null ∙ sym (past null_code (omega arith)); known = inl refl } in
+        subst Found (sym code) (is, sym null)
+
+    module _ (some : id ≢ 0) where
+      of_position : (p : Option ℕ) → position (λ x. eqb id x) ids ≡ p → found_code ids bytes size offset ≡ option_map_or (λ (o : ℕ). o) p (mark + offset)
+      of_position p is = rw (ne_eqb id 0 some, is) refl
+
+      object-found : (o : ℕ) → position (λ x. eqb id x) ids ≡ Some o → Found (found_code ids bytes size offset)
+      object-found o is =
+          let at = position-Some (λ x. eqb id x) ids o 0 is in
+          let stands : id_of_found ids bytes size o ≡ id = found-object o few at.0 ∙ sym (eqb-true id (get_or ids o 0) at.1) in
+          let found : IsFound ids bytes size o = record {
+            target = ap (λ (i : ℕ). position (λ x. eqb i x) ids) stands ∙ is ∙ rw (lt-ltb o (length ids) at.0) refl;
+            known = inr (inl at.0);
+          } in
+          subst Found (sym (of_position (Some o) is)) (found, stands)
+
+      marked-found : position (λ x. eqb id x) ids ≡ None → Found (found_code ids bytes size offset)
+      marked-found is =
+          let back : mark + offset - mark ≡ offset = omega arith in
+          let stands : id_of_found ids bytes size (mark + offset) ≡ id = found-marked (mark + offset) (λ e. absurd (omega (arith, e, low))) (omega arith) ∙ ap (id_at bytes size) back in
+          let found : IsFound ids bytes size (mark + offset) = record {
+            target = ap (λ (i : ℕ). position (λ x. eqb i x) ids) stands ∙ is ∙ sym (past (mark + offset) (omega arith));
+            known = inr (inr (omega arith, (λ e. absurd (omega (arith, e, low))), subst (IsIdWithin size (length bytes)) (sym back) within));
+          } in
+          subst Found (sym (of_position None is)) (found, stands)
+
+      by_position : (p : Option ℕ) → position (λ x. eqb id x) ids ≡ p → Found (found_code ids bytes size offset)
+      by_position (Some o) is = object-found o is
+      by_position None is = marked-found is
+
+    pub found-is : Found (found_code ids bytes size offset)
+    found-is = elim (cases_eq id 0) [ inl null ↦ null-found null | inr some ↦ by_position some (position (λ x. eqb id x) ids) refl ]
+
+  -- and so for all offsets
+  pub all-found : length ids < 2 ^ 31 → length bytes < 2 ^ 31 → All (λ id. 0 < id) ids → (offsets : List ℕ) → All (IsIdWithin size (length bytes)) offsets
+      → All (IsFound ids bytes size) (map (found_code ids bytes size) offsets) × (map (id_of_found ids bytes size) (map (found_code ids bytes size) offsets) ≡ map (id_at bytes size) offsets)
+  all-found few small no_null [] h = (All-nil (IsFound ids bytes size), refl)
+  all-found few small no_null (p ∷ offsets) h =
+      let here = found-is few small no_null p (All-head (IsIdWithin size (length bytes)) p offsets h) in
+      let more = all-found few small no_null offsets (All-tail (IsIdWithin size (length bytes)) p offsets h) in (
+        All-cons (IsFound ids bytes size) (found_code ids bytes size p) (map (found_code ids bytes size) offsets) here.0 more.0,
+        ap (λ (x : ℕ). x ∷ map (id_of_found ids bytes size) (map (found_code ids bytes size) offsets)) here.1 ∙ ap (λ (xs : List ℕ). id_at bytes size p ∷ xs) more.1,
+      )
+
+  -- the numbers before an index are done, those from it on are as they were found
+  pub record ArePackedSoFar (before items absent : List ℕ) (i : ℕ) : Type 0 where
+    pub codes : All (IsCode ids absent) (take i items)
+    pub ids_are : map (id_of_code ids absent) (take i items) ≡ map (id_of_found ids bytes size) (take i before)
+    pub rest : drop i items ≡ drop i before
+    pub few : length absent ≤ i
+
+  module _ (before items absent : List ℕ) (i : ℕ) (h : ArePackedSoFar before items absent i) (lt : i < length items) (lt' : i < length before) where
+    -- the number at the index is as it was found
+    pub as-found : get_or items i 0 ≡ get_or before i 0
+    as-found =
+        ap (λ (n : ℕ). get_or items n 0) (sym (add-zero i)) ∙ sym (get_or-drop i items 0 0) ∙ ap (λ (xs : List ℕ). get_or xs 0 0) h.rest ∙ get_or-drop i before 0 0 ∙ ap (λ (n : ℕ). get_or before n 0) (add-zero i)
+
+    abbrev item : ℕ
+    item = get_or items i 0
+
+    -- it becomes this number
+    pub becomes : (longer : List ℕ) (code : ℕ) → IsLonger absent longer → IsCode ids longer code → id_of_code ids longer code ≡ id_of_found ids bytes size item → ArePackedSoFar before (set items i code) longer (i + 1)
+    becomes longer code grown is stands = record {
+      codes = rw (take_more_set items i code lt) (All-push (IsCode ids longer) (take i items) code (subst (λ (xs : List ℕ). All (IsCode ids xs) (take i items)) (sym grown.is) (codes-longer ids absent grown.more (take i items) h.codes)) is);
+      ids_are =
+          ap (map (id_of_code ids longer)) (take_more_set items i code lt) ∙ map-append (id_of_code ids longer) (take i items) (code ∷ [])
+          ∙ ap (λ (xs : List ℕ). xs ++ id_of_code ids longer code ∷ []) (ap (λ (ys : List ℕ). map (id_of_code ids ys) (take i items)) grown.is ∙ ids-longer ids absent grown.more (take i items) h.codes ∙ h.ids_are)
+          ∙ ap (λ (x : ℕ). map (id_of_found ids bytes size) (take i before) ++ x ∷ []) (stands ∙ ap (id_of_found ids bytes size) as-found)
+          ∙ sym (map-append (id_of_found ids bytes size) (take i before) (get_or before i 0 ∷ []))
+          ∙ ap (map (id_of_found ids bytes size)) (sym (take_more before i 0 lt'));
+      rest = drop-set-lt (i + 1) items i code (omega arith) ∙ drop_more_same items before i h.rest;
+      few = let long : length longer ≡ length absent + length grown.more = ap length grown.is ∙ length-append absent grown.more in omega (arith, h.few, grown.one, long);
+    }
+
+  -- a number that isn't marked is a number as it is
+  pub unmarked : (absent : List ℕ) (item : ℕ) → length ids < 2 ^ 31 → All (λ id. 0 < id) ids → IsFound ids bytes size item → ((mark ≤ item) → item ≡ null_code)
+      → IsCode ids absent item × (id_of_code ids absent item ≡ id_of_found ids bytes size item)
+  unmarked absent item few no_null found plain = elim found.known [
+    | inl null ↦ rw null (null-code ids absent (omega arith) no_null, refl)
+    | inr (inl lt) ↦
+        let same : id_of_code ids absent item ≡ id_of_found ids bytes size item = id-object ids absent item (omega arith) lt ∙ sym (found-object item few lt) in
+        (record { target = rw same found.target; known = inr (omega arith) }, same)
+    | inr (inr m) ↦ absurd (m.1 (plain m.0))
+  ]
+
+  -- a marked one gets the number of the next absent ID
+  pub marked : (absent : List ℕ) (item : ℕ) → length ids < 2 ^ 31 → length ids + length absent < 2 ^ 32 - 1 → IsFound ids bytes size item → mark ≤ item → item ≢ null_code
+      → IsCode ids (absent ++ id_at bytes size (item - mark) ∷ []) (length ids + length absent)
+      × (id_of_code ids (absent ++ id_at bytes size (item - mark) ∷ []) (length ids + length absent) ≡ id_of_found ids bytes size item)
+  marked absent item few room found high other =
+      let stands : id_of_found ids bytes size item ≡ id_at bytes size (item - mark) = found-marked item other (omega arith) in
+      let none : position (λ x. eqb (id_at bytes size (item - mark)) x) ids ≡ None = ap (λ (id : ℕ). position (λ x. eqb id x) ids) (sym stands) ∙ found.target ∙ rw (le-ltb item (length ids) (omega arith)) refl in
+      let code = absent-code ids absent (id_at bytes size (item - mark)) room none in
+      (code.0, code.1 ∙ sym stands)

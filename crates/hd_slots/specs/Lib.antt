@@ -1,0 +1,7 @@
+pub mod Table
+pub mod Codes
+pub mod Cuts
+pub mod Parts
+pub mod Inside
+pub mod UnresolvedInside
+pub mod Resolving

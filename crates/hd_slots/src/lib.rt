@@ -1,0 +1,10 @@
+//! The references of all objects of a heap dump, a row for each object: first as offsets of their IDs in the file, then as
+//! numbers of objects.
+#![tactic(auto)]
+
+mod resolving;
+mod slot_table;
+mod unresolved;
+
+pub use slot_table::SlotTable;
+pub use unresolved::UnresolvedSlots;

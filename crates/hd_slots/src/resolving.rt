@@ -1,0 +1,125 @@
+//! Resolving references: each offset of an ID becomes the number of the object with that ID.
+ghost use Rattle.std.specs.Prelude.{◌≡◌, ◌+◌, ◌<◌, ◌≤◌, ◌-◌, ◌^◌, length, map, All, IfOk, OnOk};
+ghost use Rattle.hd_slots.specs.Table.{id_at, IsIdWithin};
+ghost use Rattle.hd_slots.specs.Codes.{IsCode, IsLonger, id_of_code};
+ghost use Rattle.hd_slots.specs.Resolving.{found_code, id_of_found, IsFound, AreCodesOf};
+
+use crate::slot_table::NULL;
+use hd_ids::ObjectIds;
+use hd_terms::IdSize;
+use rayon::prelude::par_for_each_mut;
+use std::alloc::{AllocError, Global};
+use std::thread::Threads;
+
+/// Marks the offset of an ID that is no object's. Numbers of objects and offsets into the file are below it.
+const ABSENT: u32 = 0x8000_0000;
+
+/// The number of the object whose ID lies at an offset of the file, `NULL` for the ID 0, and the marked offset where no object
+/// has the ID.
+fn found(ids: &ObjectIds, id_size: IdSize, bytes: &[u8], offset: u32) -> u32
+    requires within { IsIdWithin id_size (length bytes.now) offset }
+    requires small { length bytes.now < 2 ^ 31 }
+    requires few { length ids.now < 2 ^ 31 }
+    ensures { result ≡ found_code ids.now bytes.now id_size offset }
+{
+    let id = id_size.read(&bytes[offset as usize..]);
+    if id == 0 {
+        return NULL;
+    }
+    match ids.index_of(id) {
+        Some(object) => object as u32,
+        None => ABSENT + offset,
+    }
+}
+
+/// Turns offsets of IDs into what is found there, on all processors.
+fn find_objects<R: Threads + Sync>(
+    rt: &R,
+    ids: &ObjectIds,
+    id_size: IdSize,
+    bytes: &[u8],
+    items: &mut [u32],
+)
+    requires within { All (IsIdWithin id_size (length bytes.now)) items.old }
+    requires small { length bytes.now < 2 ^ 31 }
+    requires few { length ids.now < 2 ^ 31 }
+    ensures { items.new ≡ map (found_code ids.now bytes.now id_size) items.old }
+{
+    par_for_each_mut(
+        rt,
+        items,
+        |_, item: &mut u32|
+            requires { IsIdWithin id_size (length bytes.now) item.now × (length bytes.now < 2 ^ 31) × (length ids.now < 2 ^ 31) }
+            ensures { item.exit.now ≡ found_code ids.entry.now bytes.entry.now id_size item.entry.now }
+        { *item = found(ids, id_size, bytes, *item) },
+    );
+}
+
+/// The number for what was found: that itself, or for a marked offset the next behind those of the objects and of the absent
+/// IDs so far, of which the ID at the offset is one from then on.
+fn number_for(
+    ids: &[u64],
+    id_size: IdSize,
+    bytes: &[u8],
+    absent: &mut Vec<u64>,
+    item: u32,
+) -> Result<u32, AllocError>
+    requires found { IsFound ids.now bytes.now id_size item }
+    requires few { length ids.now < 2 ^ 31 }
+    requires no_null { All (λ id. 0 < id) ids.now }
+    requires room { length ids.now + length absent.old.items < 2 ^ 32 - 1 }
+    ensures code { IfOk result (λ code. IsCode ids.now absent.new.items code × (id_of_code ids.now absent.new.items code ≡ id_of_found ids.now bytes.now id_size item)) }
+    ensures kept { OnOk result (IsLonger absent.old.items absent.new.items) }
+{
+    if item < ABSENT || item == NULL {
+        return Ok(item);
+    }
+    let offset = (item - ABSENT) as usize;
+    let code = (ids.len() + absent.len()) as u32;
+    absent.push(id_size.read(&bytes[offset..]))?;
+    Ok(code)
+}
+
+/// Keeps the IDs that are no object's, and gives each a number behind those of the objects.
+fn keep_absent(
+    alloc: Global,
+    ids: &[u64],
+    id_size: IdSize,
+    bytes: &[u8],
+    items: &mut [u32],
+) -> Result<Vec<u64>, AllocError>
+    requires found { All (IsFound ids.now bytes.now id_size) items.old }
+    requires few { length ids.now < 2 ^ 31 }
+    requires no_null { All (λ id. 0 < id) ids.now }
+    requires room { length ids.now + length items.old < 2 ^ 32 }
+    ensures { IfOk result (λ absent. AreCodesOf ids.now (map (id_of_found ids.now bytes.now id_size) items.old) items.new absent.items) }
+{
+    let mut absent = Vec::new(alloc);
+    for i in 0..items.len() {
+        let code = number_for(ids, id_size, bytes, &mut absent, items[i])?;
+        items[i] = code;
+    }
+    Ok(absent)
+}
+
+/// Turns offsets of IDs into numbers, and answers the IDs that are no object's.
+pub(crate) fn resolve_offsets<R: Threads + Sync>(
+    rt: &R,
+    alloc: Global,
+    ids: &ObjectIds,
+    id_size: IdSize,
+    bytes: &[u8],
+    items: &mut [u32],
+) -> Result<Vec<u64>, AllocError>
+    requires within { All (IsIdWithin id_size (length bytes.now)) items.old }
+    requires small { length bytes.now < 2 ^ 31 }
+    requires few { length ids.now < 2 ^ 31 }
+    requires no_null { All (λ id. 0 < id) ids.now }
+    requires room { length ids.now + length items.old < 2 ^ 32 }
+    ensures codes { IfOk result (λ absent. AreCodesOf ids.now (map (id_at bytes.now id_size) items.old) items.new absent.items) }
+    ensures same_len { length items.new ≡ length items.old }
+{
+    find_objects(rt, ids, id_size, bytes, items);
+    let absent = keep_absent(alloc, ids.as_slice(), id_size, bytes, items)?;
+    Ok(absent)
+}

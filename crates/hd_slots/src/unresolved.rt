@@ -1,0 +1,124 @@
+//! The references of all objects as the file has them: the offset of each ID, row by row.
+ghost use Rattle.std.specs.Prelude.{◌≡◌, ◌+◌, ◌<◌, ◌-◌, ◌^◌, [], ◌∷◌, ◌++◌, length, All, IfOk, OnOk, IsTrue, ◌↔◌, Some, slice_get};
+ghost use Rattle.hd_terms.specs.Records.{id_len};
+ghost use Rattle.hd_slots.specs.Table.{id_at, IsIdWithin};
+
+use crate::resolving::resolve_offsets;
+use crate::slot_table::SlotTable;
+use hd_ids::ObjectIds;
+use hd_terms::IdSize;
+use std::alloc::{AllocError, Global};
+use std::marker::Model;
+use std::thread::Threads;
+
+/// The references of objects as the file has them: for each object a row of IDs, each kept as its offset in the file, in four
+/// bytes.
+#[derive(Drop)]
+pub struct UnresolvedSlots<'a> {
+    bytes: &'a [u8],
+    id_size: IdSize,
+    ids: ObjectIds,
+    starts: Vec<u32>,
+    offsets: Vec<u32>,
+}
+
+impl<'a> Model for UnresolvedSlots<'a> {
+    ghost use Rattle.hd_slots.specs.Table.{Table};
+
+    ghost Value = { Table };
+
+    ghost use Rattle.hd_slots.specs.UnresolvedInside.{table_of, IsUnresolved};
+
+    ghost view = { table_of };
+
+    ghost invariant = { IsUnresolved };
+}
+
+impl<'a> UnresolvedSlots<'a> {
+    /// No rows yet, over the objects of these IDs, in the order of their numbers.
+    pub fn new(
+        alloc: Global,
+        bytes: &'a [u8],
+        id_size: IdSize,
+        ids: ObjectIds,
+    ) -> Result<UnresolvedSlots<'a>, AllocError>
+        requires small { length bytes.now < 2 ^ 31 }
+        requires few { length ids < 2 ^ 31 }
+        requires no_null { All (λ id. 0 < id) ids }
+        ensures { IfOk result (λ t. t ≡ record { bytes = bytes.now; size = id_size; ids = ids; rows = []; filling = []; count = 0 }) }
+    {
+        let mut starts = Vec::new(alloc);
+        starts.push(0)?;
+        Ok(UnresolvedSlots {
+            bytes,
+            id_size,
+            ids,
+            starts,
+            offsets: Vec::new(alloc),
+        })
+    }
+
+    /// The size of an identifier in the file, which has fewer than 2^31 bytes.
+    pub fn id_size(&self) -> IdSize
+        ensures size { result ≡ self.now.size }
+        ensures small { length self.now.bytes < 2 ^ 31 }
+    {
+        self.id_size
+    }
+
+    /// The bytes of an identifier, 4 or 8, in a file that has fewer than 2^31 bytes.
+    pub fn id_len(&self) -> u32
+        ensures len { result ≡ id_len self.now.size }
+        ensures small { length self.now.bytes < 2 ^ 31 }
+    {
+        match self.id_size {
+            IdSize::Four => 4,
+            IdSize::Eight => 8,
+        }
+    }
+
+    /// Adds the ID at an offset of the file, 0 for null, to the row that is being filled.
+    pub fn push(&mut self, offset: u64) -> Result<(), AllocError>
+        requires within { IsIdWithin self.old.size (length self.old.bytes) offset }
+        requires room { length self.old.ids + self.old.count < 2 ^ 32 - 1 }
+        ensures { OnOk result (self.new ≡ record self.old { filling = self.old.filling ++ id_at self.old.bytes self.old.size offset ∷ []; count = self.old.count + 1 }) }
+    {
+        self.offsets.push(offset as u32)?;
+        Ok(())
+    }
+
+    /// Ends the row that is being filled, and begins the next.
+    pub fn end_row(&mut self) -> Result<(), AllocError>
+        ensures { OnOk result (self.new ≡ record self.old { rows = self.old.rows ++ self.old.filling ∷ []; filling = [] }) }
+    {
+        let start = self.offsets.len() as u32;
+        self.starts.push(start)?;
+        Ok(())
+    }
+
+    /// Whether the next row is that of the object with an ID.
+    pub fn is_next(&self, id: u64) -> bool
+        ensures { IsTrue result ↔ (slice_get self.now.ids (length self.now.rows) ≡ Some id) }
+    {
+        let next = self.starts.len() - 1;
+        let ids = self.ids.as_slice();
+        next < ids.len() && ids[next] == id
+    }
+
+    /// The rows by numbers of objects, which are looked for on all processors.
+    pub fn resolve<R: Threads + Sync>(self, rt: &R, alloc: Global) -> Result<SlotTable, AllocError>
+        ensures { IfOk result (λ t. t ≡ record { ids = self.entry.ids; rows = self.entry.rows }) }
+    {
+        let mut items = self.offsets;
+        let absent = resolve_offsets(
+            rt,
+            alloc,
+            &self.ids,
+            self.id_size,
+            self.bytes,
+            items.as_mut_slice(),
+        )?;
+        let slot_table = SlotTable::new(self.ids, self.starts, items, absent);
+        Ok(slot_table)
+    }
+}
