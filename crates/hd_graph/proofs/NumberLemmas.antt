@@ -2,12 +2,10 @@
 use Rattle.std.proofs.Common.{◌≡◌, ◌∙◌, ℕ, ◌+◌, ◌<◌, ◌≤◌, inl, inr, List, [], ◌∷◌, ◌++◌, length, map, take, drop, Option, Some, None, Bool, true, false, ◌&&◌, ◌||◌, cond, eqb, eq-eqb, ne_eqb, refl, sym, ap, subst, arith, All, append_assoc}
 use Rattle.std.specs.Prelude.{count_by, not}
 use Rattle.std.specs.Option.{option_map}
-use Rattle.std.specs.List.{list_any, filter_map, cons_option, slice_get, IsDistinct}
-use Rattle.std.specs.Cmp.{nat_eq_equiv}
+use Rattle.std.specs.List.{list_any, filter_map, cons_option, slice_get}
 use Rattle.std.proofs.lemmas.List.{append-nil, map-append, take_more, take-append-drop, length-take}
 use Rattle.std.proofs.lemmas.List.Elements.{filter_map-append, All-push, All-nil, All-head, All-tail}
 use Rattle.std.proofs.lemmas.List.Sums.{sum_by-append, count_by-le-length}
-use Rattle.std.proofs.lemmas.Map.Keys.{IsDistinct-push}
 use Rattle.std.proofs.lemmas.Option.{get_or_from_slice_get, slice_get_within}
 use Rattle.hd_terms.specs.declared.IdSize.{IdSize}
 use Rattle.hd_terms.specs.declared.errors.Cause.TheVariants as causes
@@ -21,7 +19,8 @@ use Rattle.hd_graph.specs.declared.number.Tally.{Tally}
 use Rattle.hd_graph.specs.GraphInside.{root_of_row}
 use Rattle.hd_graph.specs.ArrayRows.{KnownBy, object_id, roots_in}
 use Rattle.hd_classes.specs.Firsts.{firsts, firsts_from}
-use Rattle.hd_graph.specs.Noted.{is_noted, NotesId}
+use Rattle.hd_ids.specs.Noted.{is_noted}
+use Rattle.hd_graph.specs.Noted.{NotesId}
 use Rattle.hd_graph.specs.Numbering.{is_size_mismatch, is_opaque, object_fault, object_faults, IsNumbered, NotesObject, IsNullIdOrMemory, IsObjectStop, memory, null, size_mismatch, StopsAt, IsObjectFaultOrMemory}
 use Rattle.hd_classes.proofs.FirstLemmas.{first_of_each-firsts, firsts-push, firsts_from-append, firsts-le, is_known, if_new, known-map, filter_map-le}
 use Rattle.hd_graph.proofs.RepeatLemmas.{noted-push, repeats-le}
@@ -72,8 +71,7 @@ module _ (known : KnownBy) (size : IdSize) where
   opaque_one p = is_opaque known p.1.item
 
   pub begin : IsNumbered known size [] [] [] (record { repeated = 0; opaque = 0 })
-  unfolding IsDistinct
-  begin = record { ids_are = refl; known_ids = λ id. refl; repeated_is = refl; opaque_is = refl; roots_are = refl; no_null = All-nil (λ id. 0 < id); distinct = tt; no_fault = refl }
+  begin = record { ids_are = refl; known_ids = λ id. refl; repeated_is = refl; opaque_is = refl; roots_are = refl; no_null = All-nil (λ id. 0 < id); no_fault = refl }
 
   -- a root
   pub root-push : (front : List Sub) (ids : List ℕ) (roots : List RootRow) (tally : Tally) (h : IsNumbered known size front ids roots tally) (at : ℕ) (row : RootRow)
@@ -89,7 +87,6 @@ module _ (known : KnownBy) (size : IdSize) where
         opaque_is = h.opaque_is ∙ ap (λ (xs : List (ℕ × Sub)). count_by opaque_one xs) (sym stand);
         roots_are = map-append root_of_row roots (row ∷ []) ∙ ap (λ xs. xs ++ root_of_row row ∷ []) h.roots_are ∙ sym (filter_map-append _ front (s ∷ []));
         no_null = h.no_null;
-        distinct = h.distinct;
         no_fault = ap (λ (xs : List (ℕ × Sub)). filter_map (object_fault known size) xs) stand ∙ h.no_fault;
       }
 
@@ -102,10 +99,6 @@ module _ (known : KnownBy) (size : IdSize) where
     case-positive : (b : Bool) → All (λ k. 0 < k) ids → 0 < id → All (λ k. 0 < k) (cond b ids (ids ++ id ∷ []))
     case-positive true all pos = all
     case-positive false all pos = All-push (λ k. 0 < k) ids id all pos
-
-    case-distinct : (b : Bool) → list_any (λ k. eqb id k) ids ≡ b → IsDistinct eqb ids → IsDistinct eqb (cond b ids (ids ++ id ∷ []))
-    case-distinct true e d = d
-    case-distinct false e d = IsDistinct-push nat_eq_equiv ids id d e
 
   -- whether an ID is noted is whether an object of it stands before
   noted-is : (front : List Sub) (ids : List ℕ) (roots : List RootRow) (tally : Tally) → IsNumbered known size front ids roots tally → (s : Sub) (id : ℕ) → is_noted ids id ≡ is_known sub_key (object_subs front) (id, s)
@@ -150,7 +143,6 @@ module _ (known : KnownBy) (size : IdSize) where
             ∙ ap (λ (xs : List (ℕ × Sub)). count_by opaque_one xs) (sym stand);
         roots_are = h.roots_are ∙ sym (append-nil (roots_in front)) ∙ ap (λ xs. roots_in front ++ xs) (sym no_root) ∙ sym (filter_map-append _ front (s ∷ []));
         no_null = rw notes.noted.noted (case-positive ids id b h.no_null notes.some);
-        distinct = rw notes.noted.noted (case-distinct ids id b refl h.distinct);
         no_fault = ap (λ (xs : List (ℕ × Sub)). filter_map (object_fault known size) xs) stand
             ∙ filter_map-append (object_fault known size) (standing_subs front) (if_new sub_key b (id, s))
             ∙ ap (λ (fs : List ReadFault). fs ++ filter_map (object_fault known size) (if_new sub_key b (id, s))) h.no_fault

@@ -10,6 +10,7 @@ use Rattle.hd_terms.specs.Records.{id_len}
 use Rattle.hd_terms.specs.SubRecords.{ConstantItem, StaticItem, ClassItem, Item, ObjArray, PrimArray, Sub}
 use Rattle.hd_terms.specs.SubRecords as subs
 use Rattle.hd_terms.specs.Types.{element_len, is_id_type, value_len}
+use Rattle.hd_subs.specs.Layout.{class_offset, array_class_offset}
 use Rattle.hd_terms.specs.FirstRecords.{id_of_item}
 use Rattle.hd_terms.specs.Classes.{LayoutField, ResolvedClass, layout_len}
 use Rattle.hd_terms.specs.Dump.{Root}
@@ -180,9 +181,9 @@ pub record HasLinks (bytes : List ℕ) (size : IdSize) (place : ℕ) (c : ClassI
 -- the serial number, in an array behind its count too
 abbrev pub IsItemWithin : IdSize → List ℕ → ℕ → Item → Type 0
 IsItemWithin size bytes at (subs.Root kind id) = Unit {0}
-IsItemWithin size bytes at (subs.Class c) = IsClassWithin size (length bytes) c × HasLinks bytes size (at + 5 + id_len size) c
-IsItemWithin size bytes at (subs.Instance id class values) = (values.start + values.len ≤ length bytes) × HasIdAt bytes size (at + 5 + id_len size) class
-IsItemWithin size bytes at (ObjArray id class elements) = (elements.start + elements.len ≤ length bytes) × HasIdAt bytes size (at + 9 + id_len size) class
+IsItemWithin size bytes at (subs.Class c) = IsClassWithin size (length bytes) c × HasLinks bytes size (class_offset size at) c
+IsItemWithin size bytes at (subs.Instance id class values) = (values.start + values.len ≤ length bytes) × HasIdAt bytes size (class_offset size at) class
+IsItemWithin size bytes at (ObjArray id class elements) = (elements.start + elements.len ≤ length bytes) × HasIdAt bytes size (array_class_offset size at) class
 IsItemWithin size bytes at (PrimArray id element count) = count * element_len element ≤ length bytes
 
 abbrev pub IsSubWithin : IdSize → List ℕ → Sub → Type 0

@@ -1,15 +1,13 @@
 -- Noting IDs one after another, and counting those that were noted before.
-use Rattle.std.specs.Prelude.{◌≡◌, ℕ, ◌+◌, ◌==◌, Bool, if◌then◌else◌, List, [], ◌∷◌, ◌++◌}
+use Rattle.std.specs.Prelude.{◌≡◌, ℕ, ◌+◌, if◌then◌else◌, List}
 use Rattle.std.specs.List.{list_any}
 use Rattle.hd_terms.specs.FirstRecords.{repeats}
-
--- an ID is one of these
-abbrev pub is_noted : List ℕ → ℕ → Bool
-is_noted ids id = list_any (λ k. id == k) ids
+use Rattle.hd_ids.specs.Noted.{is_noted}
+use Rattle.hd_ids.specs.Noted as ids_noted
 
 -- an ID is noted, and counted if it was noted before
 pub record NotesId (id : ℕ) (ids : List ℕ) (repeated : ℕ) (ids' : List ℕ) (repeated' : ℕ) : Type 0 where
-  pub noted : ids' ≡ if is_noted ids id then ids else ids ++ id ∷ []
+  pub noted : ids' ≡ ids_noted.noted ids id
   pub counted : repeated' ≡ repeated + (if is_noted ids id then 1 else 0)
 
 -- the keys of elements are noted, and it's counted how many of them were noted before

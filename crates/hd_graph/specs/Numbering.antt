@@ -1,7 +1,7 @@
 -- What numbering the objects comes to.
-use Rattle.std.specs.Prelude.{◌≡◌, nat_eq, ◌⊎◌, ◌<◌, ◌==◌, ◌+◌, ◌&&◌, not, if◌then◌else◌, ℕ, Bool, true, false, List, slice_get, [], ◌∷◌, ◌++◌, map, count_by, is_none, Option, Some, All}
+use Rattle.std.specs.Prelude.{◌≡◌, ◌⊎◌, ◌<◌, ◌==◌, ◌+◌, ◌&&◌, not, if◌then◌else◌, ℕ, Bool, true, false, List, slice_get, [], ◌∷◌, ◌++◌, map, count_by, is_none, Option, Some, All}
 use Rattle.std.specs.Option.{option_map, option_map_or}
-use Rattle.std.specs.List.{list_any, filter_map, IsDistinct}
+use Rattle.std.specs.List.{list_any, filter_map}
 use Rattle.hd_terms.specs.declared.IdSize.{IdSize}
 use Rattle.hd_terms.specs.declared.errors.Cause.TheVariants as causes
 use Rattle.hd_terms.specs.declared.errors.ReadFault.{ReadFault}
@@ -14,7 +14,8 @@ use Rattle.hd_terms.specs.ReadFaults.{fault}
 use Rattle.hd_graph.specs.declared.graph.RootRow.{RootRow}
 use Rattle.hd_graph.specs.declared.number.Tally.{Tally}
 use Rattle.hd_graph.specs.GraphInside.{root_of_row}
-use Rattle.hd_graph.specs.Noted.{is_noted, NotesId}
+use Rattle.hd_ids.specs.Noted.{is_noted}
+use Rattle.hd_graph.specs.Noted.{NotesId}
 use Rattle.hd_graph.specs.ArrayRows.{KnownBy, object_id, object_ids, roots_in}
 
 -- the values of an instance have another number of bytes than its class's layout
@@ -54,7 +55,6 @@ pub record IsNumbered (known : KnownBy) (size : IdSize) (list : List Sub) (ids :
   pub opaque_is : tally.opaque ≡ count_by (λ (p : ℕ × Sub). is_opaque known p.1.item) (standing_subs list)
   pub roots_are : map root_of_row roots ≡ roots_in list
   pub no_null : All (λ id. 0 < id) ids
-  pub distinct : IsDistinct nat_eq ids
   pub no_fault : object_faults known size list ≡ []
 
 -- one more sub-record is numbered

@@ -2,6 +2,7 @@
 ghost use Rattle.std.specs.Prelude.{◌≡◌, ◌+◌, ◌-◌, ◌*◌, ◌<◌, ◌≤◌, ◌^◌, if◌then◌else◌, [], ◌∷◌, ◌++◌, length, map, All, OnOk};
 ghost use Rattle.hd_terms.specs.Types.{is_id_type};
 ghost use Rattle.hd_terms.specs.declared.Slot.TheVariants as slots;
+ghost use Rattle.hd_subs.specs.Layout as layout;
 ghost use Rattle.hd_subs.specs.Views.{static_view, constant_view, class_view};
 ghost use Rattle.hd_graph.specs.Shapes.{ClassObject};
 ghost use Rattle.hd_slots.specs.Table.{id_at, IsIdWithin};
@@ -10,24 +11,24 @@ ghost use Rattle.hd_graph.specs.ArrayRows.{IsValueWithin, IsClassWithin, HasLink
 ghost use Rattle.hd_graph.specs.Building.{Adds, GrowsBy, columns};
 
 use crate::shape::{ClassShape, Shapes};
-use crate::unresolved::{TAG_AND_SERIAL, UnresolvedSlots};
-use hd_subs::{ClassDump, Constant, Static};
+use hd_slots::UnresolvedSlots;
+use hd_subs::{ClassDump, Constant, Static, class_offset};
 use hd_terms::{Slot, Span, is_id_type};
 use std::alloc::{AllocError, Global};
 
-/// Adds the ID at a place of the file to the row that is being filled, and the name of its slot.
+/// Adds the ID at a file offset to the row that is being filled, and the name of its slot.
 fn push_reference(
     slot_table: &mut UnresolvedSlots<'_>,
     names: &mut Vec<Slot>,
     slot: Slot,
-    place: u32,
+    offset: u64,
 ) -> Result<(), AllocError>
-    requires within { IsIdWithin slot_table.old.size (length slot_table.old.bytes) place }
+    requires within { IsIdWithin slot_table.old.size (length slot_table.old.bytes) offset }
     requires room { length slot_table.old.ids + slot_table.old.count < 2 ^ 32 - 1 }
-    ensures row { OnOk result (GrowsBy (id_at slot_table.old.bytes slot_table.old.size place ∷ []) slot_table.old slot_table.new) }
+    ensures row { OnOk result (GrowsBy (id_at slot_table.old.bytes slot_table.old.size offset ∷ []) slot_table.old slot_table.new) }
     ensures names { OnOk result (names.new.items ≡ names.old.items ++ slot ∷ []) }
 {
-    slot_table.push(place)?;
+    slot_table.push(offset)?;
     names.push(slot)?;
     Ok(())
 }
@@ -41,13 +42,12 @@ fn push_value(
     value: Span,
 ) -> Result<(), AllocError>
     requires within { IsValueWithin slot_table.old.size (length slot_table.old.bytes) (code, value) }
-    requires small { length slot_table.old.bytes < 2 ^ 31 }
     requires room { length slot_table.old.ids + slot_table.old.count < 2 ^ 32 - 1 }
     ensures row { OnOk result (GrowsBy (value_ids slot_table.old.bytes slot_table.old.size ((code, value) ∷ [])) slot_table.old slot_table.new) }
     ensures names { OnOk result (names.new.items ≡ names.old.items ++ (if is_id_type code then slot ∷ [] else [])) }
 {
     if is_id_type(code) {
-        push_reference(slot_table, names, slot, value.start as u32)?;
+        push_reference(slot_table, names, slot, value.start)?;
     }
     Ok(())
 }
@@ -59,7 +59,6 @@ fn push_statics(
     statics: &[Static],
 ) -> Result<(), AllocError>
     requires within { All (IsValueWithin slot_table.old.size (length slot_table.old.bytes)) (values_of_statics (map static_view statics.now)) }
-    requires small { length slot_table.old.bytes < 2 ^ 31 }
     requires room { length slot_table.old.ids + slot_table.old.count + length statics.now < 2 ^ 32 - 1 }
     ensures row { OnOk result (GrowsBy (value_ids slot_table.old.bytes slot_table.old.size (values_of_statics (map static_view statics.now))) slot_table.old slot_table.new) }
     ensures names { OnOk result (names.new.items ≡ names.old.items ++ value_names (λ i. slots.Static i) 0 (values_of_statics (map static_view statics.now))) }
@@ -79,7 +78,6 @@ fn push_constants(
     constants: &[Constant],
 ) -> Result<(), AllocError>
     requires within { All (IsValueWithin slot_table.old.size (length slot_table.old.bytes)) (values_of_constants (map constant_view constants.now)) }
-    requires small { length slot_table.old.bytes < 2 ^ 31 }
     requires room { length slot_table.old.ids + slot_table.old.count + length constants.now < 2 ^ 32 - 1 }
     ensures row { OnOk result (GrowsBy (value_ids slot_table.old.bytes slot_table.old.size (values_of_constants (map constant_view constants.now))) slot_table.old slot_table.new) }
     ensures names { OnOk result (names.new.items ≡ names.old.items ++ value_names (λ i. slots.Const i) 0 (values_of_constants (map constant_view constants.now))) }
@@ -92,23 +90,23 @@ fn push_constants(
     Ok(())
 }
 
-/// Adds the IDs of a class's super class, loader, signers and protection domain, which stand one after another from a place on.
+/// Adds the IDs of a class's super class, loader, signers and protection domain, which stand one after another from a file
+/// offset on.
 fn push_links(
     slot_table: &mut UnresolvedSlots<'_>,
     names: &mut Vec<Slot>,
-    place: u32,
+    offset: u64,
 ) -> Result<(), AllocError>
-    requires within { place + 4 * id_len slot_table.old.size ≤ length slot_table.old.bytes }
-    requires small { length slot_table.old.bytes < 2 ^ 31 }
+    requires within { offset + 4 * id_len slot_table.old.size ≤ length slot_table.old.bytes }
     requires room { length slot_table.old.ids + slot_table.old.count + 4 < 2 ^ 32 - 1 }
-    ensures row { OnOk result (GrowsBy (links_at slot_table.old.bytes slot_table.old.size place) slot_table.old slot_table.new) }
+    ensures row { OnOk result (GrowsBy (links_at slot_table.old.bytes slot_table.old.size offset) slot_table.old slot_table.new) }
     ensures names { OnOk result (names.new.items ≡ names.old.items ++ slots.Super ∷ slots.Loader ∷ slots.Signers ∷ slots.Domain ∷ []) }
 {
-    let id_len = slot_table.id_len();
-    push_reference(slot_table, names, Slot::Super, place)?;
-    push_reference(slot_table, names, Slot::Loader, place + id_len)?;
-    push_reference(slot_table, names, Slot::Signers, place + 2 * id_len)?;
-    push_reference(slot_table, names, Slot::Domain, place + 3 * id_len)?;
+    let id_len = u64::from(slot_table.id_len());
+    push_reference(slot_table, names, Slot::Super, offset)?;
+    push_reference(slot_table, names, Slot::Loader, offset + id_len)?;
+    push_reference(slot_table, names, Slot::Signers, offset + 2 * id_len)?;
+    push_reference(slot_table, names, Slot::Domain, offset + 3 * id_len)?;
     Ok(())
 }
 
@@ -124,7 +122,7 @@ fn bytes_of_statics(statics: &[Static]) -> u32
     bytes
 }
 
-/// Adds the row and the shape of a class object, whose tag lies at a place of the file.
+/// Adds the row and the shape of a class object, whose tag lies at a file offset.
 pub(crate) fn push_class(
     alloc: Global,
     slot_table: &mut UnresolvedSlots<'_>,
@@ -133,15 +131,14 @@ pub(crate) fn push_class(
     offset: u64,
 ) -> Result<(), AllocError>
     requires within { IsClassWithin slot_table.old.size (length slot_table.old.bytes) (class_view class.now) }
-    requires links { HasLinks slot_table.old.bytes slot_table.old.size (offset + 5 + id_len slot_table.old.size) (class_view class.now) }
-    requires small { length slot_table.old.bytes < 2 ^ 31 }
+    requires links { HasLinks slot_table.old.bytes slot_table.old.size (layout.class_offset slot_table.old.size offset) (class_view class.now) }
     requires room { length slot_table.old.ids + slot_table.old.count + class_weight (class_view class.now) < 2 ^ 32 - 1 }
     requires few { length shapes.old.objects < 2 ^ 32 - 1 }
     requires filled { slot_table.old.filling ≡ [] }
     ensures added { OnOk result (Adds (class.now.id, class_row slot_table.old.bytes slot_table.old.size (class_view class.now), ClassObject (static_bytes (class_view class.now).statics) (class_names (class_view class.now))) (class_weight (class_view class.now)) (columns slot_table.old shapes.old.objects) (columns slot_table.new shapes.new.objects)) }
     ensures kept { OnOk result (shapes.new.layouts ≡ shapes.old.layouts) }
 {
-    let links = offset as u32 + TAG_AND_SERIAL + slot_table.id_len();
+    let links = class_offset(slot_table.id_size(), offset);
     let mut names = Vec::new(alloc);
     push_statics(slot_table, &mut names, class.statics.as_slice())?;
     push_constants(slot_table, &mut names, class.constants.as_slice())?;

@@ -9,7 +9,7 @@ ghost use Rattle.hd_graph.specs.Shapes.{shape_bytes, slot_name, slot_kind, shape
 ghost use Rattle.hd_graph.specs.PackedShapes.{shape_view};
 
 use crate::shape::{Shape, Shapes};
-use crate::slot_table::SlotTable;
+use hd_slots::SlotTable;
 use hd_terms::{EdgeKind, Group, RootKind, Slot};
 use std::marker::Model;
 

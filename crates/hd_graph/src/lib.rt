@@ -1,19 +1,17 @@
 //! The graph of a dump: its objects by number, their slots, and its roots.
 #![tactic(auto)]
 
-mod build;
+mod array_rows;
 mod class_rows;
 mod counts;
+mod filling;
 mod graph;
-mod id_hasher;
 mod instance_rows;
 mod layouts;
 mod noted;
 mod number;
-mod resolving;
+mod opening;
 mod shape;
-mod slot_table;
-mod unresolved;
 
-pub use build::open_dump;
 pub use graph::{Graph, RootRead, SlotRead};
+pub use opening::open_dump;

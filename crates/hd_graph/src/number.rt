@@ -4,17 +4,17 @@ ghost use Rattle.hd_terms.specs.Classes as classes_of;
 ghost use Rattle.hd_terms.specs.SubRecords.{Instance};
 ghost use Rattle.hd_classes.specs.Known.{known_at};
 ghost use Rattle.hd_subs.specs.Views.{sub_view};
-ghost use Rattle.hd_graph.specs.Noted.{is_noted, NotesId};
+ghost use Rattle.hd_ids.specs.Noted.{is_noted};
+ghost use Rattle.hd_graph.specs.Noted.{NotesId};
 ghost use Rattle.hd_graph.specs.Numbering.{IsNumbered, NumbersOneMore, IsObjectFaultOrMemory, NotesObject, IsObjectStop, IsNullIdOrMemory, StopsAt, length_of};
 
 use crate::graph::RootRow;
-use crate::id_hasher::IdHasher;
 use crate::layouts::bytes_of_layout;
 use crate::noted::note_id;
 use hd_classes::Classes;
+use hd_ids::ObjectIds;
 use hd_subs::{DumpSubs, Item, Sub};
 use hd_terms::{Cause, IdSize, ReadFault, Span};
-use indexmap::IndexSet;
 use std::alloc::Global;
 
 /// What is counted of objects.
@@ -29,7 +29,7 @@ pub(crate) struct Tally {
 /// The numbers of the objects, and the roots.
 #[derive(Drop)]
 pub(crate) struct Numbered {
-    pub(crate) ids: IndexSet<u64, IdHasher>,
+    pub(crate) ids: ObjectIds,
     pub(crate) roots: Vec<RootRow>,
     pub(crate) tally: Tally,
 }
@@ -51,14 +51,14 @@ fn length_of_values(classes: &Classes, id_size: IdSize, class: u64) -> Option<u6
 /// Numbers an object by its ID, if that is new, and counts it as repeated if it isn't. The ID 0 is a fault. Answers whether
 /// it is new.
 fn number_object(
-    ids: &mut IndexSet<u64, IdHasher>,
+    ids: &mut ObjectIds,
     tally: &mut Tally,
     id: u64,
     offset: u64,
 ) -> Result<bool, ReadFault>
     requires { tally.old.repeated + 1 < 2 ^ 64 }
-    ensures noted { OnOk result ((0 < id) × NotesId id ids.old.keys tally.old.repeated ids.new.keys tally.new.repeated) }
-    ensures is_new { IfOk result (λ new. new ≡ not (is_noted ids.old.keys id)) }
+    ensures noted { OnOk result ((0 < id) × NotesId id ids.old tally.old.repeated ids.new tally.new.repeated) }
+    ensures is_new { IfOk result (λ new. new ≡ not (is_noted ids.old id)) }
     ensures opaque { OnOk result (tally.new.opaque ≡ tally.old.opaque) }
     ensures err { IfErr result (λ f. IsNullIdOrMemory id offset f) }
 {
@@ -74,7 +74,7 @@ fn number_object(
 
 /// Numbers an instance. If its ID is new, it has to fit its class's layout, and it is counted if its class isn't known.
 fn number_instance(
-    ids: &mut IndexSet<u64, IdHasher>,
+    ids: &mut ObjectIds,
     tally: &mut Tally,
     classes: &Classes,
     id_size: IdSize,
@@ -86,8 +86,8 @@ fn number_instance(
     requires repeated { tally.old.repeated + 1 < 2 ^ 64 }
     requires opaque { tally.old.opaque + 1 < 2 ^ 64 }
     requires short { All (λ (p : ℕ × classes_of.ResolvedClass). length p.1.layout < 2 ^ 29) classes.now.classes }
-    ensures ok { OnOk result (NotesObject (known_at classes.now) id_size (Instance id class values) id ids.old.keys tally.old ids.new.keys tally.new) }
-    ensures err { IfErr result (λ f. IsObjectStop (known_at classes.now) id_size (Instance id class values) id offset ids.old.keys f) }
+    ensures ok { OnOk result (NotesObject (known_at classes.now) id_size (Instance id class values) id ids.old tally.old ids.new tally.new) }
+    ensures err { IfErr result (λ f. IsObjectStop (known_at classes.now) id_size (Instance id class values) id offset ids.old f) }
 {
     if !number_object(ids, tally, id, offset)? {
         return Ok(());
@@ -108,7 +108,7 @@ fn number_instance(
 
 /// Numbers an object, or keeps a root.
 fn number_one(
-    ids: &mut IndexSet<u64, IdHasher>,
+    ids: &mut ObjectIds,
     roots: &mut Vec<RootRow>,
     tally: &mut Tally,
     classes: &Classes,
@@ -118,8 +118,8 @@ fn number_one(
     requires repeated { tally.old.repeated + 1 < 2 ^ 64 }
     requires opaque { tally.old.opaque + 1 < 2 ^ 64 }
     requires short { All (λ (p : ℕ × classes_of.ResolvedClass). length p.1.layout < 2 ^ 29) classes.now.classes }
-    ensures ok { OnOk result (NumbersOneMore (known_at classes.now) id_size (sub_view sub.entry) ids.old.keys roots.old.items tally.old ids.new.keys roots.new.items tally.new) }
-    ensures err { IfErr result (λ f. StopsAt (known_at classes.now) id_size (sub_view sub.entry) ids.old.keys f) }
+    ensures ok { OnOk result (NumbersOneMore (known_at classes.now) id_size (sub_view sub.entry) ids.old roots.old.items tally.old ids.new roots.new.items tally.new) }
+    ensures err { IfErr result (λ f. StopsAt (known_at classes.now) id_size (sub_view sub.entry) ids.old f) }
 {
     let offset = sub.offset;
     match sub.item {
@@ -149,10 +149,10 @@ pub(crate) fn number(
     id_size: IdSize,
 ) -> Result<Numbered, ReadFault>
     requires short { All (λ (p : ℕ × classes_of.ResolvedClass). length p.1.layout < 2 ^ 29) classes.now.classes }
-    ensures ok { IfOk result (λ n. IsNumbered (known_at classes.now) id_size list.now n.ids.keys n.roots.items n.tally) }
+    ensures ok { IfOk result (λ n. IsNumbered (known_at classes.now) id_size list.now n.ids n.roots.items n.tally) }
     ensures err { IfErr result (λ f. IsObjectFaultOrMemory (known_at classes.now) id_size list.now f) }
 {
-    let mut ids = IndexSet::with_capacity_and_hasher(alloc, list.len(), IdHasher::new())?;
+    let mut ids = ObjectIds::with_capacity(alloc, list.len())?;
     let mut roots = Vec::new(alloc);
     let mut tally = Tally {
         repeated: 0,

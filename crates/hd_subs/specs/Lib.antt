@@ -1,3 +1,4 @@
+pub mod Layout
 pub mod Views
 pub mod Rows
 pub mod ParsedSubs

@@ -11,7 +11,7 @@ use Rattle.hd_subs.specs.declared.class_reading.Head.{Head}
 use Rattle.hd_subs.specs.declared.class_reading.Stop.{Stop}
 use Rattle.hd_subs.specs.declared.class_reading.Stop.TheVariants as stops
 
--- the bytes at a place begin with the text of something valid, which holds b; these bytes come after it, and lie at `end`
+-- the bytes at an offset begin with the text of something valid, which holds b; these bytes come after it, and lie at `end`
 pub record BeginsWith {A B : Type 0} (Is : A → Type 0) (text : A → List ℕ) (item : ℕ → A → B) (at : ℕ) (rest : List ℕ) (b : B) (after : List ℕ) (end : ℕ) : Type 0 where
   pub a : A
   pub is : Is a
@@ -85,23 +85,23 @@ IsClassStop size fields stops.Short = IsStuck size (0x20 ∷ fields) ShortSub
 IsClassStop size fields stops.UnknownType = IsStuck size (0x20 ∷ fields) UnknownType
 IsClassStop size fields stops.NoMemory = Unit {0}
 
--- what the items hold whose texts begin at a place, one behind the other
+-- what the items hold whose texts begin at an offset, one behind the other
 abbrev pub items_at : {A B : Type 0} → (ℕ → A → B) → (A → List ℕ) → ℕ → List A → List B
 items_at item text at [] = []
 items_at item text at (x ∷ xs) = item at x ∷ items_at item text (at + length (text x)) xs
 
--- what the list holds whose count lies at a place
+-- what the list holds whose count lies at an offset
 abbrev pub list_at : {A B : Type 0} → (ℕ → A → B) → (A → List ℕ) → ℕ → Counted A → List B
 list_at item text at c = items_at item text (at + 2) c.items
 
--- what a class value at a place holds, whose key has n bytes
+-- what a class value at an offset holds, whose key has n bytes
 abbrev pub typed_item : IdSize → ℕ → ℕ → ClassValue → ConstantItem
 typed_item size n at v = record { code = v.code; value = record { start = at + n + 1; len = value_len size v.code } }
 
 abbrev pub static_item : IdSize → ℕ → ClassValue → StaticItem
 static_item size at v = record { name = big_number (id_len size) v.key; code = v.code; value = record { start = at + id_len size + 1; len = value_len size v.code } }
 
--- a field holds no place
+-- a field holds no offset
 abbrev pub field_at : IdSize → ℕ → ClassField → FieldItem
 field_at size at f = field_item size f
 

@@ -7,7 +7,7 @@ use Rattle.hd_terms.specs.declared.errors.ReadFault.{ReadFault}
 use Rattle.hd_terms.specs.SubRecords.{SubRecord, Sub, AreSubRecords, subs_at}
 use Rattle.hd_terms.specs.ReadFaults.{fault, IsSegmentFault}
 
--- a body at a place of the file has these sub-records
+-- a body at an offset of the file has these sub-records
 pub record ReadsSegment (size : IdSize) (base : ℕ) (body : List ℕ) (list : List Sub) : Type 0 where
   pub subs : List SubRecord
   pub whole : AreSubRecords size body subs
@@ -24,6 +24,6 @@ pub record HasGrown (old new : List Sub) : Type 0 where
   pub more : List Sub
   pub list_is : new ≡ old ++ more
 
--- a fault of a body at a place, or want of memory
+-- a fault of a body at an offset, or out of memory
 abbrev pub IsSegmentFaultOrMemory : IdSize → ℕ → List ℕ → ReadFault → Type 0
 IsSegmentFaultOrMemory size base body f = (f ≡ fault OutOfMemory 0) ⊎ IsSegmentFault size base body f

@@ -1,5 +1,5 @@
 -- What a row of the list says.
-use Rattle.std.specs.Prelude.{ℕ, ◌+◌, ◌*◌, ◌<◌, List, [], map}
+use Rattle.std.specs.Prelude.{ℕ, ◌*◌, ◌<◌, List, [], map}
 use Rattle.std.specs.List.{slice_index_or}
 use Rattle.hd_terms.specs.declared.IdSize.{IdSize}
 use Rattle.hd_terms.specs.declared.IdSize.TheVariants as sizes
@@ -9,24 +9,25 @@ use Rattle.hd_subs.specs.declared.row.Kind.{Kind}
 use Rattle.hd_subs.specs.declared.row.Kind.TheVariants as kinds
 use Rattle.hd_subs.specs.declared.row.Row.{Row}
 use Rattle.hd_subs.specs.declared.class.ClassDump.{ClassDump}
+use Rattle.hd_subs.specs.Layout.{elements_offset}
 use Rattle.hd_subs.specs.Views.{class_view}
 
 -- what stands past the last class
 abbrev pub no_class : ClassItem
 no_class = record { id = 0; super = 0; loader = 0; signers = 0; domain = 0; constants = []; statics = []; fields = [] }
 
--- the class at a place
+-- the class at an index
 abbrev pub class_at : List ClassDump → ℕ → ClassItem
-class_at classes place = slice_index_or (map class_view classes) place no_class
+class_at classes index = slice_index_or (map class_view classes) index no_class
 
 -- what a row of a kind holds, over the classes of the list
 abbrev pub item_of : List ClassDump → Kind → ℕ → ℕ → ℕ → ℕ → Item
 item_of classes (kinds.Root kind) offset id class count = subs.Root kind id
 item_of classes kinds.Class offset id class count = subs.Class (class_at classes class)
-item_of classes kinds.InstanceOfFour offset id class count = subs.Instance id class (record { start = offset + 17; len = count })
-item_of classes kinds.InstanceOfEight offset id class count = subs.Instance id class (record { start = offset + 25; len = count })
-item_of classes kinds.ArrayOfFour offset id class count = subs.ObjArray id class (record { start = offset + 17; len = 4 * count })
-item_of classes kinds.ArrayOfEight offset id class count = subs.ObjArray id class (record { start = offset + 25; len = 8 * count })
+item_of classes kinds.InstanceOfFour offset id class count = subs.Instance id class (record { start = elements_offset sizes.Four offset; len = count })
+item_of classes kinds.InstanceOfEight offset id class count = subs.Instance id class (record { start = elements_offset sizes.Eight offset; len = count })
+item_of classes kinds.ArrayOfFour offset id class count = subs.ObjArray id class (record { start = elements_offset sizes.Four offset; len = 4 * count })
+item_of classes kinds.ArrayOfEight offset id class count = subs.ObjArray id class (record { start = elements_offset sizes.Eight offset; len = 8 * count })
 item_of classes (kinds.PrimArray element) offset id class count = subs.PrimArray id element count
 
 -- the sub-record of a row, over the classes of the list
@@ -43,7 +44,7 @@ abbrev pub instance_kind : IdSize → Kind
 instance_kind sizes.Four = kinds.InstanceOfFour
 instance_kind sizes.Eight = kinds.InstanceOfEight
 
--- a row of a class has its place among so many classes
+-- a row of a class has its index among so many classes
 abbrev pub HasClass : ℕ → Kind → ℕ → Type 0
 HasClass n (kinds.Root kind) class = Unit {0}
 HasClass n kinds.Class class = class < n

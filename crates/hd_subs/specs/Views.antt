@@ -40,6 +40,6 @@ item_view (items.Instance id class values) = subs.Instance id class values
 item_view (items.ObjArray id class elements) = subs.ObjArray id class elements
 item_view (items.PrimArray id element count) = subs.PrimArray id element count
 
--- a sub-record and its place
+-- a sub-record and the offset of its tag
 abbrev pub sub_view : declared_sub.Sub → subs.Sub
 sub_view s = record { offset = s.offset; item = item_view s.item }

@@ -14,7 +14,7 @@ use byteorder::{BigEndian, ByteOrder};
 use hd_terms::{IdSize, Span};
 use std::alloc::{AllocFailed, Global};
 
-/// What is left of a segment, and the place of its first byte: an offset into the file.
+/// What is left of a segment, and the file offset of its first byte.
 #[derive(Clone, Copy)]
 struct Cursor<'a> {
     rest: &'a [u8],
@@ -241,7 +241,7 @@ fn read_fields(
     Ok((fields, rest))
 }
 
-/// The CLASS DUMP whose tag lies at a place and whose fields these bytes begin with, and what is behind it.
+/// The CLASS DUMP whose tag lies at a file offset and whose fields these bytes begin with, and what is behind it.
 ///
 /// Its parts are read from left to right: the first that is not all there, or whose type is none, stops the reading. No
 /// memory is asked for before the bytes of an item were found.

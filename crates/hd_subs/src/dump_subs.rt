@@ -41,7 +41,7 @@ impl DumpSubs {
     ///
     /// # Errors
     ///
-    /// Want of memory; then the part is given up.
+    /// Out of memory; then the part is given up.
     pub fn push(&mut self, part: Subs) -> Result<(), AllocError>
         requires { length self.old + length part < 2 ^ 64 }
         ensures ok { OnOk result (self.new ≡ self.old ++ part) }
@@ -72,12 +72,12 @@ impl DumpSubs {
         requires { i < length self.now }
         ensures { slice_get self.now i ≡ Some (sub_view result) }
     {
-        let mut place = i;
+        let mut index = i;
         for part in self.parts.as_slice() {
-            if place < part.len() {
-                return part.get(place);
+            if index < part.len() {
+                return part.get(index);
             }
-            place -= part.len();
+            index -= part.len();
         }
         unreachable!()
     }

@@ -1,9 +1,10 @@
-//! The sub-records of a heap dump's segment: what each holds, and the place of its tag in the file.
+//! The sub-records of a heap dump's segment: what each holds, and the file offset of its tag.
 #![tactic(auto)]
 
 mod class;
 mod class_reading;
 mod dump_subs;
+mod layout;
 mod reading;
 mod row;
 mod sub;
@@ -12,6 +13,7 @@ mod types;
 
 pub use class::{ClassDump, Constant, Field, Static};
 pub use dump_subs::DumpSubs;
+pub use layout::{array_class_offset, class_offset};
 pub use reading::{read_segment, read_segment_into};
 pub use sub::{Item, Sub};
 pub use subs::Subs;

@@ -11,6 +11,7 @@ ghost use Rattle.hd_subs.specs.ParsedSubs.{BeginsWithSub, AppendsSub, IsFaultAt,
 ghost use Rattle.hd_subs.specs.Reading.{ReadsSegment, AppendsSegment, HasGrown, IsSegmentFaultOrMemory};
 
 use crate::class_reading::{Stop, read_class};
+use crate::layout::{CLASS_DUMP, INSTANCE_DUMP, OBJECT_ARRAY_DUMP, PRIMITIVE_ARRAY_DUMP};
 use crate::row::{Kind, Row};
 use crate::subs::Subs;
 use crate::types::bytes_of_element;
@@ -208,18 +209,18 @@ fn read_row(tag: u8, fields: &[u8], id_size: IdSize, offset: u64) -> Result<Pars
     ensures ok { IfOk result (λ f. BeginsWithSub id_size offset (tag ∷ fields.now) (row_view [] f.row) f.after.now) }
     ensures err { IfErr result (λ why. IsNoRow id_size tag fields.now why) }
 {
-    let front = match tag {
-        0x21 => read_instance(fields, id_size, offset),
-        0x22 => read_array(fields, id_size, offset),
-        0x23 => return read_primitive_array(fields, id_size, offset),
+    let parsed = match tag {
+        INSTANCE_DUMP => read_instance(fields, id_size, offset),
+        OBJECT_ARRAY_DUMP => read_array(fields, id_size, offset),
+        PRIMITIVE_ARRAY_DUMP => return read_primitive_array(fields, id_size, offset),
         _ => match root_kind(tag) {
             Some(kind) => read_root(kind, fields, id_size, offset),
-            None if tag == 0x20 => return Err(NoRow::IsClass),
+            None if tag == CLASS_DUMP => return Err(NoRow::IsClass),
             None => return Err(NoRow::Fault(Cause::UnknownSub)),
         },
     };
-    match front {
-        Some(front) => Ok(front),
+    match parsed {
+        Some(parsed) => Ok(parsed),
         None => Err(NoRow::Fault(Cause::ShortSub)),
     }
 }
@@ -264,9 +265,9 @@ fn append_subs(list: &mut Subs, body: &[u8], id_size: IdSize, base: u64) -> Resu
     while let Some((tag, fields)) = rest.split_first() {
         let offset = base + (body.len() - rest.len()) as u64;
         match read_row(*tag, fields, id_size, offset) {
-            Ok(front) => {
-                list.push(front.row)?;
-                rest = front.after;
+            Ok(parsed) => {
+                list.push(parsed.row)?;
+                rest = parsed.after;
             }
             Err(NoRow::IsClass) => rest = append_class(list, fields, id_size, offset)?,
             Err(NoRow::Fault(cause)) => return Err(ReadFault { cause, offset }),
@@ -277,7 +278,7 @@ fn append_subs(list: &mut Subs, body: &[u8], id_size: IdSize, base: u64) -> Resu
 
 /// Puts the sub-records of a segment's body at the end of a list, all of them or, where it answers a fault, none.
 ///
-/// `base` is the place of the body, an offset into the file in bytes. The faults are those of `read_segment`.
+/// `base` is the file offset of the body in bytes. The faults are those of `read_segment`.
 pub fn read_segment_into(
     list: &mut Subs,
     body: &[u8],
@@ -299,7 +300,7 @@ pub fn read_segment_into(
 
 /// The sub-records of a segment's body, or the first fault from left to right.
 ///
-/// `base` is the place of the body, an offset into the file in bytes, and places of sub-records are counted from it. The
+/// `base` is the file offset of the body in bytes, and the offsets of sub-records are counted from it. The
 /// faults are `UnknownSub` at a tag that no sub-record has, `UnknownType` at the tag of a primitive array whose elements have
 /// none of the types 4 to 11 or of a class with a constant, a static or a field of none of the types 1, 2 and 4 to 11,
 /// and `ShortSub` at the tag of a sub-record that runs past the body; the fields of one sub-record are read from left

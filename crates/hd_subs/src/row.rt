@@ -16,8 +16,8 @@ pub enum Kind {
     PrimArray(u8),
 }
 
-/// A sub-record in 32 bytes: `offset` is the place of its tag, `count` is an array's, and of an instance the bytes of its
-/// values. `class` is the ID of the class of an instance or an object array, and of a class its place among the classes of
+/// A sub-record in 32 bytes: `offset` is that of its tag in the file, `count` is an array's, and of an instance the bytes of its
+/// values. `class` is the ID of the class of an instance or an object array, and of a class its index among the classes of
 /// the list. The values of an instance and the IDs of an array's elements lie 17 or 25 bytes behind the tag.
 #[derive(Clone, Copy, Debug)]
 pub struct Row {

@@ -18,7 +18,7 @@ pub enum Item<'a> {
     PrimArray { id: u64, element: u8, count: u32 },
 }
 
-/// A sub-record, and the place of its tag: an offset into the file in bytes.
+/// A sub-record, and the file offset of its tag in bytes.
 #[derive(Clone, Copy, Debug)]
 pub struct Sub<'a> {
     pub offset: u64,

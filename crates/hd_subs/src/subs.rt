@@ -5,13 +5,14 @@ ghost use Rattle.hd_subs.specs.Views.{item_view, sub_view, class_view};
 ghost use Rattle.hd_subs.specs.Rows.{row_view, IsRowOver};
 
 use crate::class::ClassDump;
+use crate::layout::elements_offset;
 use crate::row::{Kind, Row};
 use crate::sub::{Item, Sub};
-use hd_terms::Span;
+use hd_terms::{IdSize, Span};
 use std::alloc::{AllocError, Global};
 use std::marker::Model;
 
-/// Sub-records in the order of their places in the file.
+/// Sub-records in file order.
 #[derive(Debug, Drop)]
 pub struct Subs {
     rows: Vec<Row>,
@@ -32,7 +33,7 @@ impl Model for Subs {
     ghost invariant = { λ s. All (IsRowOver (length s.classes.items)) s.rows.items };
 }
 
-/// The instance of a row, whose values lie at this place.
+/// The instance of a row, whose values lie at this file offset.
 fn instance_of(row: Row, start: u64) -> Item<'static>
     ensures { item_view result ≡ Instance row.id row.class (record { start = start; len = row.count }) }
 {
@@ -46,7 +47,7 @@ fn instance_of(row: Row, start: u64) -> Item<'static>
     }
 }
 
-/// The object array of a row, whose IDs lie at this place and have so many bytes.
+/// The object array of a row, whose IDs lie at this file offset and have so many bytes.
 fn array_of(row: Row, start: u64, len: u64) -> Item<'static>
     ensures { item_view result ≡ ObjArray row.id row.class (record { start = start; len = len }) }
 {
@@ -65,10 +66,16 @@ fn sub_of(row: Row, classes: &[ClassDump]) -> Sub<'_>
     let item = match row.kind {
         Kind::Root(kind) => Item::Root(kind, row.id),
         Kind::Class => Item::Class(&classes[row.class as usize]),
-        Kind::InstanceOfFour => instance_of(row, row.offset + 17),
-        Kind::InstanceOfEight => instance_of(row, row.offset + 25),
-        Kind::ArrayOfFour => array_of(row, row.offset + 17, 4 * u64::from(row.count)),
-        Kind::ArrayOfEight => array_of(row, row.offset + 25, 8 * u64::from(row.count)),
+        Kind::InstanceOfFour => instance_of(row, elements_offset(IdSize::Four, row.offset)),
+        Kind::InstanceOfEight => instance_of(row, elements_offset(IdSize::Eight, row.offset)),
+        Kind::ArrayOfFour => {
+            let start = elements_offset(IdSize::Four, row.offset);
+            array_of(row, start, 4 * u64::from(row.count))
+        }
+        Kind::ArrayOfEight => {
+            let start = elements_offset(IdSize::Eight, row.offset);
+            array_of(row, start, 8 * u64::from(row.count))
+        }
         Kind::PrimArray(element) => Item::PrimArray {
             id: row.id,
             element,
@@ -129,7 +136,7 @@ impl Subs {
         Ok(())
     }
 
-    /// A class at the end, whose tag lies at a place of the file.
+    /// A class at the end, whose tag lies at this file offset.
     pub(crate) fn push_class(&mut self, offset: u64, class: ClassDump) -> Result<(), AllocError>
         requires { offset + 25 < 2 ^ 64 }
         ensures ok { OnOk result (self.new ≡ self.old ++ (record { offset = offset; item = Class (class_view class) }) ∷ []) }

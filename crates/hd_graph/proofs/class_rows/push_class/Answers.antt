@@ -54,10 +54,10 @@ returns-clause-added c =
     let first = c.args.slot_table.now in
     let second = c.push_statics.new.slot_table in
     let third = c.push_constants.new.slot_table in
-    class-added c.args.class.now (c.args.offset + 5 + c.id_len.result) first second third c.push_links.new.slot_table c.end_row.new.self
+    class-added c.args.class.now c.class_offset-links.result first second third c.push_links.new.slot_table c.end_row.new.self
     c.args.shapes.now.objects c.push_class.new.self.objects c.push_statics.new.names.items c.push_constants.new.names.items c.push_links.new.names.items c.bytes_of_statics-bytes.result
     c.requires.filled
-    (subst (λ (n : ℕ). HasLinks first.bytes first.size (c.args.offset + 5 + n) (class_view c.args.class.now)) (sym c.id_len.ensures) c.requires.links)
+    (subst (λ (n : ℕ). HasLinks first.bytes first.size n (class_view c.args.class.now)) (sym (c.class_offset-links.ensures ∙ ap (λ (size : IdSize). class_offset size c.args.offset) c.id_size.ensures.size)) c.requires.links)
     (subst (λ (xs : List Static). GrowsBy (value_ids first.bytes first.size (values_of_statics (map static_view xs))) first second) c.as_slice.ensures.value c.in_ok-push_statics.ensures.row)
     (subst (λ (xs : List Constant). GrowsBy (value_ids second.bytes second.size (values_of_constants (map constant_view xs))) second third) c.as_slice-2.ensures.value c.in_ok-push_constants.ensures.row)
     c.in_ok-push_links.ensures.row

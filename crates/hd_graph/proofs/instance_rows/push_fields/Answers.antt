@@ -20,7 +20,7 @@ overflow_add-at c =
     let code = (get_or c.args.layout.now c.loop-i.i any_field).code in
     let len : c.from-len.result ≡ value_len c.args.slot_table.now.size code = c.from-len.ensures ∙ c.value_len.ensures.len ∙ ap (λ (size : IdSize). value_len size code) c.id_size-id_size.ensures in
     let within = field-within c.args.start c.args.layout.now c.loop-i.i any_field c.args.slot_table.now c.loop-i.slot_table c.loop-i.at c.loop-i-test.true c.loop-i.invariant c.requires.within in
-    omega (arith, within, len, c.requires.small)
+    omega (arith, within, len, c.id_size.ensures.small)
 
 pub push_field-requires-clause-room : goal.push_field-requires-clause-room
 push_field-requires-clause-room c =

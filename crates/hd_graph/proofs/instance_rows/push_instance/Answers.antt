@@ -19,14 +19,14 @@ pub push_known-requires-clause-within : goal.push_known-requires-clause-within
 push_known-requires-clause-within c =
     let k = known_view c.get.result.now in
     let fit : fitting c.args.slot_table.now.size c.args.values.len (known_at c.args.classes.now c.args.class) ≡ Some k =
-    ap (λ (n : IdSize). fitting n c.args.values.len (known_at c.args.classes.now c.args.class)) (sym c.id_size.ensures) ∙ sym c.in-Some.ensures.1 ∙ c.get.ensures in
+    ap (λ (n : IdSize). fitting n c.args.values.len (known_at c.args.classes.now c.args.class)) (sym c.id_size-2.ensures.size) ∙ sym c.in-Some.ensures.1 ∙ c.get.ensures in
     omega (arith, fitting-len c.args.slot_table.now.size c.args.values.len (known_at c.args.classes.now c.args.class) k fit, ap (λ (xs : List LayoutField). layout_len c.args.slot_table.now.size (map field_view xs)) c.as_slice-layout.ensures.value, c.requires.within)
 
 pub push_known-requires-clause-room : goal.push_known-requires-clause-room
 push_known-requires-clause-room c =
     let k = known_view c.get.result.now in
     let fit : fitting c.args.slot_table.now.size c.args.values.len (known_at c.args.classes.now c.args.class) ≡ Some k =
-    ap (λ (n : IdSize). fitting n c.args.values.len (known_at c.args.classes.now c.args.class)) (sym c.id_size.ensures) ∙ sym c.in-Some.ensures.1 ∙ c.get.ensures in
+    ap (λ (n : IdSize). fitting n c.args.values.len (known_at c.args.classes.now c.args.class)) (sym c.id_size-2.ensures.size) ∙ sym c.in-Some.ensures.1 ∙ c.get.ensures in
     omega (
       arith,
       fitting-len c.args.slot_table.now.size c.args.values.len (known_at c.args.classes.now c.args.class) k fit,
@@ -57,10 +57,10 @@ returns-in_ok-push_known-in-Some-clause-added c = λ id.
     let start = c.args.values.start in
     let old = columns t c.args.shapes.now.objects in
     let new = columns c.push_known.new.slot_table c.push_known.new.shapes.objects in
-    let place = c.args.offset + 5 + c.id_len.result in
-    let class : id_at bytes size place ≡ c.args.class = ap (λ (n : ℕ). id_at bytes size (c.args.offset + 5 + n)) c.id_len.ensures ∙ c.requires.class.is in
+    let place = c.class_offset-class_at.result in
+    let class : id_at bytes size place ≡ c.args.class = ap (id_at bytes size) (c.class_offset-class_at.ensures ∙ ap (λ (n : IdSize). class_offset n c.args.offset) c.id_size.ensures.size) ∙ c.requires.class.is in
     let fit : fitting size c.args.values.len (known_at c.args.classes.now c.args.class) ≡ Some k =
-    ap (λ (n : IdSize). fitting n c.args.values.len (known_at c.args.classes.now c.args.class)) (sym c.id_size.ensures) ∙ sym c.in-Some.ensures.1 ∙ c.get.ensures in
+    ap (λ (n : IdSize). fitting n c.args.values.len (known_at c.args.classes.now c.args.class)) (sym c.id_size-2.ensures.size) ∙ sym c.in-Some.ensures.1 ∙ c.get.ensures in
     let shape : shape_at c.args.shapes.now.layouts c.in-Some.i ≡ layout_shape size k =
     ap (λ (ss : List ObjectShape). shape_at ss c.in-Some.i) c.requires.classes.shapes ∙ shape-of-number (layout_shape size) c.args.classes.now.classes c.in-Some.i k c.get.ensures in
     let fields : map field_view c.as_slice-layout.result.now ≡ k.layout = ap (λ (xs : List LayoutField). map field_view xs) c.as_slice-layout.ensures.value in

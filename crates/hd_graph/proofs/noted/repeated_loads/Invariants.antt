@@ -5,4 +5,4 @@ use Rattle.hd_graph.proofs.noted.repeated_loads.Given as goal
 
 -- the IDs so far are noted
 abbrev pub invariant-loop-load : goal.invariant-loop-load
-invariant-loop-load l = AreNoted (λ (l : Load). l.class) (take l.load-index l.load-items) l.ids.keys l.repeated
+invariant-loop-load l = AreNoted (λ (l : Load). l.class) (take l.load-index l.load-items) l.ids l.repeated

@@ -5,4 +5,4 @@ use Rattle.hd_graph.proofs.noted.repeated_strings.Given as goal
 
 -- the IDs so far are noted
 abbrev pub invariant-loop-text : goal.invariant-loop-text
-invariant-loop-text l = AreNoted (λ (t : Text). t.id) (take l.text-index l.text-items) l.ids.keys l.repeated
+invariant-loop-text l = AreNoted (λ (t : Text). t.id) (take l.text-index l.text-items) l.ids l.repeated

@@ -5,4 +5,4 @@ use Rattle.hd_graph.proofs.number.number.Given as goal
 
 -- what the sub-records so far come to
 abbrev pub invariant-loop-i : goal.invariant-loop-i
-invariant-loop-i l = IsNumbered (known_at l.classes) l.id_size (take l.i l.list) l.ids.keys l.roots.items l.tally
+invariant-loop-i l = IsNumbered (known_at l.classes) l.id_size (take l.i l.list) l.ids l.roots.items l.tally

@@ -9,7 +9,7 @@ use Rattle.hd_graph.proofs.number.number_instance.Goals as goal
 pub returns-in_err-number_object-clause-err : goal.returns-in_err-number_object-clause-err
 returns-in_err-number_object-clause-err c =
     let p = err_from_is_err_and c.from_residual.result c.from_residual.ensures.1 in
-    rw (p.1, p.2) (null-stop (known_at c.args.classes.now) c.args.id_size _ c.args.id c.args.offset c.args.ids.now.keys _ c.in_err-number_object.ensures.err)
+    rw (p.1, p.2) (null-stop (known_at c.args.classes.now) c.args.id_size _ c.args.id c.args.offset c.args.ids.now _ c.in_err-number_object.ensures.err)
 
 pub returns-then-len-values-clause-err : goal.returns-then-len-values-clause-err
 returns-then-len-values-clause-err c =

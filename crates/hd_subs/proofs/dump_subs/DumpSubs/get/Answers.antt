@@ -3,19 +3,19 @@ use Rattle.hd_subs.specs.Joined.{joined}
 use Rattle.hd_subs.proofs.JoinedLemmas.{found-here, found-behind, length-behind}
 use Rattle.hd_subs.proofs.dump_subs.DumpSubs.get.Goals as goal
 
-pub returns-then-place-len : goal.returns-then-place-len
-returns-then-place-len c =
+pub returns-then-index-len : goal.returns-then-index-len
+returns-then-index-len c =
     let parts = c.as_slice-part-items.result.now in
     let k = c.loop-part.part-index in
     let d = c.part-item.result in
-    sym c.loop-part.invariant.1 ∙ found-here parts k d (omega arith) c.loop-part.place (rw (← c.part-item.is) (omega arith)) ∙ ap (λ part. slice_get part c.loop-part.place) (sym c.part-item.is) ∙ c.get.ensures
+    sym c.loop-part.invariant.1 ∙ found-here parts k d (omega arith) c.loop-part.index (rw (← c.part-item.is) (omega arith)) ∙ ap (λ part. slice_get part c.loop-part.index) (sym c.part-item.is) ∙ c.get.ensures
 
 pub loop-part-preserved : goal.loop-part-preserved
 loop-part-preserved c =
     let parts = c.as_slice-part-items.result.now in
     let k = c.loop-part.part-index in
     let d = c.part-item.result in
-    let past : length (slice_index_or parts k d) ≤ c.loop-part.place = rw (← c.part-item.is) (omega arith) in (
+    let past : length (slice_index_or parts k d) ≤ c.loop-part.index = rw (← c.part-item.is) (omega arith) in (
       omega (arith, c.loop-part.invariant.0, length-behind parts k d (omega arith), ap (λ part. length part) c.part-item.is, past),
-      ap (λ n. slice_get (joined (drop (k + 1) parts)) (c.loop-part.place - n)) (c.len-place.ensures ∙ ap (λ part. length part) c.part-item.is) ∙ sym (found-behind parts k d (omega arith) c.loop-part.place past) ∙ c.loop-part.invariant.1,
+      ap (λ n. slice_get (joined (drop (k + 1) parts)) (c.loop-part.index - n)) (c.len-index.ensures ∙ ap (λ part. length part) c.part-item.is) ∙ sym (found-behind parts k d (omega arith) c.loop-part.index past) ∙ c.loop-part.invariant.1,
     )

@@ -2,6 +2,6 @@ use Rattle.std.proofs.Common.{◌≡◌, ◌<◌, length, slice_get, drop}
 use Rattle.hd_subs.specs.Joined.{joined}
 use Rattle.hd_subs.proofs.dump_subs.DumpSubs.get.Given as goal
 
--- what is looked for is at the place in the parts that are left
+-- what is looked for is at the index in the parts that are left
 abbrev pub invariant-loop-part : goal.invariant-loop-part
-invariant-loop-part l = (l.place < length (joined (drop l.part-index l.part-items))) × (slice_get (joined (drop l.part-index l.part-items)) l.place ≡ slice_get l.self l.i)
+invariant-loop-part l = (l.index < length (joined (drop l.part-index l.part-items))) × (slice_get (joined (drop l.part-index l.part-items)) l.index ≡ slice_get l.self l.i)

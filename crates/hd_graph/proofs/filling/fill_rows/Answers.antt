@@ -5,7 +5,7 @@ use Rattle.hd_graph.proofs.RowLemmas.{fill-next, weight-at, few-shapes}
 use Rattle.hd_graph.proofs.OpenLemmas.{length-le-weight}
 use Rattle.hd_graph.specs.ArrayRows.{object_ids}
 use Rattle.std.proofs.lemmas.List.{length-take}
-use Rattle.hd_graph.proofs.build.fill_rows.Goals as goal
+use Rattle.hd_graph.proofs.filling.fill_rows.Goals as goal
 
 pub fill_one-requires-clause-room : goal.fill_one-requires-clause-room
 fill_one-requires-clause-room c =

@@ -1,7 +1,7 @@
 use Rattle.std.proofs.Common.{inl, refl}
 use Rattle.std.proofs.lemmas.Result.{err_from_is_err_and}
 use Rattle.hd_graph.proofs.OpenLemmas.{texts-within, bodies-fault, class-fault, records-fault}
-use Rattle.hd_graph.proofs.build.open_dump.Goals as goal
+use Rattle.hd_graph.proofs.opening.open_dump.Goals as goal
 
 pub returns-in_err-records-clause-err : goal.returns-in_err-records-clause-err
 returns-in_err-records-clause-err g c =

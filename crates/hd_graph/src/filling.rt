@@ -1,0 +1,117 @@
+//! Filling the rows and shapes of objects, in the order of their numbers.
+ghost use Rattle.std.specs.Prelude.{◌≡◌, ◌+◌, ◌<◌, ◌-◌, ◌^◌, [], length, All, IfOk, OnOk};
+ghost use Rattle.hd_classes.specs.Known.{known_at};
+ghost use Rattle.hd_subs.specs.Views.{item_view, sub_view};
+ghost use Rattle.hd_graph.specs.ArrayRows.{AreWithin, IsSubWithin, object_ids, item_weight};
+ghost use Rattle.hd_graph.specs.Building.{HasNoRows, HasRowsOf, FillsItem, columns, AreLayouts, AreFewAndShort};
+
+use crate::array_rows::{bytes_of_elements, push_array};
+use crate::class_rows::push_class;
+use crate::instance_rows::push_instance;
+use crate::layouts::shapes_of_classes;
+use crate::shape::Shapes;
+use hd_classes::Classes;
+use hd_ids::ObjectIds;
+use hd_slots::UnresolvedSlots;
+use hd_subs::{DumpSubs, Item, Sub, array_class_offset};
+use hd_terms::IdSize;
+use std::alloc::{AllocError, Global};
+
+/// The references of objects, by the file offsets of their IDs, and their shapes.
+#[derive(Drop)]
+pub(crate) struct Rows<'a> {
+    pub(crate) slot_table: UnresolvedSlots<'a>,
+    pub(crate) shapes: Shapes,
+}
+
+/// Adds the row and the shape of an object, if it comes next.
+fn fill_one(
+    alloc: Global,
+    slot_table: &mut UnresolvedSlots<'_>,
+    shapes: &mut Shapes,
+    classes: &Classes,
+    sub: Sub<'_>,
+) -> Result<(), AllocError>
+    requires within { IsSubWithin slot_table.old.size slot_table.old.bytes (sub_view sub) }
+    requires room { length slot_table.old.ids + slot_table.old.count + item_weight (item_view sub.item) < 2 ^ 32 - 1 }
+    requires few { length shapes.old.objects < 2 ^ 32 - 1 }
+    requires filled { slot_table.old.filling ≡ [] }
+    requires classes { AreLayouts slot_table.old.size classes.now shapes.old.layouts }
+    ensures filled { OnOk result (FillsItem (known_at classes.now) slot_table.old.bytes slot_table.old.size (item_view sub.entry.item) (columns slot_table.old shapes.old.objects) (columns slot_table.new shapes.new.objects)) }
+    ensures kept { OnOk result (shapes.new.layouts ≡ shapes.old.layouts) }
+{
+    let offset = sub.offset;
+    match sub.item {
+        Item::Root(..) => {}
+        Item::Class(class) => {
+            if slot_table.is_next(class.id) {
+                push_class(alloc, slot_table, shapes, class, offset)?;
+            }
+        }
+        Item::Instance { id, class, values } => {
+            if slot_table.is_next(id) {
+                push_instance(slot_table, shapes, classes, class, values, offset)?;
+            }
+        }
+        Item::ObjArray { id, elements, .. } => {
+            if slot_table.is_next(id) {
+                let class = array_class_offset(slot_table.id_size(), offset);
+                push_array(slot_table, class, elements)?;
+                shapes.push_object_array(elements.len as u32)?;
+            }
+        }
+        Item::PrimArray { id, element, count } => {
+            if slot_table.is_next(id) {
+                slot_table.end_row()?;
+                let bytes = bytes_of_elements(element, count);
+                shapes.push_primitive_array(element, bytes)?;
+            }
+        }
+    }
+    Ok(())
+}
+
+/// Adds the row and the shape of each object, in the order of their numbers.
+fn fill_rows(
+    alloc: Global,
+    slot_table: &mut UnresolvedSlots<'_>,
+    shapes: &mut Shapes,
+    classes: &Classes,
+    list: &DumpSubs,
+) -> Result<(), AllocError>
+    requires within { AreWithin slot_table.old.size slot_table.old.bytes list.now }
+    requires ids { slot_table.old.ids ≡ object_ids list.now }
+    requires few { length slot_table.old.ids < 2 ^ 31 }
+    requires empty { HasNoRows (columns slot_table.old shapes.old.objects) }
+    requires classes { AreLayouts slot_table.old.size classes.now shapes.old.layouts }
+    ensures { OnOk result (HasRowsOf (known_at classes.now) slot_table.old.bytes slot_table.old.size list.now (columns slot_table.new shapes.new.objects)) }
+{
+    for i in 0..list.len() {
+        fill_one(alloc, slot_table, shapes, classes, list.get(i))?;
+    }
+    Ok(())
+}
+
+/// The references and the shapes of the objects of a file, by the file offsets of the references' IDs.
+pub(crate) fn rows_of<'a>(
+    alloc: Global,
+    ids: ObjectIds,
+    classes: &Classes,
+    id_size: IdSize,
+    bytes: &'a [u8],
+    list: &DumpSubs,
+) -> Result<Rows<'a>, AllocError>
+    requires within { AreWithin id_size bytes.now list.now }
+    requires small { length bytes.now < 2 ^ 31 }
+    requires ids { ids ≡ object_ids list.now }
+    requires no_null { All (λ id. 0 < id) ids }
+    requires few { length ids < 2 ^ 31 }
+    requires classes { AreFewAndShort classes.now }
+    ensures { IfOk result (λ rows. HasRowsOf (known_at classes.now) bytes.now id_size list.now (columns rows.slot_table rows.shapes.objects)) }
+{
+    let layouts = shapes_of_classes(alloc, id_size, classes)?;
+    let mut shapes = Shapes::with_capacity(alloc, ids.len(), layouts)?;
+    let mut slot_table = UnresolvedSlots::new(alloc, bytes, id_size, ids)?;
+    fill_rows(alloc, &mut slot_table, &mut shapes, classes, list)?;
+    Ok(Rows { slot_table, shapes })
+}

@@ -1,0 +1,88 @@
+//! Opening a heap dump: the passes over its records and sub-records that make its graph.
+ghost use Rattle.std.specs.Prelude.{◌≡◌, ◌≤◌, [], IfOk, IfErr};
+ghost use Rattle.std.specs.Arc.{arc_value};
+ghost use Rattle.hd_terms.specs.Objects.{IsDumpOf};
+ghost use Rattle.hd_terms.specs.Classes.{class_table};
+ghost use Rattle.hd_terms.specs.HeapFaults.{class_faults};
+ghost use Rattle.hd_records.specs.Reading.{ReadsRecords};
+ghost use Rattle.hd_decode.specs.Bodies.{ReadsBodies};
+ghost use Rattle.hd_classes.specs.Known.{AreClassesOf};
+ghost use Rattle.hd_graph.specs.Building.{IsReadFaultOrMemory};
+
+use crate::filling::{Rows, rows_of};
+use crate::graph::{Graph, Repeats};
+use crate::noted::{repeated_loads, repeated_strings};
+use crate::number::{Numbered, number};
+use hd_classes::Classes;
+use hd_decode::{Gate, decode};
+use hd_records::{Records, read_records};
+use hd_subs::DumpSubs;
+use hd_terms::ReadFault;
+use std::alloc::Global;
+use std::sync::Arc;
+use std::thread::Threads;
+
+impl Graph {
+    /// The graph of a file, of which these are the records, the sub-records and the classes.
+    ///
+    /// # Errors
+    ///
+    /// `NullObject` or `InstanceSize` at the tag of the first object with ID 0 or instance whose values don't fit its class's
+    /// layout, an offset into the file in bytes; or out of memory, at 0.
+    pub fn build<R: Threads + Sync>(
+        rt: &R,
+        alloc: Global,
+        bytes: &[u8],
+        records: &Records,
+        list: &DumpSubs,
+        classes: &Classes,
+    ) -> Result<Graph, ReadFault>
+        requires records { ReadsRecords bytes.now records.now.id_size records.now.strings records.now.loads records.now.segments }
+        requires list { ReadsBodies records.now.id_size bytes.now records.now.segments list.now }
+        requires classes { AreClassesOf (class_table bytes.now records.now.strings records.now.loads list.now) classes.now }
+        requires no_cycle { class_faults (class_table bytes.now records.now.strings records.now.loads list.now) list.now ≡ [] }
+        ensures ok { IfOk result (λ graph. IsDumpOf bytes.now graph) }
+        ensures err { IfErr result (λ f. IsReadFaultOrMemory bytes.now f) }
+    {
+        let id_size = records.id_size;
+        let strings = repeated_strings(alloc, &records.strings)?;
+        let loads = repeated_loads(alloc, &records.loads)?;
+        let Numbered { ids, roots, tally } = number(alloc, list, classes, id_size)?;
+        let Rows { slot_table, shapes } = rows_of(alloc, ids, classes, id_size, bytes, list)?;
+        let slot_table = slot_table.resolve(rt, alloc)?;
+        let repeats = Repeats {
+            objects: tally.repeated,
+            strings,
+            loads,
+        };
+        Ok(Graph::new(slot_table, shapes, roots, repeats, tally.opaque))
+    }
+}
+
+/// The graph of a dump. All of the file is read: its records, then its segments by this many workers at once, 1 to 16, each of
+/// which passes the gate first, then its classes and its objects. The answer is the same for every number of workers and every
+/// gate.
+///
+/// # Errors
+///
+/// The fault of the file, with its file offset in bytes: the one of least offset in the first phase that has one, in
+/// the order records, sub-records, classes, objects; or out of memory, at 0.
+pub fn open_dump<R: Threads + Sync, G: Gate>(
+    rt: &R,
+    alloc: Global,
+    bytes: &[u8],
+    workers: u32,
+    gate: &G,
+) -> Result<Arc<Graph>, ReadFault>
+    requires some { 1 ≤ workers }
+    requires few { workers ≤ 16 }
+    ensures ok { IfOk result (λ graph. IsDumpOf bytes.now (arc_value graph)) }
+    ensures err { IfErr result (λ f. IsReadFaultOrMemory bytes.now f) }
+{
+    let records = read_records(alloc, bytes)?;
+    let list = decode(rt, alloc, bytes, &records, workers, gate)?;
+    let classes = Classes::build(alloc, bytes, &records, &list)?;
+    let graph = Graph::build(rt, alloc, bytes, &records, &list, &classes)?;
+    let graph = Arc::new(alloc, graph)?;
+    Ok(graph)
+}

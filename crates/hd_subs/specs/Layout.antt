@@ -1,0 +1,21 @@
+-- Where the fields of a sub-record lie behind its tag.
+-- Source: HPROF binary format, CLASS DUMP, INSTANCE DUMP and OBJECT ARRAY DUMP: u1 tag, ID of the object, u4 stack trace serial;
+-- then of a class the ID of its super class, of an instance the ID of its class and u4 bytes of values, of an array u4 count of
+-- elements and the ID of its class.
+use Rattle.std.specs.Prelude.{ℕ, ◌+◌}
+use Rattle.hd_terms.specs.declared.IdSize.{IdSize}
+use Rattle.hd_terms.specs.declared.IdSize.TheVariants as sizes
+use Rattle.hd_terms.specs.Records.{id_len}
+
+-- the offset of the ID of an instance's class, or of a class's super class
+abbrev pub class_offset : IdSize → ℕ → ℕ
+class_offset size tag = tag + 5 + id_len size
+
+-- the offset of the ID of an object array's class
+abbrev pub array_class_offset : IdSize → ℕ → ℕ
+array_class_offset size tag = tag + 9 + id_len size
+
+-- the offset of the values of an instance, or of the elements of an object array
+abbrev pub elements_offset : IdSize → ℕ → ℕ
+elements_offset sizes.Four tag = tag + 17
+elements_offset sizes.Eight tag = tag + 25
