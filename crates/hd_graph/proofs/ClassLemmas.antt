@@ -42,22 +42,22 @@ module _ (bytes : List ℕ) (size : IdSize) where
   behind at h x whole = sym (drop-drop (length h) at bytes) ∙ ap (drop (length h)) whole ∙ drop-append_seam h x
 
   -- types and values at a place, whose keys have n bytes
-  unresolved : ℕ → ℕ → List ClassValue → List (ℕ × Span)
-  unresolved n p [] = []
-  unresolved n p (v ∷ vs) = (v.code, record { start = p + n + 1; len = value_len size v.code }) ∷ unresolved n (p + length (value_text v)) vs
+  located : ℕ → ℕ → List ClassValue → List (ℕ × Span)
+  located n p [] = []
+  located n p (v ∷ vs) = (v.code, record { start = p + n + 1; len = value_len size v.code }) ∷ located n (p + length (value_text v)) vs
 
-  statics-unresolved : (p : ℕ) (vs : List ClassValue) → values_of_statics (statics_at size p vs) ≡ unresolved (id_len size) p vs
-  unfolding unresolved
-  statics-unresolved p [] = refl
-  statics-unresolved p (v ∷ vs) = ap (λ (xs : List (ℕ × Span)). (v.code, record { start = p + id_len size + 1; len = value_len size v.code }) ∷ xs) (statics-unresolved (p + length (value_text v)) vs)
+  statics-located : (p : ℕ) (vs : List ClassValue) → values_of_statics (statics_at size p vs) ≡ located (id_len size) p vs
+  unfolding located
+  statics-located p [] = refl
+  statics-located p (v ∷ vs) = ap (λ (xs : List (ℕ × Span)). (v.code, record { start = p + id_len size + 1; len = value_len size v.code }) ∷ xs) (statics-located (p + length (value_text v)) vs)
 
-  constants-unresolved : (p : ℕ) (vs : List ClassValue) → values_of_constants (constants_at size p vs) ≡ unresolved 2 p vs
-  unfolding unresolved
-  constants-unresolved p [] = refl
-  constants-unresolved p (v ∷ vs) =
+  constants-located : (p : ℕ) (vs : List ClassValue) → values_of_constants (constants_at size p vs) ≡ located 2 p vs
+  unfolding located
+  constants-located p [] = refl
+  constants-located p (v ∷ vs) =
       let place : p + 3 ≡ p + 2 + 1 = omega arith in
       ap (λ (at : ℕ). (v.code, record { start = at; len = value_len size v.code }) ∷ values_of_constants (constants_at size (p + length (value_text v)) vs)) place
-      ∙ ap (λ (xs : List (ℕ × Span)). (v.code, record { start = p + 2 + 1; len = value_len size v.code }) ∷ xs) (constants-unresolved (p + length (value_text v)) vs)
+      ∙ ap (λ (xs : List (ℕ × Span)). (v.code, record { start = p + 2 + 1; len = value_len size v.code }) ∷ xs) (constants-located (p + length (value_text v)) vs)
 
   -- the value of one, and what stands behind it
   module _ (n p : ℕ) (v : ClassValue) (rest : List ℕ) (is : IsClassValue size n v) (whole : drop p bytes ≡ value_text v ++ rest) where
@@ -80,27 +80,27 @@ module _ (bytes : List ℕ) (size : IdSize) where
         ap (big_number (id_len size)) value-there ∙ big_from-append (id_len size) v.value rest (omega (arith, long))
 
   -- the slots of values at a place
-  slots-unresolved : (slot : ℕ → Slot) (n i p : ℕ) (vs : List ClassValue) (rest : List ℕ) → drop p bytes ≡ flat_map value_text vs ++ rest → AllByRecursion (IsClassValue size n) vs
-      → named_slots (value_names slot i (unresolved n p vs)) (value_ids bytes size (unresolved n p vs)) ≡ value_slots size slot i vs
-  unfolding unresolved
-  slots-unresolved slot n i p [] rest whole each = refl
-  slots-unresolved slot n i p (v ∷ vs) rest whole each =
+  slots-located : (slot : ℕ → Slot) (n i p : ℕ) (vs : List ClassValue) (rest : List ℕ) → drop p bytes ≡ flat_map value_text vs ++ rest → AllByRecursion (IsClassValue size n) vs
+      → named_slots (value_names slot i (located n p vs)) (value_ids bytes size (located n p vs)) ≡ value_slots size slot i vs
+  unfolding located
+  slots-located slot n i p [] rest whole each = refl
+  slots-located slot n i p (v ∷ vs) rest whole each =
       let here = whole ∙ append_assoc (value_text v) (flat_map value_text vs) rest in
       by_type (is_id_type v.code) refl (λ id. id-there n p v (flat_map value_text vs ++ rest) each.0 here id)
-      (slots-unresolved slot n (i + 1) (p + length (value_text v)) vs rest (behind p (value_text v) (flat_map value_text vs ++ rest) here) each.1)
+      (slots-located slot n (i + 1) (p + length (value_text v)) vs rest (behind p (value_text v) (flat_map value_text vs ++ rest) here) each.1)
     where
       by_type : (b : Bool) → is_id_type v.code ≡ b → (is_id_type v.code ≡ true → big_number (id_len size) (drop (p + n + 1) bytes) ≡ big_number (id_len size) v.value)
-          → named_slots (value_names slot (i + 1) (unresolved n (p + length (value_text v)) vs)) (value_ids bytes size (unresolved n (p + length (value_text v)) vs)) ≡ value_slots size slot (i + 1) vs
-          → named_slots (cond b (slot i ∷ value_names slot (i + 1) (unresolved n (p + length (value_text v)) vs)) (value_names slot (i + 1) (unresolved n (p + length (value_text v)) vs)))
-          (cond b (big_number (id_len size) (drop (p + n + 1) bytes) ∷ value_ids bytes size (unresolved n (p + length (value_text v)) vs)) (value_ids bytes size (unresolved n (p + length (value_text v)) vs)))
+          → named_slots (value_names slot (i + 1) (located n (p + length (value_text v)) vs)) (value_ids bytes size (located n (p + length (value_text v)) vs)) ≡ value_slots size slot (i + 1) vs
+          → named_slots (cond b (slot i ∷ value_names slot (i + 1) (located n (p + length (value_text v)) vs)) (value_names slot (i + 1) (located n (p + length (value_text v)) vs)))
+          (cond b (big_number (id_len size) (drop (p + n + 1) bytes) ∷ value_ids bytes size (located n (p + length (value_text v)) vs)) (value_ids bytes size (located n (p + length (value_text v)) vs)))
           ≡ cond b (strong_slot (slot i) (big_number (id_len size) v.value) ∷ value_slots size slot (i + 1) vs) (value_slots size slot (i + 1) vs)
       by_type true id there more =
-          ap (λ (x : ℕ). strong_slot (slot i) x ∷ named_slots (value_names slot (i + 1) (unresolved n (p + length (value_text v)) vs)) (value_ids bytes size (unresolved n (p + length (value_text v)) vs))) (there id)
+          ap (λ (x : ℕ). strong_slot (slot i) x ∷ named_slots (value_names slot (i + 1) (located n (p + length (value_text v)) vs)) (value_ids bytes size (located n (p + length (value_text v)) vs))) (there id)
           ∙ ap (λ (ss : List SlotEntry). strong_slot (slot i) (big_number (id_len size) v.value) ∷ ss) more
       by_type false id there more = more
 
-  values-within : (n p : ℕ) (vs : List ClassValue) (rest : List ℕ) → drop p bytes ≡ flat_map value_text vs ++ rest → AllByRecursion (IsClassValue size n) vs → All (IsValueWithin size (length bytes)) (unresolved n p vs)
-  unfolding unresolved
+  values-within : (n p : ℕ) (vs : List ClassValue) (rest : List ℕ) → drop p bytes ≡ flat_map value_text vs ++ rest → AllByRecursion (IsClassValue size n) vs → All (IsValueWithin size (length bytes)) (located n p vs)
+  unfolding located
   values-within n p [] rest whole each = All-nil (IsValueWithin size (length bytes))
   values-within n p (v ∷ vs) rest whole each =
       let here = whole ∙ append_assoc (value_text v) (flat_map value_text vs) rest in
@@ -181,13 +181,13 @@ module _ (bytes : List ℕ) (size : IdSize) where
 
     static-slots : named_slots (value_names (λ i. slots.Static i) 0 (values_of_statics item.statics)) (value_ids bytes size (values_of_statics item.statics)) ≡ value_slots size (λ i. slots.Static i) 0 statics.items
     static-slots =
-        ap (λ (vs : List (ℕ × Span)). named_slots (value_names (λ i. slots.Static i) 0 vs) (value_ids bytes size vs)) (statics-unresolved statics_place statics.items)
-        ∙ slots-unresolved (λ i. slots.Static i) (id_len size) 0 statics_place statics.items (F ++ rest) statics-there is.2.each
+        ap (λ (vs : List (ℕ × Span)). named_slots (value_names (λ i. slots.Static i) 0 vs) (value_ids bytes size vs)) (statics-located statics_place statics.items)
+        ∙ slots-located (λ i. slots.Static i) (id_len size) 0 statics_place statics.items (F ++ rest) statics-there is.2.each
 
     constant-slots : named_slots (value_names (λ i. slots.Const i) 0 (values_of_constants item.constants)) (value_ids bytes size (values_of_constants item.constants)) ≡ value_slots size (λ i. slots.Const i) 0 constants.items
     constant-slots =
-        ap (λ (vs : List (ℕ × Span)). named_slots (value_names (λ i. slots.Const i) 0 vs) (value_ids bytes size vs)) (constants-unresolved constants_place constants.items)
-        ∙ slots-unresolved (λ i. slots.Const i) 2 0 constants_place constants.items (S ++ (F ++ rest)) constants-there is.1.each
+        ap (λ (vs : List (ℕ × Span)). named_slots (value_names (λ i. slots.Const i) 0 vs) (value_ids bytes size vs)) (constants-located constants_place constants.items)
+        ∙ slots-located (λ i. slots.Const i) 2 0 constants_place constants.items (S ++ (F ++ rest)) constants-there is.1.each
 
     abbrev links : List SlotEntry
     links = strong_slot slots.Super item.super ∷ strong_slot slots.Loader item.loader ∷ strong_slot slots.Signers item.signers ∷ strong_slot slots.Domain item.domain ∷ []
@@ -245,8 +245,8 @@ module _ (bytes : List ℕ) (size : IdSize) where
 
     pub class-within : IsClassWithin size (length bytes) item
     class-within = record {
-      statics = subst (All (IsValueWithin size (length bytes))) (sym (statics-unresolved statics_place statics.items)) (values-within (id_len size) statics_place statics.items (F ++ rest) statics-there is.2.each);
-      constants = subst (All (IsValueWithin size (length bytes))) (sym (constants-unresolved constants_place constants.items)) (values-within 2 constants_place constants.items (S ++ (F ++ rest)) constants-there is.1.each);
+      statics = subst (All (IsValueWithin size (length bytes))) (sym (statics-located statics_place statics.items)) (values-within (id_len size) statics_place statics.items (F ++ rest) statics-there is.2.each);
+      constants = subst (All (IsValueWithin size (length bytes))) (sym (constants-located constants_place constants.items)) (values-within 2 constants_place constants.items (S ++ (F ++ rest)) constants-there is.1.each);
       bytes = omega (arith, class-heavy, length-drop at bytes, ap (λ (xs : List ℕ). length xs) whole, length-append (sub_record_text (ClassDump head constants statics fields)) rest);
     }
 

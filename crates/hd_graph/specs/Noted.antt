@@ -1,5 +1,5 @@
 -- Noting IDs one after another, and counting those that were noted before.
-use Rattle.std.specs.Prelude.{◌≡◌, ℕ, ◌+◌, if◌then◌else◌, List}
+use Rattle.std.specs.Prelude.{◌≡◌, ℕ, ◌+◌, ◌==◌, if◌then◌else◌, List}
 use Rattle.std.specs.List.{list_any}
 use Rattle.hd_terms.specs.FirstRecords.{repeats}
 use Rattle.hd_ids.specs.Noted.{is_noted}

@@ -11,11 +11,7 @@ use hd_records::{Loads, Texts};
 use std::alloc::{AllocError, Global};
 
 /// Notes an ID, and counts it if it was noted before. Answers whether it is new.
-pub(crate) fn note_id(
-    ids: &mut ObjectIds,
-    repeated: &mut u64,
-    id: u64,
-) -> Result<bool, AllocError>
+pub(crate) fn note_id(ids: &mut ObjectIds, repeated: &mut u64, id: u64) -> Result<bool, AllocError>
     requires { repeated.old + 1 < 2 ^ 64 }
     ensures noted { OnOk result (NotesId id ids.old repeated.old ids.new repeated.new) }
     ensures is_new { IfOk result (λ new. new ≡ not (is_noted ids.old id)) }

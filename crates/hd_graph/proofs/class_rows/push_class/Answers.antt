@@ -1,9 +1,11 @@
 use Rattle.std.proofs.Common.{◌∙◌, ℕ, ◌+◌, List, ◌++◌, length, map, ap, sym, subst, arith}
 use Rattle.std.proofs.lemmas.List.{length-map}
+use Rattle.hd_terms.specs.declared.IdSize.{IdSize}
 use Rattle.hd_terms.specs.declared.Slot.{Slot}
 use Rattle.hd_terms.specs.declared.Slot.TheVariants as slots
 use Rattle.hd_subs.specs.declared.class.Static.{Static}
 use Rattle.hd_subs.specs.declared.class.Constant.{Constant}
+use Rattle.hd_subs.specs.Layout.{class_offset}
 use Rattle.hd_subs.specs.Views.{static_view, constant_view, class_view}
 use Rattle.hd_graph.specs.ArrayRows.{HasLinks, values_of_statics, values_of_constants, value_ids, value_names, static_bytes}
 use Rattle.hd_graph.specs.PackedShapes.{ShapeLists}

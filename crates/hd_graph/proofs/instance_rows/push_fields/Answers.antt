@@ -12,15 +12,15 @@ any_field = record { owner = 0; name = 0; code = 0 }
 pub push_field-requires-clause-within : goal.push_field-requires-clause-within
 push_field-requires-clause-within c =
     let code = (get_or c.args.layout.now c.loop-i.i any_field).code in
-    let len : c.from-len.result ≡ value_len c.args.slot_table.now.size code = c.from-len.ensures ∙ c.value_len.ensures.len ∙ ap (λ (size : IdSize). value_len size code) c.id_size-id_size.ensures in
+    let len : c.from-len.result ≡ value_len c.args.slot_table.now.size code = c.from-len.ensures ∙ c.value_len.ensures.len ∙ ap (λ (size : IdSize). value_len size code) c.id_size-id_size.ensures.size in
     value-within c.args.start c.args.layout.now c.loop-i.i any_field c.args.slot_table.now c.loop-i.slot_table c.loop-i.at c.from-len.result c.loop-i-test.true c.loop-i.invariant c.requires.within len
 
 pub overflow_add-at : goal.overflow_add-at
 overflow_add-at c =
     let code = (get_or c.args.layout.now c.loop-i.i any_field).code in
-    let len : c.from-len.result ≡ value_len c.args.slot_table.now.size code = c.from-len.ensures ∙ c.value_len.ensures.len ∙ ap (λ (size : IdSize). value_len size code) c.id_size-id_size.ensures in
+    let len : c.from-len.result ≡ value_len c.args.slot_table.now.size code = c.from-len.ensures ∙ c.value_len.ensures.len ∙ ap (λ (size : IdSize). value_len size code) c.id_size-id_size.ensures.size in
     let within = field-within c.args.start c.args.layout.now c.loop-i.i any_field c.args.slot_table.now c.loop-i.slot_table c.loop-i.at c.loop-i-test.true c.loop-i.invariant c.requires.within in
-    omega (arith, within, len, c.id_size.ensures.small)
+    omega (arith, within, len, c.id_size-id_size.ensures.small)
 
 pub push_field-requires-clause-room : goal.push_field-requires-clause-room
 push_field-requires-clause-room c =
@@ -30,7 +30,7 @@ push_field-requires-clause-room c =
 pub loop-i-preserved : goal.loop-i-preserved
 loop-i-preserved c =
     let code = (get_or c.args.layout.now c.loop-i.i any_field).code in
-    let len : c.from-len.result ≡ value_len c.args.slot_table.now.size code = c.from-len.ensures ∙ c.value_len.ensures.len ∙ ap (λ (size : IdSize). value_len size code) c.id_size-id_size.ensures in
+    let len : c.from-len.result ≡ value_len c.args.slot_table.now.size code = c.from-len.ensures ∙ c.value_len.ensures.len ∙ ap (λ (size : IdSize). value_len size code) c.id_size-id_size.ensures.size in
     pushed-more c.args.start c.args.layout.now c.loop-i.i any_field c.args.slot_table.now c.loop-i.slot_table c.push_field.new.slot_table c.loop-i.at (c.loop-i.at + c.from-len.result) c.loop-i-test.true c.loop-i.invariant
     (ap (λ (n : ℕ). c.loop-i.at + n) len) c.in_ok-push_field.ensures
 

@@ -3,6 +3,7 @@ use Rattle.std.proofs.lemmas.List.{length-map}
 use Rattle.hd_terms.specs.declared.IdSize.{IdSize}
 use Rattle.hd_terms.specs.Classes as classes_of
 use Rattle.hd_terms.specs.Classes.{layout_len}
+use Rattle.hd_subs.specs.Layout.{class_offset}
 use Rattle.hd_classes.specs.declared.known.LayoutField.{LayoutField}
 use Rattle.hd_classes.specs.Known.{field_view, known_view, known_at}
 use Rattle.hd_graph.specs.Shapes.{ObjectShape}

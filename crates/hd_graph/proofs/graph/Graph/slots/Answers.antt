@@ -19,8 +19,8 @@ get-id-requires-clause-row c =
     let few = length-row_objects a.shapes.objects a.slot_table.ids a.slot_table.rows c.self.invariant.columns in
     omega (arith, few, c.self.invariant.columns.rows)
 
-pub get-id-requires-clause-place : goal.get-id-requires-clause-place
-get-id-requires-clause-place c =
+pub get-id-requires-clause-index : goal.get-id-requires-clause-index
+get-id-requires-clause-index c =
     let a = c.self.inside in
     let lt : c.args.o < length (row_objects a.shapes.objects a.slot_table.ids a.slot_table.rows) = rw (← c.self.view_is) at c.requires.object in
     let few = length-row_objects a.shapes.objects a.slot_table.ids a.slot_table.rows c.self.invariant.columns in
