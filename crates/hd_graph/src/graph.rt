@@ -4,13 +4,14 @@ ghost use Rattle.hd_terms.specs.Edges.{index_of};
 ghost use Rattle.hd_terms.specs.EditedDump.{same_slot};
 ghost use Rattle.hd_terms.specs.Dump.{SlotEntry, object_at};
 ghost use Rattle.hd_terms.specs.declared.Slot.{Slot};
+ghost use Rattle.hd_terms.specs.declared.Mode.TheVariants as modes;
 ghost use Rattle.hd_graph.specs.Arrays.{row_place};
 ghost use Rattle.hd_graph.specs.Shapes.{shape_bytes, slot_name, slot_kind, shape_place, shape_referent, IsNamedAt, HasFewNames};
 ghost use Rattle.hd_graph.specs.PackedShapes.{shape_view};
 
 use crate::shape::{Shape, Shapes};
 use crate::slot_table::SlotTable;
-use hd_terms::{EdgeKind, Group, RootKind, Slot};
+use hd_terms::{EdgeKind, Group, Mode, RootKind, Slot};
 use std::marker::Model;
 
 /// The objects, references and roots of a dump. Objects are numbered from 0 in file order.
@@ -194,7 +195,7 @@ impl Graph {
         requires small { All IsSmall shapes.objects }
         requires few { length slot_table.ids < 2 ^ 31 }
         requires few_roots { length roots.items < 2 ^ 32 }
-        ensures { result ≡ record { objects = row_objects shapes.objects slot_table.ids slot_table.rows; roots = map root_of_row roots.items; repeated = repeated_in repeats; opaque = opaque } }
+        ensures { result ≡ record { mode = modes.Direct; objects = row_objects shapes.objects slot_table.ids slot_table.rows; roots = map root_of_row roots.items; repeated = repeated_in repeats; opaque = opaque } }
     {
         Graph {
             slot_table,
@@ -217,6 +218,13 @@ impl Graph {
         ensures { result ≡ self.now.opaque }
     {
         self.opaque
+    }
+
+    /// How phantom references are followed in this dump.
+    pub fn mode(&self) -> Mode
+        ensures { result ≡ self.now.mode }
+    {
+        Mode::Direct
     }
 
     /// How many objects the dump has.
