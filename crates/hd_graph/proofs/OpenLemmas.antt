@@ -20,6 +20,7 @@ use Rattle.hd_terms.specs.HeapFaults.{fault_if, class_faults}
 use Rattle.hd_terms.specs.Roots.{roots_of}
 use Rattle.hd_terms.specs.Dump.{Object, Root, Repeated}
 use Rattle.hd_terms.specs.Objects as objects
+use Rattle.hd_terms.specs.declared.Mode.TheVariants as modes
 use Rattle.hd_terms.specs.Objects.{classes_of, object_of, objects_of, opaque_in, IsDumpOf, repeated_of}
 use Rattle.hd_terms.specs.ReadFaults.{in_records, in_sub_records, in_classes, in_objects, IsSubRecordsFault, IsSegmentFault}
 use Rattle.hd_records.specs.Reading.{ReadsRecords, IsRecordsFaultOrMemory}
@@ -275,7 +276,7 @@ module _ (bytes : List ℕ) (size : IdSize) (strings : List Text) (classes : Lis
                 ∙ ap (λ (m : ℕ). record { objects = repeats (λ (x : Object). x.id) (filter_map (object_of real size) (all_of real bytes size b.segments)); strings = repeats (λ (x : Text). x.id) (texts size r.records); loads = m })
                 (loads_are ∙ ap (repeats (λ (x : Load). x.class)) r.loads_are)
 
-            pub opened : IsDumpOf bytes (record { objects = row_objects c.shapes t.ids t.rows; roots = map root_of_row roots; repeated = again; opaque = tally.opaque })
+            pub opened : IsDumpOf bytes (record { mode = modes.Direct; objects = row_objects c.shapes t.ids t.rows; roots = map root_of_row roots; repeated = again; opaque = tally.opaque })
             opened = record {
               size = size;
               records = r.records;
@@ -287,10 +288,10 @@ module _ (bytes : List ℕ) (size : IdSize) (strings : List Text) (classes : Lis
                 classes = no-cycle;
                 objects = sym object-faults-are ∙ n.no_fault;
               };
-              is = ap (λ (xs : List Object). record { objects = xs; roots = map root_of_row roots; repeated = again; opaque = tally.opaque }) objects_are
-                  ∙ ap (λ (xs : List Root). record { objects = objects_of real size (all_of real bytes size b.segments); roots = xs; repeated = again; opaque = tally.opaque }) roots_are
-                  ∙ ap (λ (x : Repeated). record { objects = objects_of real size (all_of real bytes size b.segments); roots = roots_of size (all_of real bytes size b.segments); repeated = x; opaque = tally.opaque }) again_is
-                  ∙ ap (λ (m : ℕ). record { objects = objects_of real size (all_of real bytes size b.segments); roots = roots_of size (all_of real bytes size b.segments); repeated = repeated_of real size r.records (all_of real bytes size b.segments); opaque = m }) opaque_are;
+              is = ap (λ (xs : List Object). record { mode = modes.Direct; objects = xs; roots = map root_of_row roots; repeated = again; opaque = tally.opaque }) objects_are
+                  ∙ ap (λ (xs : List Root). record { mode = modes.Direct; objects = objects_of real size (all_of real bytes size b.segments); roots = xs; repeated = again; opaque = tally.opaque }) roots_are
+                  ∙ ap (λ (x : Repeated). record { mode = modes.Direct; objects = objects_of real size (all_of real bytes size b.segments); roots = roots_of size (all_of real bytes size b.segments); repeated = x; opaque = tally.opaque }) again_is
+                  ∙ ap (λ (m : ℕ). record { mode = modes.Direct; objects = objects_of real size (all_of real bytes size b.segments); roots = roots_of size (all_of real bytes size b.segments); repeated = repeated_of real size r.records (all_of real bytes size b.segments); opaque = m }) opaque_are;
             }
 
 pub records-fault : (bytes : List ℕ) (f : ReadFault) → IsRecordsFaultOrMemory bytes f → IsReadFaultOrMemory bytes f

@@ -55,7 +55,14 @@ impl Graph {
             strings,
             loads,
         };
-        Ok(Graph::new(slot_table, shapes, roots, repeats, tally.opaque))
+        Ok(Graph::new(
+            slot_table,
+            shapes,
+            roots,
+            repeats,
+            tally.opaque,
+            Mode::Direct,
+        ))
     }
 }
 

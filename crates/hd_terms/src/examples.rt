@@ -1,6 +1,6 @@
 //! What the definitions say of the worked examples of `docs/DEFINITIONS.md`. Each is the contract of a function with an
 //! empty body.
-ghost use Rattle.std.specs.Prelude.{◌≡◌, ℕ, ◌≤◌, List, [], ◌∷◌, ◌++◌, Some, None, Ok, Err, take, slice_set, replicate, codes};
+ghost use Rattle.std.specs.Prelude.{◌≡◌, ℕ, ◌≤◌, true, false, List, [], ◌∷◌, ◌++◌, Some, None, Ok, Err, take, slice_set, replicate, codes};
 ghost use Rattle.hd_terms.specs.declared.Strength.TheVariants as strengths;
 ghost use Rattle.hd_terms.specs.declared.Slot.TheVariants as slots;
 ghost use Rattle.hd_terms.specs.declared.errors.Cause.TheVariants as causes;
@@ -9,7 +9,7 @@ ghost use Rattle.hd_terms.specs.ReadFaults.{IsReadFault, fault};
 ghost use Rattle.hd_terms.specs.Strengths.{HasStrength};
 ghost use Rattle.hd_terms.specs.Chains.{IsChain};
 ghost use Rattle.hd_terms.specs.Edges.{edges};
-ghost use Rattle.hd_terms.specs.EditedDump.{standing};
+ghost use Rattle.hd_terms.specs.EditedDump.{root_entries, root_stands, standing};
 ghost use Rattle.hd_terms.specs.Replies.{IsReply};
 ghost use Rattle.hd_terms.specs.Sessions.{IsServed, IsServedUntilRead, IsServedUntilWrite};
 ghost use Rattle.hd_terms.specs.declared.SlotMode.TheVariants as modes;
@@ -107,6 +107,8 @@ pub fn heap_examples()
     ensures chain { IsChain (standing examples.cycle_behind_one_edge []) (examples.root_on 0 0)
         (examples.strong_edge 0 (slots.Element 0) 1 ∷ examples.strong_edge 1 (slots.Element 0) 2 ∷ []) 2 strengths.Strong }
     ensures phantom_referent { HasStrength (standing examples.phantom_referent []) 8 strengths.Phantom }
+    ensures closure { HasStrength (standing examples.phantom_closure []) 9 strengths.Phantom }
+    ensures closure_of_its_own_referent { HasStrength (standing examples.phantom_closure []) 10 strengths.Unreachable }
     ensures behind_a_phantom { HasStrength (standing examples.phantom_referent []) 9 strengths.Unreachable }
     ensures its_own_referent { HasStrength (standing examples.phantom_referent []) 10 strengths.Unreachable }
 {}
@@ -123,6 +125,11 @@ pub fn log_examples()
     ensures second_undo { IsLawful (examples.cut_and_undo ++ examples.undoes 0 0 ∷ []) → ⊥ }
     ensures added_root { (standing examples.added_and_dropped_roots (take 1 examples.add_and_drop)).roots ≡ examples.root_on 0 0 ∷ examples.root_on 1 1 ∷ examples.root_on 2 2 ∷ [] }
     ensures dropped_root { (standing examples.added_and_dropped_roots (take 2 examples.add_and_drop)).roots ≡ examples.root_on 0 0 ∷ examples.root_on 1 1 ∷ [] }
+    ensures root_entries { root_entries examples.added_and_dropped_roots (take 3 examples.add_and_drop) ≡ examples.root_entry 0 1 ∷ examples.root_entry 1 2 ∷ examples.root_entry 2 7 ∷ [] }
+    ensures undone_root { root_stands 2 (take 3 examples.add_and_drop) 2 ≡ false }
+    ensures no_root { root_stands 2 examples.add_and_drop 3 ≡ false }
+    ensures root_on_no_object { root_stands 9 [] 0 ≡ true }
+    ensures holds_nothing { (standing examples.root_kinds []).roots ≡ [] }
     ensures dropped_before_it_was_added { (standing examples.added_and_dropped_roots examples.drop_and_add).roots ≡ examples.root_on 0 0 ∷ examples.root_on 1 1 ∷ [] }
 {}
 

@@ -13,7 +13,7 @@ mod types;
 
 ghost use Rattle.std.specs.Prelude.{◌≡◌, ◌≤◌, length};
 ghost use Rattle.byteorder.specs.Endian.{big_number};
-ghost use Rattle.hd_terms.specs.Ranks.{rank, given_by, weaker_of};
+ghost use Rattle.hd_terms.specs.Ranks.{rank, given_by, least_passed_on, weaker_of};
 ghost use Rattle.hd_terms.specs.Records.{id_len};
 
 use byteorder::{BigEndian, ByteOrder};
@@ -89,6 +89,27 @@ impl EdgeKind {
             EdgeKind::Weak => Strength::Weak,
             EdgeKind::Final => Strength::Final,
             EdgeKind::Phantom => Strength::Phantom,
+        }
+    }
+}
+
+/// How phantom references are followed, fixed when a dump is opened.
+#[derive(Clone, Copy, Debug, PartialEq, Eq)]
+pub enum Mode {
+    /// A phantom reference makes its own referent phantom reachable, and nothing behind that.
+    Direct,
+    /// What a phantom reachable object refers to is phantom reachable too.
+    Closure,
+}
+
+impl Mode {
+    /// The least strength that an object passes on to what it refers to.
+    pub fn least_passed_on(self) -> Strength
+        ensures { result ≡ least_passed_on self }
+    {
+        match self {
+            Mode::Direct => Strength::Final,
+            Mode::Closure => Strength::Phantom,
         }
     }
 }
