@@ -17,7 +17,7 @@ use hd_classes::Classes;
 use hd_decode::{Gate, decode};
 use hd_records::{Records, read_records};
 use hd_subs::DumpSubs;
-use hd_terms::ReadFault;
+use hd_terms::{Mode, ReadFault};
 use std::alloc::Global;
 use std::sync::Arc;
 use std::thread::Threads;
