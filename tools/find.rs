@@ -1,7 +1,7 @@
 //! Tells the IDs of a heap dump's instances of some classes.
 //!
-//! Build:  rustc --edition 2021 -O find.rs
-//! Run:    find FILE NAME..
+//! Build:  rustc --edition 2021 -O tools/find.rs -o find
+//! Run:    ./find FILE NAME..
 //!
 //! A NAME is that of a class, with dots or slashes. For each of its instances, not counting those of its subclasses, a
 //! line is printed: the NAME as it was given, and the ID. For a NAME and `.class` behind it, as `java.lang.String.class`,

@@ -2,8 +2,8 @@
 //! dumps: in a single HEAP DUMP record, and without HEAP DUMP END. It is for measuring what opens a dump whose segments
 //! can't be shared out among several workers, beside the same dump with many.
 //!
-//! Build:  rustc --edition 2021 -O one_segment.rs
-//! Run:    one_segment FILE NEW
+//! Build:  rustc --edition 2021 -O tools/one_segment.rs -o one_segment
+//! Run:    ./one_segment FILE NEW
 //!
 //! The one record stands where the first segment stood, with the time of that. All other records stay as they are, in
 //! their order, so that those between two segments come behind the one record. Standard error gets how many segments

@@ -1,8 +1,8 @@
 #!/usr/bin/env bash
-# Asks hdesk for the strengths of the six planted objects in a dump of `real_dump.sh`, and compares them with what they
+# Asks hdesk for the strengths of the six planted objects in a dump of `tools/real_dump.sh`, and compares them with what they
 # have to be.
 #
-#   bench/planted.sh FILE
+#   checks/planted.sh FILE
 #
 # The program is the one that the variable HDESK names, or else the script `hdesk` at the top of the repository. Prints
 # a line for each object: its class, ID and strength, and whether that is right. Its status is 1 where one isn't. Needed
@@ -14,7 +14,7 @@ fail() {
     exit 1
 }
 
-(($# == 1)) || { echo 'usage: bench/planted.sh FILE' >&2; exit 64; }
+(($# == 1)) || { echo 'usage: checks/planted.sh FILE' >&2; exit 64; }
 [[ -f $1 && -r $1 ]] || fail "cannot read $1"
 dump=$(readlink -f "$1")
 here=$(cd -P "$(dirname "$(readlink -f "${BASH_SOURCE[0]}")")" && pwd)
@@ -27,7 +27,7 @@ trap 'exit 130' INT TERM
 names=(PlantedStrong PlantedSoft PlantedWeak PlantedFinal PlantedPhantom PlantedLost)
 rights=(STRONG SOFT WEAK FINAL PHANTOM UNREACHABLE)
 
-rustc --edition 2021 -O "$here/find.rs" -o "$room/find"
+rustc --edition 2021 -O "$here/../tools/find.rs" -o "$room/find"
 "$room/find" "$dump" "${names[@]}" >"$room/found" || fail "$1 has no planted objects"
 
 # The IDs in the order of the names; each class has one instance.

@@ -1,7 +1,8 @@
 #!/usr/bin/env bash
-# Dumps the heap of a Java virtual machine that runs Planted.java, with six planted objects of known strength.
+# Dumps the heap of a Java virtual machine that runs checks/Planted.java, with a leak and six planted objects of known
+# strength.
 #
-#   bench/real_dump.sh FILE [MEGABYTES]
+#   tools/real_dump.sh FILE [MEGABYTES]
 #
 # FILE must not be there yet. Without MEGABYTES the dump has a few MB; with it, 1 to 2000, about so many MB of small
 # objects, tens of millions of them at 1000. Unreachable objects are dumped too, and no collection comes before the dump.
@@ -19,7 +20,7 @@ fail() {
     exit 1
 }
 
-(($# == 1 || $# == 2)) || { complain 'usage: bench/real_dump.sh FILE [MEGABYTES]'; exit 64; }
+(($# == 1 || $# == 2)) || { complain 'usage: tools/real_dump.sh FILE [MEGABYTES]'; exit 64; }
 megabytes=${2:-2}
 if [[ ! $megabytes =~ ^[1-9][0-9]{0,3}$ ]] || ((megabytes > 2000)); then
     complain "no number from 1 to 2000: $megabytes"
@@ -50,7 +51,7 @@ fail_with() {
     exit 1
 }
 
-javac -J-XX:-UsePerfData -Xlint:none -d "$room/classes" "$here/Planted.java" >"$room/complaints" 2>&1 ||
+javac -J-XX:-UsePerfData -Xlint:none -d "$room/classes" "$here/../checks/Planted.java" >"$room/complaints" 2>&1 ||
     fail_with 'Planted.java was not compiled' "$room/complaints"
 
 # All objects have room among the young ones, so that no collection is needed; the rest of the heap isn't touched. An

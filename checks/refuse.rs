@@ -1,10 +1,10 @@
 //! Refuses one allocation of a program, to see what it does then. A library for LD_PRELOAD, for the GNU C library.
 //!
-//! Build:  rustc --edition 2021 -O --crate-type cdylib -C panic=abort refuse.rs -o refuse.so
+//! Build:  rustc --edition 2021 -O --crate-type cdylib -C panic=abort checks/refuse.rs -o refuse.so
 //! Run:    LD_PRELOAD=./refuse.so REFUSE=N PROGRAM 3>MARK
 //!
 //! The calls of `malloc`, `calloc` and `realloc` are counted together, from 1. The N-th returns null, as where memory
-//! is wanting, and all others go to the C library. When it refuses, it writes one byte to descriptor 3, so that a run
+//! ran out, and all others go to the C library. When it refuses, it writes one byte to descriptor 3, so that a run
 //! in which nothing was refused can be told from one that came to its end in spite of it. Nothing here allocates.
 
 use std::ffi::{c_char, c_int, c_void};

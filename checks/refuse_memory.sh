@@ -1,9 +1,9 @@
 #!/usr/bin/env bash
 # Runs hdesk over its sample while memory is refused to it, and looks for a wrong answer. Each run has to answer all
 # lines rightly; or to answer `no OutOfMemory` to some that take memory, and the others rightly for a log without the
-# events of those; or to end with the named fault of want of memory and nothing written.
+# events of those; or to end with the fault OutOfMemory and nothing written.
 #
-#   bench/refuse_memory.sh PROGRAM
+#   checks/refuse_memory.sh PROGRAM
 #
 # There are two sweeps:
 #
@@ -19,7 +19,7 @@ export LC_ALL=C
 
 readonly most_allocations=1000
 
-[[ $# -eq 1 && -x $1 ]] || { echo 'usage: bench/refuse_memory.sh PROGRAM' >&2; exit 64; }
+[[ $# -eq 1 && -x $1 ]] || { echo 'usage: checks/refuse_memory.sh PROGRAM' >&2; exit 64; }
 program=$(readlink -f "$1")
 here=$(cd -P "$(dirname "$(readlink -f "${BASH_SOURCE[0]}")")" && pwd)
 room=$(mktemp -d)
