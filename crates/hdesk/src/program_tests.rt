@@ -2,9 +2,11 @@
 use crate::program::{BAD_DUMP, DONE, FAILED, USAGE, program};
 use hd_protocol::SAMPLE;
 use std::alloc::{AllocError, Global};
-use std::fs;
+use std::fs::{self, File};
 use std::io::{self, BufRead, Read};
+use std::rt::Files;
 use std::test::Fail;
+use std::thread::Threads;
 
 /// What `stat` prints of the sample.
 const SAMPLE_STAT: &str = "objects 2\nroots 1\nedges 1\nunresolved 1\nrepeated 0 0 0\nopaque 0\n\
@@ -20,8 +22,8 @@ fn owned(alloc: Global, words: &[&str]) -> Result<Vec<String>, AllocError> {
 }
 
 /// Whether the program ends so over these words and lines: its status, what it writes, and what it reports.
-fn ends(
-    rt: &HostRuntime,
+fn ends<R: AllocGlobal + Files<File = File> + Threads + Sync>(
+    rt: &R,
     words: &[&str],
     status: u8,
     written: &[u8],
@@ -36,7 +38,10 @@ fn ends(
 }
 
 /// What the program reports of words that it doesn't take; nothing where it takes them, or reads or writes.
-fn usage_of(rt: &HostRuntime, words: &[&str]) -> Result<Vec<u8>, AllocError> {
+fn usage_of<R: AllocGlobal + Files<File = File> + Threads + Sync>(
+    rt: &R,
+    words: &[&str],
+) -> Result<Vec<u8>, AllocError> {
     let words = owned(rt.alloc(), words)?;
     let mut input: &[u8] = b"quit\n";
     let mut output = Vec::new(rt.alloc());
@@ -103,8 +108,8 @@ fn unreadable_files(rt: HostRuntime) -> Result<(), Fail> {
 }
 
 /// Writes a file of these bytes, and checks how `run` and `stat` end over it.
-fn over(
-    rt: &HostRuntime,
+fn over<R: AllocGlobal + Files<File = File> + Threads + Sync>(
+    rt: &R,
     path: &str,
     bytes: &[u8],
     run: (u8, &[u8], &[u8]),
