@@ -1,5 +1,6 @@
 //! The sub-records of a dump.
 ghost use Rattle.std.specs.Prelude.{◌≤◌, ◌<◌, ◌^◌, length, All, IfOk, IfErr, OnOk};
+ghost use Rattle.hd_terms.specs.Workers.{IsWorkers};
 ghost use Rattle.hd_records.specs.Reading.{ReadsRecords};
 ghost use Rattle.hd_subs.specs.Reading.{AppendsSegment, IsSegmentFaultOrMemory};
 ghost use Rattle.hd_decode.specs.Bodies.{ReadsBodies, IsSpanWithin, body_at, IsBodiesFaultOrMemory};
@@ -73,8 +74,7 @@ pub fn decode<R: Threads + Sync, G: Gate>(
     gate: &G,
 ) -> Result<DumpSubs, ReadFault>
     requires records { ReadsRecords bytes.now records.now.id_size records.now.strings records.now.loads records.now.segments }
-    requires some { 1 ≤ workers }
-    requires few { workers ≤ 16 }
+    requires workers { IsWorkers workers }
     ensures ok { IfOk result (λ list. ReadsBodies records.now.id_size bytes.now records.now.segments list) }
     ensures err { IfErr result (λ f. IsBodiesFaultOrMemory records.now.id_size bytes.now records.now.segments f) }
 {

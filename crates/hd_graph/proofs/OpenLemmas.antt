@@ -168,7 +168,7 @@ module _ (bytes : List ℕ) (size : IdSize) (strings : List Text) (classes : Lis
 
     -- a class whose chain never ends
     pub class-fault : (f : ReadFault) → IsClassFaultOrMemory table list f → IsReadFaultOrMemory bytes f
-    class-fault f (inl no_memory) = inl no_memory
+    class-fault f (inl out_of_memory_reply) = inl out_of_memory_reply
     class-fault f (inr h) = inr (in_classes size r.records b.segments r.header r.whole dump_bodies (ap (λ (fs : List ReadFault). slice_get fs 0) (sym faults-are) ∙ h))
 
     module _ (k : Known) (h : AreClassesOf table k) (no_cycle : class_faults table list ≡ []) where
@@ -200,7 +200,7 @@ module _ (bytes : List ℕ) (size : IdSize) (strings : List Text) (classes : Lis
 
       -- an object with ID 0, or one that doesn't fit
       pub object-fault : (f : ReadFault) → IsObjectFaultOrMemory known size list f → IsReadFaultOrMemory bytes f
-      object-fault f (inl no_memory) = inl no_memory
+      object-fault f (inl out_of_memory_reply) = inl out_of_memory_reply
       object-fault f (inr e) = inr (in_objects size r.records b.segments r.header r.whole dump_bodies no-cycle (ap (λ (fs : List ReadFault). slice_get fs 0) (sym object-faults-are) ∙ e))
 
       module _ (ids : List ℕ) (roots : List RootRow) (tally : Tally) (n : IsNumbered known size list ids roots tally) where

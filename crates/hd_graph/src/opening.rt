@@ -1,6 +1,7 @@
 //! Opening a heap dump: the passes over its records and sub-records that make its graph.
 ghost use Rattle.std.specs.Prelude.{◌≡◌, ◌≤◌, [], IfOk, IfErr};
 ghost use Rattle.std.specs.Arc.{arc_value};
+ghost use Rattle.hd_terms.specs.Workers.{IsWorkers};
 ghost use Rattle.hd_terms.specs.Objects.{IsDumpOf};
 ghost use Rattle.hd_terms.specs.Classes.{class_table};
 ghost use Rattle.hd_terms.specs.HeapFaults.{class_faults};
@@ -81,8 +82,7 @@ pub fn open_dump<R: Threads + Sync, G: Gate>(
     workers: u32,
     gate: &G,
 ) -> Result<Arc<Graph>, ReadFault>
-    requires some { 1 ≤ workers }
-    requires few { workers ≤ 16 }
+    requires workers { IsWorkers workers }
     ensures ok { IfOk result (λ graph. IsDumpOf bytes.now (arc_value graph)) }
     ensures err { IfErr result (λ f. IsReadFaultOrMemory bytes.now f) }
 {

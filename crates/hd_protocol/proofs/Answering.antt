@@ -10,7 +10,7 @@ use Rattle.hd_terms.specs.Edges.{index_of}
 use Rattle.hd_terms.specs.Fell.{FellCount}
 use Rattle.hd_terms.specs.Lines.{command_of, is_quit, is_quit_command}
 use Rattle.hd_terms.specs.Asking.{asked}
-use Rattle.hd_terms.specs.Replies.{RepliesTo, RepliesSlots, RepliesDone, answered, event_line, refused, refusal_name, no_memory, takes_memory}
+use Rattle.hd_terms.specs.Replies.{RepliesTo, RepliesSlots, RepliesDone, answered, event_line, refused, refusal_name, out_of_memory_reply, takes_memory}
 use Rattle.hd_terms.specs.Sessions.{IsTurn, event_by, with_event}
 use Rattle.hd_terms.specs.Sessions as sessions
 use Rattle.hd_state.specs.declared.state.Done.{Done}
@@ -27,17 +27,17 @@ use Rattle.hd_protocol.specs.Editing.{Adds, LogRefuses, IsWhyNot, EditEnds, edit
 use Rattle.hd_protocol.specs.Answering.{IsAnswered}
 
 -- nothing is asked of the log
-pub asks_nothing : (state : Situation) (reading : Result Command LineFault) (reply : List ℕ) → RepliesTo state.dump (remembered state.log) reading reply → IsAnswered state state reading reply
+pub asks_nothing : (state : Situation) (reading : Result Command LineFault) (reply : List ℕ) → RepliesTo state.dump state.log (remembered state.log).marks reading reply → IsAnswered state state reading reply
 asks_nothing state reading reply h = record {
   same_dump = refl;
-  is_turn = λ line spells. sessions.answered (subst (λ (r : Result Command LineFault). RepliesTo state.dump (remembered state.log) r reply) (sym spells) h) refl refl;
+  is_turn = λ line spells. sessions.answered (subst (λ (r : Result Command LineFault). RepliesTo state.dump state.log (remembered state.log).marks r reply) (sym spells) h) refl refl;
 }
 
 -- there is no memory
-pub wants_memory : (state : Situation) (reading : Result Command LineFault) (reply : List ℕ) → takes_memory reading ≡ true → reply ≡ no_memory → IsAnswered state state reading reply
+pub wants_memory : (state : Situation) (reading : Result Command LineFault) (reply : List ℕ) → takes_memory reading ≡ true → reply ≡ out_of_memory_reply → IsAnswered state state reading reply
 wants_memory state reading reply takes is = record {
   same_dump = refl;
-  is_turn = λ line spells. sessions.wanting (ap takes_memory spells ∙ takes) is refl refl;
+  is_turn = λ line spells. sessions.out_of_memory (ap takes_memory spells ∙ takes) is refl refl;
 }
 
 -- what is known of one command, state and reply holds of those that are the same
@@ -47,7 +47,7 @@ answered_as old new new' command command' reply reply' same_command same_state s
     rw (same_command, same_state, same_reply) h
 
 -- `slots` is answered by a refusal, or by a text
-pub slots_short : (state : Situation) (id : ℕ) (reply : List ℕ) → (reply ≡ no_memory) ⊎ RepliesSlots state.dump state.log (index_of state.dump.objects id) reply → IsAnswered state state (Ok (commands.Slots id)) reply
+pub slots_short : (state : Situation) (id : ℕ) (reply : List ℕ) → (reply ≡ out_of_memory_reply) ⊎ RepliesSlots state.dump state.log (index_of state.dump.objects id) reply → IsAnswered state state (Ok (commands.Slots id)) reply
 slots_short state id reply (inl memory) = wants_memory state (Ok (commands.Slots id)) reply refl memory
 slots_short state id reply (inr is) = asks_nothing state (Ok (commands.Slots id)) reply is
 
@@ -59,7 +59,7 @@ module _ (old new : Situation) (c : Command) (want : Result What Refusal) (asks 
   -- its event is added
   adds : (done : Done) → Adds old new want done → IsAnswered old new (Ok c) (edit_reply (Ok done))
   adds done a = record {
-    same_dump = ap (λ (s : Situation). s.dump) a.added;
+    same_dump = a.same_dump;
     is_turn = λ line spells. sessions.accepted c a.what spells (asks ∙ ap (λ (w : Result What Refusal). Some w) a.asked_for) a.taken
         (record {
           fell = done.fell;
@@ -68,7 +68,7 @@ module _ (old new : Situation) (c : Command) (want : Result What Refusal) (asks 
           back_is = a.counts.back;
           reply_is = ap (λ (n : ℕ). answered (event_line n done.fell done.back ∷ [])) a.counts.event;
         })
-        (ap (λ (s : Situation). remembered s.log) a.added);
+        (ap remembered a.added);
   }
 
   -- nothing changes
@@ -78,7 +78,7 @@ module _ (old new : Situation) (c : Command) (want : Result What Refusal) (asks 
   stays : (r : Refusal) → new ≡ old → IsWhyNot old want r → IsAnswered old new (Ok c) (refused (refusal_name r))
   stays r same (inl memory) = record {
     same_dump = ap (λ (s : Situation). s.dump) same;
-    is_turn = λ line spells. sessions.wanting (ap takes_memory spells ∙ takes) (ap (λ (q : Refusal). refused (refusal_name q)) memory) refl (same_memory same);
+    is_turn = λ line spells. sessions.out_of_memory (ap takes_memory spells ∙ takes) (ap (λ (q : Refusal). refused (refusal_name q)) memory) refl (same_memory same);
   }
   stays r same (inr (inl before)) = record {
     same_dump = ap (λ (s : Situation). s.dump) same;

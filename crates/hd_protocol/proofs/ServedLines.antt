@@ -21,22 +21,24 @@ use Rattle.hd_protocol.proofs.Writing.{appends_nil, appends_both, appends_kept, 
 
 -- lines that were answered, as the lines that are run of an input
 pub served : (dump : Dump) (input written : List ℕ) (log : List Event) (lines : List (List ℕ)) → run_lines (lines_of input) ≡ lines → IsAnsweredSoFar dump lines written log → IsServed dump input written
-served dump input written memory lines are so_far = record { turns = so_far.turns; session = rw are so_far.session; written_is = so_far.written_is }
+served dump input written memory lines are so_far = (so_far.turns, record { session = rw are so_far.session; written_is = so_far.written_is })
 
 -- a front of what was answered
 fault : (dump : Dump) (seen rest written more : List ℕ) (memory : Memory) (lines answered_lines : List (List ℕ)) → (lines ≡ whole_lines seen) ⊎ ((rest ≡ []) × (lines ≡ lines_of seen))
     → run_lines lines ≡ answered_lines → IsAnsweredSoFar dump answered_lines (written ++ more) memory → IsServedUntilWrite dump (seen ++ rest) written
-fault dump seen rest written more memory lines answered_lines read are so_far = record {
-  seen = seen;
-  rest = rest;
-  front = refl;
-  lines = lines;
-  read = read;
-  turns = so_far.turns;
-  session = rw are so_far.session;
-  more = more;
-  written_is = so_far.written_is;
-}
+fault dump seen rest written more memory lines answered_lines read are so_far = (
+  so_far.turns,
+  record {
+    consumed = seen;
+    rest = rest;
+    split = refl;
+    lines = lines;
+    read = read;
+    session = rw are so_far.session;
+    more = more;
+    written_is = so_far.written_is;
+  },
+)
 
 -- nothing was read
 pub open_none : (dump : Dump) → IsOpen dump [] (midway (record { dump = dump; log = [] }) []) []
@@ -150,14 +152,16 @@ module _ (dump : Dump) (seen : List ℕ) (m : Midway) (written : List ℕ) (o : 
 
   -- the reader failed
   pub read_fault : (rest : List ℕ) → IsServedUntilRead dump (seen ++ rest) rest written
-  read_fault rest = record {
-    seen = seen;
-    front = refl;
-    turns = o.so_far.turns;
-    session = o.so_far.session;
-    no_quit = o.none_quits;
-    written_is = o.so_far.written_is;
-  }
+  read_fault rest = (
+    o.so_far.turns,
+    record {
+      consumed = seen;
+      split = refl;
+      session = o.so_far.session;
+      no_quit = o.none_quits;
+      written_is = o.so_far.written_is;
+    },
+  )
 
 longer : (seen bs cs rest : List ℕ) → (seen ++ bs) ++ (cs ++ rest) ≡ (seen ++ (bs ++ cs)) ++ rest
 longer seen bs cs rest = sym (append_assoc (seen ++ bs) cs rest) ∙ ap (λ l. l ++ rest) (append_assoc seen bs cs)
@@ -334,17 +338,19 @@ module _ (dump : Dump) (input rest before after : Option (List ℕ)) (m : Midway
 
 -- all replies are a front of them
 until_write : (dump : Dump) (input written : List ℕ) → IsServed dump input written → IsServedUntilWrite dump input written
-until_write dump input written s = record {
-  seen = input;
-  rest = [];
-  front = sym (append-nil input);
-  lines = lines_of input;
-  read = inr (refl, refl);
-  turns = s.turns;
-  session = s.session;
-  more = [];
-  written_is = append-nil written ∙ s.written_is;
-}
+until_write dump input written (turns, s) = (
+  turns,
+  record {
+    consumed = input;
+    rest = [];
+    split = sym (append-nil input);
+    lines = lines_of input;
+    read = inr (refl, refl);
+    session = s.session;
+    more = [];
+    written_is = append-nil written ∙ s.written_is;
+  },
+)
 
 -- what was written is handed on
 pub served_kept : (dump : Dump) (input before after after' : Option (List ℕ)) → ServesAll dump input before after → Keeps after after' → ServesAll dump input before after'

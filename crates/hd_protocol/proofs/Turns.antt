@@ -1,22 +1,21 @@
 -- Lemmas on lines that were answered, turn by turn.
 use Rattle.std.proofs.Common.{◌≡◌, ◌∙◌, ℕ, true, List, [], ◌∷◌, ◌++◌, Option, Some, None, Ok, length, map, refl, sym, ap, subst, append-nil}
-use Rattle.std.specs.Option.{option_or}
+use Rattle.std.specs.Option.{option_and_then, option_or}
 use Rattle.std.specs.List.{flat_map, AllByRecursion}
 use Rattle.std.proofs.lemmas.List.{map-append}
 use Rattle.std.proofs.lemmas.List.Concat.{flat_map-append}
 use Rattle.hd_terms.specs.declared.Event.{Event}
 use Rattle.hd_terms.specs.Dump.{Dump}
 use Rattle.hd_terms.specs.declared.What.{What}
-use Rattle.hd_terms.specs.declared.What.TheVariants as whats
 use Rattle.hd_terms.specs.declared.errors.LogFault.{LogFault}
 use Rattle.hd_terms.specs.declared.errors.Refusal.{Refusal}
 use Rattle.hd_terms.specs.Appending.{root_refusal, by_log, append_refusal}
-use Rattle.hd_terms.specs.Log.{IsLawful, full_fault, log_fault_of, log_fault}
+use Rattle.hd_terms.specs.Log.{IsLawful, edit_of, log_fault}
 use Rattle.hd_terms.specs.Memory.{Memory, beginning, at_log}
-use Rattle.hd_terms.specs.Sessions.{Turn, IsLater, IsRefreshed, IsTurn, IsSession, IsAlone, IsSessionAlone, replies, event_by}
+use Rattle.hd_terms.specs.Sessions.{Turn, IsLater, IsRefreshed, IsTurn, IsSession, IsAlone, IsSessionAlone, memory_after, replies, event_by}
 use Rattle.hd_terms.specs.Sessions as sessions
 use Rattle.hd_terms.proofs.LawfulLogs.{empty_lawful, takes}
-use Rattle.hd_protocol.specs.Serving.{turn_alone, memory_after, IsAnsweredSoFar}
+use Rattle.hd_protocol.specs.Serving.{turn_alone, IsAnsweredSoFar}
 
 -- a lawful log is later than itself
 same_log : (log : List Event) → IsLawful log → IsLater 0 log log
@@ -52,8 +51,8 @@ or_none None b h = h
 or_none (Some r) b h = absurd cc
 
 appends : (roots : ℕ) (log : List Event) (who : ℕ) (what : What) → append_refusal roots log (event_by who what) ≡ None → log_fault log (event_by who what) ≡ None
-appends roots log who (whats.Do edit) h = by_log-none (full_fault log) (or_none (root_refusal roots log edit) (by_log (full_fault log)) h)
-appends roots log who (whats.Undo k) h = by_log-none (log_fault_of log who (whats.Undo k)) h
+appends roots log who what h =
+    by_log-none (log_fault log (event_by who what)) (or_none (option_and_then (root_refusal roots log) (edit_of what)) (by_log (log_fault log (event_by who what))) h)
 
 -- a log is remembered that is lawful
 lawful_at : (before after : Memory) (log : List Event) → after ≡ at_log before log → IsLawful log → IsLawful after.log
@@ -67,13 +66,13 @@ lawful_turn dump line before after reply lawful (sessions.rejected c what r is a
 lawful_turn dump line before after reply lawful (sessions.accepted c what is asks none says a) =
     lawful_at before after (before.log ++ event_by 0 what ∷ []) a
     (takes before.log (event_by 0 what) lawful (appends (length dump.roots) before.log 0 what none))
-lawful_turn dump line before after reply lawful (sessions.wanting takes says f a) = lawful_at before after before.log a lawful
+lawful_turn dump line before after reply lawful (sessions.out_of_memory takes says f a) = lawful_at before after before.log a lawful
 
 -- nothing was answered
-pub answered_none : (dump : Dump) → IsAnsweredSoFar dump [] [] (beginning [])
+pub answered_none : (dump : Dump) → IsAnsweredSoFar dump [] [] (beginning [] [])
 answered_none dump = record {
   turns = [];
-  session = record { session = tt; alone = tt; over = refl };
+  session = record { session = record { session = tt; over = refl }; alone = tt };
   written_is = refl;
   memory_is = refl;
   lawful = empty_lawful;
@@ -91,12 +90,14 @@ answered_push dump lines written before after line reply so_far turn =
     record {
       turns = so_far.turns ++ t ∷ [];
       session = record {
-        session = session_push dump (beginning []) so_far.turns line before after reply so_far.memory_is so_far.lawful so_far.session.session turn;
-        alone = alone_push (beginning []) so_far.turns line before after reply so_far.memory_is so_far.session.alone;
-        over = map-append (λ (u : Turn). u.line) so_far.turns (t ∷ []) ∙ ap (λ l. l ++ line ∷ []) so_far.session.over;
+        session = record {
+          session = session_push dump (beginning [] []) so_far.turns line before after reply so_far.memory_is so_far.lawful so_far.session.session.session turn;
+          over = map-append (λ (u : Turn). u.line) so_far.turns (t ∷ []) ∙ ap (λ l. l ++ line ∷ []) so_far.session.session.over;
+        };
+        alone = alone_push (beginning [] []) so_far.turns line before after reply so_far.memory_is so_far.session.alone;
       };
       written_is = ap (λ l. l ++ reply) so_far.written_is ∙ ap (λ l. replies so_far.turns ++ l) (sym (append-nil reply))
           ∙ sym (flat_map-append (λ (u : Turn). u.reply) so_far.turns (t ∷ []));
-      memory_is = sym (memory_after-push (beginning []) so_far.turns t);
+      memory_is = sym (memory_after-push (beginning [] []) so_far.turns t);
       lawful = lawful_turn dump line before after reply so_far.lawful turn;
     }

@@ -8,7 +8,7 @@ use Rattle.hd_terms.specs.Dump.{Dump}
 use Rattle.hd_terms.specs.Lines.{command_of, pieces, whole_lines, is_quit}
 use Rattle.hd_terms.specs.Log.{IsLawful}
 use Rattle.hd_terms.specs.Memory.{Memory, beginning, at_log}
-use Rattle.hd_terms.specs.Sessions.{Turn, IsTurn, IsSessionAlone, replies, IsServed, IsServedUntilRead, IsServedUntilWrite}
+use Rattle.hd_terms.specs.Sessions.{Turn, IsTurn, IsSessionAlone, memory_after, replies, IsServed, IsServedUntilRead, IsServedUntilWrite}
 use Rattle.hd_state.specs.Situation.{Situation}
 use Rattle.hd_protocol.specs.declared.serving.ServeFault.{ServeFault}
 use Rattle.hd_protocol.specs.declared.serving.ServeFault.TheVariants as faults
@@ -31,23 +31,18 @@ kept_of line = take 4097 line
 
 -- what a session remembers that has a log, and neither marks of its own nor a private part
 abbrev pub remembered : List Event → Memory
-remembered log = at_log (beginning []) log
+remembered log = at_log (beginning [] []) log
 
 -- the turn of an analyst alone: what is remembered before it and after it
 abbrev pub turn_alone : (line : List ℕ) → (before after : Memory) → (reply : List ℕ) → Turn
 turn_alone line before after reply = record { line = line; before = before; found = before.log; after = after; reply = reply }
-
--- what is remembered after turns
-abbrev pub memory_after : Memory → List Turn → Memory
-memory_after memory [] = memory
-memory_after memory (t ∷ ts) = memory_after t.after ts
 
 -- these lines were answered so by an analyst alone, and this is remembered then
 pub record IsAnsweredSoFar (dump : Dump) (lines : List (List ℕ)) (written : List ℕ) (memory : Memory) : Type 0 where
   pub turns : List Turn
   pub session : IsSessionAlone dump lines turns
   pub written_is : written ≡ replies turns
-  pub memory_is : memory ≡ memory_after (beginning []) turns
+  pub memory_is : memory ≡ memory_after (beginning [] []) turns
   pub lawful : IsLawful memory.log
 
 -- the lines that don't end a session

@@ -1,6 +1,6 @@
 //! Replies to commands.
 ghost use Rattle.std.specs.Prelude.{◌≡◌, ◌⊎◌, ◌+◌, ◌<◌, ◌≤◌, [], ◌∷◌, ◌++◌, length, decimal, string_bytes, Ok, MatchOption};
-ghost use Rattle.hd_terms.specs.Replies.{RepliesStrength, RepliesSlots, with_newline, answered, refused, event_line, strength_name, refusal_name, line_fault_name, no_memory};
+ghost use Rattle.hd_terms.specs.Replies.{RepliesStrength, RepliesSlots, with_newline, answered, refused, event_line, strength_name, refusal_name, line_fault_name, out_of_memory_reply};
 ghost use Rattle.hd_terms.specs.Edges.{index_of};
 ghost use Rattle.hd_protocol.specs.Replying.{answered_head};
 ghost use Rattle.hd_protocol.specs.Editing.{edit_reply};
@@ -74,7 +74,7 @@ fn answer_slots(
     out: &mut FixedBuffer<LONGEST_REPLY>,
 ) -> Option<String>
     ensures { MatchOption result
-        ((out.new ≡ no_memory) ⊎ RepliesSlots state.now.dump state.now.log (index_of state.now.dump.objects id) out.new)
+        ((out.new ≡ out_of_memory_reply) ⊎ RepliesSlots state.now.dump state.now.log (index_of state.now.dump.objects id) out.new)
         (λ text. RepliesSlots state.now.dump state.now.log (index_of state.now.dump.objects id) (string_bytes text)) }
 {
     let Some(object) = state.graph().index_of(id) else {

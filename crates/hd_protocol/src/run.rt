@@ -1,5 +1,6 @@
 //! A run: a dump's bytes are opened, and lines are served over it.
 ghost use Rattle.std.specs.Prelude.{◌≡◌, ◌≤◌, [], IfOk, IfErr};
+ghost use Rattle.hd_terms.specs.Workers.{IsWorkers};
 ghost use Rattle.hd_terms.specs.Objects.{IsDumpOf};
 ghost use Rattle.hd_protocol.specs.Running.{RunsDump, IsOpenFault};
 
@@ -78,8 +79,7 @@ pub fn open_bytes<T: AllocGlobal + Threads + Sync>(
     bytes: &[u8],
     workers: u32,
 ) -> Result<State, RunFault>
-    requires few { workers ≤ 16 }
-    requires some { 1 ≤ workers }
+    requires workers { IsWorkers workers }
     ensures ok { IfOk result (λ state. IsDumpOf bytes.now state.dump × (state.log ≡ [])) }
     ensures err { IfErr result (λ f. IsOpenFault bytes.now f) }
 {
@@ -98,8 +98,7 @@ pub fn run_bytes<T: AllocGlobal + Threads + Sync, R: BufRead, W: Write>(
     input: &mut R,
     output: &mut W,
 ) -> Result<(), RunFault>
-    requires few { workers ≤ 16 }
-    requires some { 1 ≤ workers }
+    requires workers { IsWorkers workers }
     ensures { RunsDump bytes.now (R.remaining input.old) (R.remaining input.new) (W.contents output.old) (W.contents output.new) result }
 {
     let state = open_bytes(rt, bytes, workers)?;

@@ -1,6 +1,7 @@
 //! The counts of a dump, and the totals of each strength.
 ghost use Rattle.std.specs.Prelude.{◌≡◌, ◌≤◌, [], ◌∷◌, ◌++◌, string_bytes, decimal, IfOk, OnOk};
 ghost use Rattle.std.specs.List.{flat_map};
+ghost use Rattle.hd_terms.specs.Workers.{IsWorkers};
 ghost use Rattle.hd_terms.specs.declared.Strength.{Strength as OneStrength};
 ghost use Rattle.hd_terms.specs.Replies.{with_newline, strength_name};
 ghost use Rattle.hd_terms.specs.Stat.{IsStat, count_lines, repeated_line, total_line, total_lines};
@@ -97,8 +98,7 @@ pub fn stat_bytes<T: AllocGlobal + Threads + Sync, W: Write>(
     workers: u32,
     output: &mut W,
 ) -> Result<(), RunFault>
-    requires few { workers ≤ 16 }
-    requires some { 1 ≤ workers }
+    requires workers { IsWorkers workers }
     ensures { StatsDump bytes.now (W.contents output.old) (W.contents output.new) result }
 {
     let state = open_bytes(rt, bytes, workers)?;

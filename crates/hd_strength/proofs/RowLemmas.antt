@@ -17,7 +17,7 @@ use Rattle.hd_log.proofs.LastLemmas.{by_event}
 use Rattle.hd_terms.specs.Paths.{Edge, RootEntry}
 use Rattle.hd_terms.specs.Dump.{SlotEntry, Object, Root, Dump, no_object, object_at}
 use Rattle.hd_terms.specs.Edges.{index_of, edge_of}
-use Rattle.hd_terms.specs.EditedDump.{RootOn, standing, standing_from, slot_stands, is_dropped, is_root, adds_root, live_edit_at, root_stands, root_entries, dump_root, root_added, added_root, held_by}
+use Rattle.hd_terms.specs.EditedDump.{RootOn, standing, standing_from, is_untouched, is_dropped, is_root, adds_root, live_edit_at, root_stands, root_entries, dump_root, root_added, added_root, held_by}
 use Rattle.hd_terms.specs.Log.{live_edit, edit_of, stays}
 use Rattle.hd_strength.specs.Rows.{width, edge_by, edge_at, added_id, root_by, root_by_event, root_count, root_at, standing_root, standing_dump_root, standing_added_root, added_by}
 use Rattle.hd_strength.proofs.Lists.{Contains-nil, Contains-head, Contains-tail, Contains-cons_cases, Contains-slice_get, flat_map_contains, flat_map_only, filter_map_contains, filter_map_only, filter_contains, filter_only, enumerate_contains, enumerate_only}
@@ -55,22 +55,22 @@ edge-by false edge e h = absurd cc
 
 -- a place of an object's slots, with what stands there
 module _ (dump : Dump) (log : List Event) (o i : ℕ) (s : SlotEntry) (entry : slice_get (object_at dump o).slots i ≡ Some s) where
-  at_place : edge_at dump log o i ≡ cond (slot_stands log (object_at dump o) s) (edge_of dump.objects o s) None
+  at_place : edge_at dump log o i ≡ cond (is_untouched log (object_at dump o) s) (edge_of dump.objects o s) None
   unfolding edge_at
   at_place = ap (edge_by dump log o) entry
 
-  at_parts : (e : Edge) → edge_at dump log o i ≡ Some e → (slot_stands log (object_at dump o) s ≡ true) × (edge_of dump.objects o s ≡ Some e)
-  at_parts e is = edge-by (slot_stands log (object_at dump o) s) (edge_of dump.objects o s) e (sym at_place ∙ is)
+  at_parts : (e : Edge) → edge_at dump log o i ≡ Some e → (is_untouched log (object_at dump o) s ≡ true) × (edge_of dump.objects o s ≡ Some e)
+  at_parts e is = edge-by (is_untouched log (object_at dump o) s) (edge_of dump.objects o s) e (sym at_place ∙ is)
 
   pub at_none : index_of dump.objects s.id ≡ None → (e : Edge) → edge_at dump log o i ≡ Some e → ⊥
   at_none none e is =
       let other : edge_of dump.objects o s ≡ None = ap (option_map (λ (target : ℕ). edge_to o s target)) none in
       let same : None ≡ Some e = sym other ∙ (at_parts e is).1 in absurd (cc)
 
-  pub at_cut : slot_stands log (object_at dump o) s ≡ false → (e : Edge) → edge_at dump log o i ≡ Some e → ⊥
+  pub at_cut : is_untouched log (object_at dump o) s ≡ false → (e : Edge) → edge_at dump log o i ≡ Some e → ⊥
   at_cut cut e is = let same : false ≡ true = sym cut ∙ (at_parts e is).0 in absurd (cc)
 
-  pub at_some : (t : ℕ) → index_of dump.objects s.id ≡ Some t → slot_stands log (object_at dump o) s ≡ true → edge_at dump log o i ≡ Some (edge_to o s t)
+  pub at_some : (t : ℕ) → index_of dump.objects s.id ≡ Some t → is_untouched log (object_at dump o) s ≡ true → edge_at dump log o i ≡ Some (edge_to o s t)
   at_some t some stands =
       at_place ∙ ap (λ (b : Bool). cond b (edge_of dump.objects o s) None) stands ∙ ap (option_map (λ (target : ℕ). edge_to o s target)) some
 
@@ -86,7 +86,7 @@ module _ (dump : Dump) (log : List Event) (o i : ℕ) (s : SlotEntry) (entry : s
       let target : t ≡ e.target = cc in
       ap (edge_to o s) target ∙ sym found.1
 
-  pub at_stands : (e : Edge) → edge_at dump log o i ≡ Some e → slot_stands log (object_at dump o) s ≡ true
+  pub at_stands : (e : Edge) → edge_at dump log o i ≡ Some e → is_untouched log (object_at dump o) s ≡ true
   at_stands e is = (at_parts e is).0
 
 -- what is known of an edge at a place
@@ -98,7 +98,7 @@ pub record IsAt (dump : Dump) (log : List Event) (o i : ℕ) (e : Edge) : Type 0
   pub there : slice_get (object_at dump o).slots i ≡ Some entry
   pub is : e ≡ edge_to o entry e.target
   pub index : index_of dump.objects entry.id ≡ Some e.target
-  pub stands : slot_stands log (object_at dump o) entry ≡ true
+  pub stands : is_untouched log (object_at dump o) entry ≡ true
 
 -- where there is no slot there is no edge
 none_past : (dump : Dump) (log : List Event) (o i : ℕ) (e : Edge) → edge_at dump log o i ≡ Some e → slice_get (object_at dump o).slots i ≡ None → ⊥
@@ -141,8 +141,8 @@ edge_stands_at dump log o i e is =
     let x : Object = object_at dump o in
     flat_map_contains (standing_from dump log) (enumerate_from 0 dump.objects) (o, x) e
     (enumerate_contains dump.objects o x (slice_get-get_or dump.objects o no_object at.object))
-    (filter_map_contains (edge_of dump.objects o) (filter (slot_stands log x) x.slots) at.entry e
-    (filter_contains (slot_stands log x) x.slots at.entry (Contains-slice_get x.slots i at.entry at.place at.there) at.stands)
+    (filter_map_contains (edge_of dump.objects o) (filter (is_untouched log x) x.slots) at.entry e
+    (filter_contains (is_untouched log x) x.slots at.entry (Contains-slice_get x.slots i at.entry at.place at.there) at.stands)
     (ap (option_map (λ (target : ℕ). edge_to o at.entry target)) at.index ∙ ap (λ (y : Edge). Some y) (sym at.is)))
 
 -- what is in the filtered list passes
@@ -159,15 +159,15 @@ pub edge_has_place : (dump : Dump) (log : List Event) (e : Edge) → Contains (s
 unfolding edge_at
 edge_has_place dump log e c =
     let (n, numbered, from) = flat_map_only (standing_from dump log) (enumerate_from 0 dump.objects) e c in
-    let (s, kept, gives) = filter_map_only (edge_of dump.objects n.0) (filter (slot_stands log n.1) n.1.slots) e from in
-    let (i, lt, is) = filter_only (slot_stands log n.1) n.1.slots s kept in
+    let (s, kept, gives) = filter_map_only (edge_of dump.objects n.0) (filter (is_untouched log n.1) n.1.slots) e from in
+    let (i, lt, is) = filter_only (is_untouched log n.1) n.1.slots s kept in
     let edge : e ≡ edge_to n.0 s e.target = (by_target n.0 s (index_of dump.objects s.id) e gives).1 in
     let source : e.source ≡ n.0 = ap (λ (x : Edge). x.source) edge in
     let there : slice_get dump.objects n.0 ≡ Some n.1 = enumerate_only dump.objects n numbered in
     let object : object_at dump n.0 ≡ n.1 = get_or_from_slice_get dump.objects n.0 n.1 no_object there in
     let slot : slice_get (object_at dump n.0).slots i ≡ Some s = ap (λ (x : Object). slice_get x.slots i) object ∙ slice_get-get_or n.1.slots i s lt ∙ ap (λ (y : SlotEntry). Some y) is in
-    let stands : slot_stands log (object_at dump n.0) s ≡ true =
-    ap (λ (x : Object). slot_stands log x s) object ∙ filter_passes (slot_stands log n.1) n.1.slots s kept in
+    let stands : is_untouched log (object_at dump n.0) s ≡ true =
+    ap (λ (x : Object). is_untouched log x s) object ∙ filter_passes (is_untouched log n.1) n.1.slots s kept in
     (i, subst (λ (m : ℕ). edge_at dump log m i ≡ Some e) (sym source) (ap (edge_by dump log n.0) slot ∙ ap (λ (b : Bool). cond b (edge_of dump.objects n.0 s) None) stands ∙ gives))
 
 not-below : (a b : ℕ) → b ≤ a → nat_lt a b ≡ false
@@ -316,11 +316,11 @@ standing-parts true held x is = absurd cc
 standing-parts false held x is = (refl, is)
 
 -- an edit that adds a root, and the entry of the root
-adding : (r : ℕ) (what : What) (id : ℕ) → edit_of what ≡ Some (edits.Add id) → root_added r what ≡ Some (record { number = r; id = id })
+adding : (r : ℕ) (what : What) (id : ℕ) → edit_of what ≡ Some (edits.Add id) → root_added r what ≡ Some (record { number = r; kind = None; id = id })
 adding r (whats.Do (edits.Cut i slot)) id is = absurd cc
 adding r (whats.Do (edits.Clear i)) id is = absurd cc
 adding r (whats.Do (edits.Drop s)) id is = absurd cc
-adding r (whats.Do (edits.Add i)) id is = let same : i ≡ id = cc in ap (λ (n : ℕ). let root : RootOn = record { number = r; id = n } in Some root) same
+adding r (whats.Do (edits.Add i)) id is = let same : i ≡ id = cc in ap (λ (n : ℕ). let root : RootOn = record { number = r; kind = None; id = n } in Some root) same
 adding r (whats.Undo k) id is = absurd cc
 
 added-only : (r : ℕ) (what : What) (root : RootOn) → root_added r what ≡ Some root → (r ≡ root.number) × (edit_of what ≡ Some (edits.Add root.id))
@@ -328,7 +328,7 @@ added-only r (whats.Do (edits.Cut i slot)) root is = absurd cc
 added-only r (whats.Do (edits.Clear i)) root is = absurd cc
 added-only r (whats.Do (edits.Drop s)) root is = absurd cc
 added-only r (whats.Do (edits.Add i)) root is =
-    let entry : RootOn = record { number = r; id = i } in
+    let entry : RootOn = record { number = r; kind = None; id = i } in
     let same : entry ≡ root = cc in
     (ap (λ (x : RootOn). x.number) same, ap (λ (x : RootOn). Some (edits.Add x.id)) same)
 added-only r (whats.Undo k) root is = absurd cc
@@ -393,7 +393,7 @@ stands-by dump log k x event (Some (edits.Cut id slot)) at live is = absurd cc
 stands-by dump log k x event (Some (edits.Clear id)) at live is = absurd cc
 stands-by dump log k x event (Some (edits.Drop r)) at live is = absurd cc
 stands-by dump log k x event (Some (edits.Add id)) at live is =
-    let root : RootOn = record { number = length dump.roots + k; id = id } in
+    let root : RootOn = record { number = length dump.roots + k; kind = None; id = id } in
     let parts = standing-parts (is_dropped log (length dump.roots + k)) (held_by dump root) x is in
     let does : edit_of event.what ≡ Some (edits.Add id) = live-does (stays log k) event.what (edits.Add id) live in
     let there : is_root (length dump.roots) log (length dump.roots + k) ≡ true = number_of_event dump log k event at ∙ ap adds_root live in

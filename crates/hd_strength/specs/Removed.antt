@@ -7,7 +7,7 @@ use Rattle.hd_terms.specs.declared.Slot.{Slot}
 use Rattle.hd_terms.specs.declared.Edit.{Edit}
 use Rattle.hd_terms.specs.declared.Event.{Event}
 use Rattle.hd_terms.specs.Dump.{SlotEntry, Object, Dump, object_at}
-use Rattle.hd_terms.specs.EditedDump.{takes_away, slot_stands, is_slot, drops, is_dropped}
+use Rattle.hd_terms.specs.EditedDump.{takes_away, is_untouched, is_slot, drops, is_dropped}
 
 -- the key of a place of an object's slots
 abbrev pub place_key : ℕ → ℕ → ℕ
@@ -36,7 +36,7 @@ is_root_removed t r = has_root t.roots r
 
 -- what is taken away is what the live edits of a log take away
 pub record IsRemovedBy (dump : Dump) (log : List Event) (t : Removals) : Type 0 where
-  pub slots : (o i : ℕ) (s : SlotEntry) → o < length dump.objects → slice_get (object_at dump o).slots i ≡ Some s → is_removed t o i ≡ not (slot_stands log (object_at dump o) s)
+  pub slots : (o i : ℕ) (s : SlotEntry) → o < length dump.objects → slice_get (object_at dump o).slots i ≡ Some s → is_removed t o i ≡ not (is_untouched log (object_at dump o) s)
   pub roots : (r : ℕ) → is_root_removed t r ≡ is_dropped log r
 
 -- the places from which some edits take the references

@@ -8,7 +8,7 @@ use Rattle.hd_terms.specs.declared.Event.{Event}
 use Rattle.hd_terms.specs.Paths.{Edge, RootEntry}
 use Rattle.hd_terms.specs.Dump.{SlotEntry, Root, Dump, object_at}
 use Rattle.hd_terms.specs.Edges.{edge_of, index_of}
-use Rattle.hd_terms.specs.EditedDump.{slot_stands, is_dropped}
+use Rattle.hd_terms.specs.EditedDump.{is_untouched, is_dropped}
 use Rattle.hd_terms.specs.Log.{live_edit}
 
 -- how many slots an object has
@@ -18,7 +18,7 @@ width dump o = length (object_at dump o).slots
 -- the edge of a slot, where there is a slot and it stands
 abbrev pub edge_by : Dump → List Event → ℕ → Option SlotEntry → Option Edge
 edge_by dump log o None = None
-edge_by dump log o (Some s) = if slot_stands log (object_at dump o) s then edge_of dump.objects o s else None
+edge_by dump log o (Some s) = if is_untouched log (object_at dump o) s then edge_of dump.objects o s else None
 
 -- the standing edge at a place of an object's slots
 unfoldable pub edge_at : Dump → List Event → ℕ → ℕ → Option Edge

@@ -1,4 +1,7 @@
-//! Strengths from scratch: offers are taken by falling rank.
+//! Strengths from scratch: Dijkstra's widest path with a bucket for each rank.
+//!
+//! Offers are taken by falling rank, and each object takes the first that reaches it. What is settled in the end is the
+//! certificate of the search.
 ghost use Rattle.std.specs.Prelude.{◌≡◌, ℕ, ◌+◌, ◌^◌, ◌<◌, ◌≤◌, ◌⊎◌, Some, length, IfNone, IfOk, IfSome, OnOk};
 ghost use Rattle.hd_terms.specs.Ranks.{rank};
 ghost use Rattle.std.specs.Option.{option_map};

@@ -1,17 +1,18 @@
 -- The edited dump: which edges and roots stand under a log.
 -- Source: this project. Edits are what-if: they are never written to the dump, and one that names nothing has no effect.
-use Rattle.std.specs.Prelude.{ℕ, ◌+◌, ◌-◌, ◌==◌, nat_lt, Bool, true, false, ◌&&◌, ◌||◌, not, List, ◌++◌, length, map, Option, Some, None, slice_get}
-use Rattle.std.specs.Option.{option_map, option_and_then}
+use Rattle.std.specs.Prelude.{ℕ, ◌+◌, ◌-◌, ◌==◌, nat_lt, Bool, true, false, ◌&&◌, ◌||◌, not, List, ◌++◌, length, map, Option, Some, None, is_some, slice_get}
+use Rattle.std.specs.Option.{option_map, option_map_or, option_and_then}
 use Rattle.std.specs.List.{filter, filter_map, flat_map, list_any, enumerate_from}
 use Rattle.hd_terms.specs.declared.Slot.{Slot}
 use Rattle.hd_terms.specs.declared.Slot.TheVariants as slots
+use Rattle.hd_terms.specs.declared.RootKind.{RootKind}
 use Rattle.hd_terms.specs.declared.Edit.{Edit}
 use Rattle.hd_terms.specs.declared.Edit.TheVariants as edits
 use Rattle.hd_terms.specs.declared.Event.{Event}
 use Rattle.hd_terms.specs.declared.What.{What}
 use Rattle.hd_terms.specs.declared.What.TheVariants as whats
 use Rattle.hd_terms.specs.Paths.{Edge, RootEntry, Standing}
-use Rattle.hd_terms.specs.Dump.{SlotEntry, Object, Root, Dump}
+use Rattle.hd_terms.specs.Dump.{SlotEntry, Object, Root, Dump, object_at}
 use Rattle.hd_terms.specs.Edges.{index_of, edge_of}
 use Rattle.hd_terms.specs.Log.{live_edit, live_edits}
 
@@ -43,13 +44,21 @@ takes_away x s (edits.Clear id) = (x.id == id) && is_slot s.slot x.referent
 takes_away x s (edits.Drop r) = false
 takes_away x s (edits.Add id) = false
 
--- a slot of an object stands where no live edit takes its reference away
-abbrev pub slot_stands : List Event → Object → SlotEntry → Bool
-slot_stands log x s = not (list_any (takes_away x s) (live_edits log))
+-- no live edit takes away what is in a slot of an object
+abbrev pub is_untouched : List Event → Object → SlotEntry → Bool
+is_untouched log x s = not (list_any (takes_away x s) (live_edits log))
+
+-- a slot of an object is an edge that stands: its ID is an object's, and no live edit takes it away
+abbrev pub is_standing_edge : Dump → List Event → Object → SlotEntry → Bool
+is_standing_edge dump log x s = is_some (index_of dump.objects s.id) && is_untouched log x s
+
+-- the slot at a place of the object of a number is an edge that stands; no slot is none
+abbrev pub edge_stands : Dump → List Event → (o i : ℕ) → Bool
+edge_stands dump log o i = option_map_or (is_standing_edge dump log (object_at dump o)) (slice_get (object_at dump o).slots i) false
 
 -- the edges of one object's slots that stand, in their order
 abbrev pub standing_from : Dump → List Event → ℕ × Object → List Edge
-standing_from dump log (o, x) = filter_map (edge_of dump.objects o) (filter (slot_stands log x) x.slots)
+standing_from dump log (o, x) = filter_map (edge_of dump.objects o) (filter (is_untouched log x) x.slots)
 
 -- the edges that stand: those of each object, joined
 abbrev pub standing_edges : Dump → List Event → List Edge
@@ -86,21 +95,22 @@ is_root roots log r = nat_lt r roots || adds_root (live_edit_at log (r - roots))
 abbrev pub root_stands : (roots : ℕ) → List Event → ℕ → Bool
 root_stands roots log r = is_root roots log r && not (is_dropped log r)
 
--- a root by its number and the ID that it is on
+-- a root by its number, its kind, none where an event added it, and the ID that it is on
 pub record RootOn : Type 0 where
   pub number : ℕ
+  pub kind : Option RootKind
   pub id : ℕ
 
 -- a root of the dump, by its place among them
 abbrev pub dump_root : ℕ × Root → RootOn
-dump_root (r, root) = record { number = r; id = root.id }
+dump_root (r, root) = record { number = r; kind = Some root.kind; id = root.id }
 
 -- the root of a number that an event adds, if it adds one
 abbrev pub root_added : ℕ → What → Option RootOn
 root_added r (whats.Do (edits.Cut id slot)) = None
 root_added r (whats.Do (edits.Clear id)) = None
 root_added r (whats.Do (edits.Drop s)) = None
-root_added r (whats.Do (edits.Add id)) = Some (record { number = r; id = id })
+root_added r (whats.Do (edits.Add id)) = Some (record { number = r; kind = None; id = id })
 root_added r (whats.Undo k) = None
 
 -- event k adds root n + k to a dump of n roots

@@ -234,7 +234,7 @@ size_mismatch_file = head_of 4 ++ segment_of (instance_of narrow 0x20 0x11 (0x00
 abbrev pub size_mismatch_before_unknown_file : List ℕ
 size_mismatch_before_unknown_file = head_of 4 ++ segment_of (instance_of narrow 0x20 0x11 (0x00 ∷ []) ++ class_of narrow 0x11 0 [] ++ 0x09 ∷ [])
 
--- a misfit that repeats the ID of an instance that fits its class
+-- an instance of the wrong size that repeats the ID of an instance that fits its class
 abbrev pub repeated_size_mismatch_file : List ℕ
 repeated_size_mismatch_file = head_of 4 ++ segment_of (class_of narrow 0x11 0 ((0x107, 2) ∷ []) ++ instance_of narrow 2 0x11 (four 5) ++ instance_of narrow 2 0x11 (0x00 ∷ []))
 
@@ -578,7 +578,17 @@ phantom_referent = record {
   opaque = 0;
 }
 
--- the same, with phantom references followed to all that they lead to
+-- (21 of 13: weak 0)  (22 of 13: weak 9)
+abbrev pub empty_referents : Dump
+empty_referents = record {
+  mode = modes.Direct;
+  objects = reference 0x21 0x13 kinds.Weak 0 ∷ reference 0x22 0x13 kinds.Weak 9 ∷ [];
+  roots = [];
+  repeated = none_repeated;
+  opaque = 0;
+}
+
+-- `phantom_referent`, with phantom references followed to all that they lead to
 abbrev pub phantom_closure : Dump
 phantom_closure = record phantom_referent { mode = modes.Closure }
 
@@ -624,9 +634,12 @@ add_and_drop = does 0 (edits.Add 7) ∷ does 0 (edits.Drop 2) ∷ undoes 0 0 ∷
 abbrev pub drop_and_add : List Event
 drop_and_add = does 0 (edits.Drop 3) ∷ does 0 (edits.Add 7) ∷ []
 
--- a root by its number and the ID that it is on
-abbrev pub root_entry : ℕ → ℕ → RootOn
-root_entry number id = record { number = number; id = id }
+-- a root of the dump by its number and the ID that it is on, and one that an event added
+abbrev pub dump_root_on : ℕ → ℕ → RootOn
+dump_root_on number id = record { number = number; kind = Some roots.Unknown; id = id }
+
+abbrev pub added_root_on : ℕ → ℕ → RootOn
+added_root_on number id = record { number = number; kind = None; id = id }
 
 -- a standing root by its number and the number of its object
 abbrev pub root_on : ℕ → ℕ → RootEntry
@@ -639,6 +652,14 @@ strong_edge source slot target = record { source = source; slot = slot; target =
 -- a log of as many events as a log can have
 abbrev pub full_log : List Event
 full_log = replicate 4096 (does 0 (edits.Add 1))
+
+-- a slot of kind weak as it is shown
+abbrev pub weakly_shown : Slot → ℕ → SlotMode → SlotRow
+weakly_shown slot id mode = record { slot = slot; kind = kinds.Weak; id = id; mode = mode }
+
+-- a cut and a clear of one slot; then the cut is taken back
+abbrev pub cut_and_clear : List Event
+cut_and_clear = does 0 (edits.Cut 0x21 (slots.Field 0)) ∷ does 0 (edits.Clear 0x21) ∷ undoes 0 0 ∷ []
 
 -- a slot of kind strong as it is shown
 abbrev pub shown : Slot → ℕ → SlotMode → SlotRow

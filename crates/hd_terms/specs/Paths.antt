@@ -33,7 +33,7 @@ abbrev pub Lead : Standing → ℕ → List Edge → ℕ → Type 0
 Lead g a [] b = a ≡ b
 Lead g a (e ∷ es) b = Contains g.edges e × (e.source ≡ a) × Lead g e.target es b
 
--- all but the last pass on what they give: read directly, only the last may be phantom
+-- all but the last pass on what they give: in mode Direct only the last may be phantom
 abbrev pub PassOn : Mode → List Edge → Type 0
 PassOn mode [] = Unit {0}
 PassOn mode (e ∷ []) = Unit {0}

@@ -30,8 +30,8 @@ given_by kinds.Phantom = strengths.Phantom
 abbrev pub weaker_of : Strength → Strength → Strength
 weaker_of a b = if nat_le (rank a) (rank b) then a else b
 
--- the least strength that is passed on along a path: read directly, an object that is only phantom reachable passes
--- nothing on; in the closure it does
+-- the least strength that an object must have for paths to go on from it: in mode Direct an object that is only phantom
+-- reachable leads no further, in mode Closure it does
 abbrev pub least_passed_on : Mode → Strength
 least_passed_on modes.Direct = strengths.Final
 least_passed_on modes.Closure = strengths.Phantom

@@ -1,4 +1,5 @@
--- Settled supports: for each object one support that explains its strength, in an order that excludes cycles.
+-- Settled supports: for each object one support that explains its strength, in an order that excludes cycles. They are the
+-- certificate that a widest-path search, as Dijkstra's with buckets, leaves behind: whoever has them needs no search.
 -- Source: this project. That they have the strengths of the definition is a law, proved in `laws`.
 use Rattle.std.specs.Prelude.{◌≡◌, ℕ, ◌≤◌, ◌<◌, ◌⊎◌, List, Contains, slice_index_or}
 use Rattle.std.specs.List.{AllByRecursion}

@@ -9,8 +9,8 @@ use Rattle.hd_terms.specs.Strengths.{HasStrength}
 use Rattle.hd_terms.specs.Dump.{Dump, object_at}
 use Rattle.hd_terms.specs.EditedDump.{standing}
 
--- so many objects are meant, by their numbers, and have together so many recorded bytes: those of which a test says so
--- that decides it
+-- the number of the objects that are meant, and the sum of their recorded bytes; `has` is a test that decides which
+-- objects are meant
 pub record IsTotalOf (dump : Dump) (IsMeant : ℕ → Type 0) (count bytes : ℕ) : Type 0 where
   pub has : ℕ → Bool
   pub decides : (o : ℕ) → o < length dump.objects → (has o ≡ true) ↔ IsMeant o

@@ -36,7 +36,7 @@ pub use types::{element_len, is_id_type, value_len};
 pub enum Strength {
     /// No root path leads to it.
     Unreachable,
-    /// A phantom reference refers to it, and nothing better leads to it.
+    /// A phantom reference leads to it, how far says [`Mode`], and nothing better does.
     Phantom,
     /// It can be reached through a `FinalReference`, and not better.
     Final,
@@ -93,6 +93,9 @@ impl EdgeKind {
     }
 }
 
+/// The most workers that decode a dump.
+pub const MOST_WORKERS: u32 = 16;
+
 /// How phantom references are followed, fixed when a dump is opened.
 #[derive(Clone, Copy, Debug, PartialEq, Eq)]
 pub enum Mode {
@@ -103,7 +106,7 @@ pub enum Mode {
 }
 
 impl Mode {
-    /// The least strength that an object passes on to what it refers to.
+    /// The least strength that an object must have for paths to go on from it.
     pub fn least_passed_on(self) -> Strength
         ensures { result ≡ least_passed_on self }
     {

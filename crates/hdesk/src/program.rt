@@ -1,6 +1,7 @@
 //! The whole program, over given streams.
 ghost use Rattle.std.specs.Prelude.{◌≡◌, ◌≢◌, ◌≤◌, [], Result, Err};
 ghost use Rattle.std.specs.Io.KnownBytes.{Keeps};
+ghost use Rattle.hd_terms.specs.Workers.{IsWorkers};
 ghost use Rattle.hd_protocol.specs.declared.run.RunFault.{RunFault};
 ghost use Rattle.hd_protocol.specs.Running.{RunsDump};
 ghost use Rattle.hdesk.specs.Performing.{status, Performs, RunsWords};
@@ -88,8 +89,7 @@ fn run_file<T: AllocGlobal + Files<File = File> + Threads + Sync, R: BufRead, W:
     input: &mut R,
     output: &mut W,
 ) -> Result<(), RunFault>
-    requires few { workers ≤ 16 }
-    requires some { 1 ≤ workers }
+    requires workers { IsWorkers workers }
     ensures { RunsDump bytes.items (R.remaining input.old) (R.remaining input.new) (W.contents output.old) (W.contents output.new) result }
 {
     let state = open_bytes(rt, bytes.as_slice(), workers)?;

@@ -146,3 +146,6 @@ returns-clause-closure c = strengths_of (standing examples.phantom_closure []) c
 
 pub returns-clause-closure_of_its_own_referent : goal.returns-clause-closure_of_its_own_referent
 returns-clause-closure_of_its_own_referent c = strengths_of (standing examples.phantom_closure []) closure refl 10
+
+pub returns-clause-closure_referent : goal.returns-clause-closure_referent
+returns-clause-closure_referent c = strengths_of (standing examples.phantom_closure []) closure refl 8
