@@ -15,7 +15,7 @@ use Rattle.hd_terms.specs.declared.errors.Cause.TheVariants as causes
 use Rattle.hd_terms.specs.declared.errors.ReadFault.{ReadFault}
 use Rattle.hd_terms.specs.SubRecords.{ClassItem, Item, Instance, ObjArray, PrimArray, Sub}
 use Rattle.hd_terms.specs.SubRecords as subs
-use Rattle.hd_terms.specs.FirstRecords.{id_of_item, object_sub, standing_subs, first_of_each}
+use Rattle.hd_terms.specs.FirstRecords.{id_of_item, object_sub, first_subs, first_of_each}
 use Rattle.hd_terms.specs.Classes.{ClassTable, class_of_item, first_classes, class_at, never_ends}
 use Rattle.hd_terms.specs.HeapFaults.{fault_if, class_fault, class_faults}
 use Rattle.hd_subs.specs.declared.class.ClassDump.{ClassDump}
@@ -53,7 +53,7 @@ classes-of [] = refl
 classes-of (p ∷ ps) = case-classes p.1 (class_of_item p.1.item) _ _ (classes-of ps)
 
 pub first_classes-places : (list : List Sub) → first_classes list ≡ map (λ (x : ClassPlace). x.class) (class_places list)
-first_classes-places list = classes-of (standing_subs list)
+first_classes-places list = classes-of (first_subs list)
 
 -- the faults of the definition
 case-faults : (t : ClassTable) (s : Sub) (o : Option ClassItem) (R : List ReadFault) (ps : List ClassPlace) → R ≡ filter_map (cycle_at t) ps
@@ -67,7 +67,7 @@ faults-of t [] = refl
 faults-of t (p ∷ ps) = case-faults t p.1 (class_of_item p.1.item) _ _ (faults-of t ps)
 
 pub class_faults-places : (t : ClassTable) (list : List Sub) → class_faults t list ≡ filter_map (cycle_at t) (class_places list)
-class_faults-places t list = faults-of t (standing_subs list)
+class_faults-places t list = faults-of t (first_subs list)
 
 -- one class by its ID
 module _ (id : ℕ) where

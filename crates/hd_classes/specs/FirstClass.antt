@@ -3,7 +3,7 @@ use Rattle.std.specs.Prelude.{◌≡◌, ℕ, ◌==◌, List, ◌∷◌, [], ◌
 use Rattle.std.specs.Option.{option_map}
 use Rattle.std.specs.List.{filter_map, list_any}
 use Rattle.hd_terms.specs.SubRecords.{ClassItem, Sub}
-use Rattle.hd_terms.specs.FirstRecords.{object_sub, standing_subs}
+use Rattle.hd_terms.specs.FirstRecords.{object_sub, first_subs}
 use Rattle.hd_terms.specs.Classes.{class_of_item}
 use Rattle.hd_subs.specs.Views.{class_view}
 use Rattle.hd_classes.specs.declared.first_class.FirstClass as declared_first
@@ -19,7 +19,7 @@ class_place s = option_map (λ (c : ClassItem). record { class = c; offset = s.o
 
 -- the classes that stand
 abbrev pub class_places : List Sub → List ClassPlace
-class_places list = filter_map (λ (p : ℕ × Sub). class_place p.1) (standing_subs list)
+class_places list = filter_map (λ (p : ℕ × Sub). class_place p.1) (first_subs list)
 
 -- a class by its ID
 abbrev pub entry_of : ClassPlace → ℕ × ClassPlace

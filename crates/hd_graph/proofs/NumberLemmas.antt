@@ -14,7 +14,7 @@ use Rattle.hd_terms.specs.declared.errors.Cause.TheVariants as causes
 use Rattle.hd_terms.specs.declared.errors.ReadFault.{ReadFault}
 use Rattle.hd_terms.specs.SubRecords.{Sub, Item}
 use Rattle.hd_terms.specs.SubRecords as subs
-use Rattle.hd_terms.specs.FirstRecords.{id_of_item, object_sub, standing_subs, repeats}
+use Rattle.hd_terms.specs.FirstRecords.{id_of_item, object_sub, first_subs, repeats}
 use Rattle.hd_terms.specs.HeapFaults.{fault_if}
 use Rattle.hd_graph.specs.declared.graph.RootRow.{RootRow}
 use Rattle.hd_graph.specs.declared.number.Tally.{Tally}
@@ -47,21 +47,21 @@ ids-of-subs (s ∷ list) = by_id (id_of_item s.item) (ids-of-subs list)
     by_id (Some id) e = ap (λ (xs : List ℕ). id ∷ xs) e
 
 -- those that stand are the first of each ID
-pub standing-firsts : (list : List Sub) → standing_subs list ≡ firsts sub_key (object_subs list)
+pub standing-firsts : (list : List Sub) → first_subs list ≡ firsts sub_key (object_subs list)
 standing-firsts list = first_of_each-firsts sub_key (object_subs list)
 
 -- whether one is the first of its ID
 subs-push : (front : List Sub) (s : Sub) (id : ℕ) → object_id s ≡ Some id → object_subs (front ++ s ∷ []) ≡ object_subs front ++ (id, s) ∷ []
 subs-push front s id is = filter_map-append object_sub front (s ∷ []) ∙ ap (λ (o : Option ℕ). object_subs front ++ cons_option (option_map (λ (x : ℕ). let p : ℕ × Sub = (x, s) in p) o) []) is
 
-standing-push : (front : List Sub) (s : Sub) (id : ℕ) → object_id s ≡ Some id → standing_subs (front ++ s ∷ []) ≡ standing_subs front ++ if_new sub_key (is_known sub_key (object_subs front) (id, s)) (id, s)
+standing-push : (front : List Sub) (s : Sub) (id : ℕ) → object_id s ≡ Some id → first_subs (front ++ s ∷ []) ≡ first_subs front ++ if_new sub_key (is_known sub_key (object_subs front) (id, s)) (id, s)
 standing-push front s id is =
     standing-firsts (front ++ s ∷ [])
     ∙ ap (λ (xs : List (ℕ × Sub)). firsts sub_key xs) (subs-push front s id is)
     ∙ firsts-push sub_key (object_subs front) (id, s)
     ∙ ap (λ (xs : List (ℕ × Sub)). xs ++ if_new sub_key (is_known sub_key (object_subs front) (id, s)) (id, s)) (sym (standing-firsts front))
 
-standing-root : (front : List Sub) (s : Sub) → object_id s ≡ None → standing_subs (front ++ s ∷ []) ≡ standing_subs front
+standing-root : (front : List Sub) (s : Sub) → object_id s ≡ None → first_subs (front ++ s ∷ []) ≡ first_subs front
 standing-root front s is =
     let none : object_subs (front ++ s ∷ []) ≡ object_subs front =
     filter_map-append object_sub front (s ∷ []) ∙ ap (λ (o : Option ℕ). object_subs front ++ cons_option (option_map (λ (x : ℕ). let p : ℕ × Sub = (x, s) in p) o) []) is ∙ append-nil (object_subs front) in
@@ -81,7 +81,7 @@ module _ (known : KnownBy) (size : IdSize) where
   root-push front ids roots tally h at row =
       let s : Sub = record { offset = at; item = subs.Root row.kind row.id } in
       let none : filter_map object_id (front ++ s ∷ []) ≡ filter_map object_id front = filter_map-append object_id front (s ∷ []) ∙ append-nil (filter_map object_id front) in
-      let stand : standing_subs (front ++ s ∷ []) ≡ standing_subs front = standing-root front s refl in
+      let stand : first_subs (front ++ s ∷ []) ≡ first_subs front = standing-root front s refl in
       record {
         ids_are = h.ids_are ∙ ap (λ (xs : List ℕ). firsts same xs) (sym none);
         known_ids = λ id. h.known_ids id ∙ ap (list_any (λ k. eqb id k)) (sym none);
@@ -134,7 +134,7 @@ module _ (known : KnownBy) (size : IdSize) where
       let b = list_any (λ k. eqb id k) ids in
       let noted = noted-push same old id ids tally.repeated ids' tally'.repeated (record { known = h.known_ids; count = h.repeated_is }) notes.noted in
       let there : b ≡ is_known sub_key (object_subs front) (id, s) = noted-is front ids roots tally h s id in
-      let stand : standing_subs (front ++ s ∷ []) ≡ standing_subs front ++ if_new sub_key b (id, s) = standing-push front s id is ∙ ap (λ (c : Bool). standing_subs front ++ if_new sub_key c (id, s)) (sym there) in
+      let stand : first_subs (front ++ s ∷ []) ≡ first_subs front ++ if_new sub_key b (id, s) = standing-push front s id is ∙ ap (λ (c : Bool). first_subs front ++ if_new sub_key c (id, s)) (sym there) in
       record {
         ids_are = notes.noted.noted ∙ case-ids ids id b
             ∙ ap (λ (c : Bool). ids ++ cond c [] (id ∷ [])) (h.known_ids id)
@@ -145,14 +145,14 @@ module _ (known : KnownBy) (size : IdSize) where
         repeated_is = noted.count ∙ ap (repeats same) (sym objects);
         opaque_is = notes.opaque
             ∙ ap (λ (n : ℕ). n + cond (not b && is_opaque known s.item) 1 0) h.opaque_is
-            ∙ ap (λ (n : ℕ). count_by opaque_one (standing_subs front) + n) (sym (case-opaque s id b))
-            ∙ sym (sum_by-append (λ (p : ℕ × Sub). cond (opaque_one p) 1 0) (standing_subs front) (if_new sub_key b (id, s)))
+            ∙ ap (λ (n : ℕ). count_by opaque_one (first_subs front) + n) (sym (case-opaque s id b))
+            ∙ sym (sum_by-append (λ (p : ℕ × Sub). cond (opaque_one p) 1 0) (first_subs front) (if_new sub_key b (id, s)))
             ∙ ap (λ (xs : List (ℕ × Sub)). count_by opaque_one xs) (sym stand);
         roots_are = h.roots_are ∙ sym (append-nil (roots_in front)) ∙ ap (λ xs. roots_in front ++ xs) (sym no_root) ∙ sym (filter_map-append _ front (s ∷ []));
         no_null = rw notes.noted.noted (case-positive ids id b h.no_null notes.some);
         distinct = rw notes.noted.noted (case-distinct ids id b refl h.distinct);
         no_fault = ap (λ (xs : List (ℕ × Sub)). filter_map (object_fault known size) xs) stand
-            ∙ filter_map-append (object_fault known size) (standing_subs front) (if_new sub_key b (id, s))
+            ∙ filter_map-append (object_fault known size) (first_subs front) (if_new sub_key b (id, s))
             ∙ ap (λ (fs : List ReadFault). fs ++ filter_map (object_fault known size) (if_new sub_key b (id, s))) h.no_fault
             ∙ case-fault s id b notes.some notes.fits;
       }
@@ -192,7 +192,7 @@ module _ (known : KnownBy) (size : IdSize) where
       let R = firsts_from sub_key (A ++ (id, s) ∷ []) B in
       let objects : object_subs (front ++ s ∷ after) ≡ A ++ (id, s) ∷ B =
       filter_map-append object_sub front (s ∷ after) ∙ ap (λ (o : Option ℕ). A ++ cons_option (option_map (λ (x : ℕ). let p : ℕ × Sub = (x, s) in p) o) B) is in
-      let stand : standing_subs (front ++ s ∷ after) ≡ standing_subs front ++ (id, s) ∷ R =
+      let stand : first_subs (front ++ s ∷ after) ≡ first_subs front ++ (id, s) ∷ R =
       standing-firsts (front ++ s ∷ after)
       ∙ ap (λ (xs : List (ℕ × Sub)). firsts sub_key xs) objects
       ∙ firsts_from-append sub_key [] A ((id, s) ∷ B)
@@ -200,7 +200,7 @@ module _ (known : KnownBy) (size : IdSize) where
       ∙ ap (λ (xs : List (ℕ × Sub)). xs ++ (id, s) ∷ R) (sym (standing-firsts front)) in
       let faults : object_faults known size (front ++ s ∷ after) ≡ cons_option (object_fault known size (id, s)) (filter_map (object_fault known size) R) =
       ap (λ (xs : List (ℕ × Sub)). filter_map (object_fault known size) xs) stand
-      ∙ filter_map-append (object_fault known size) (standing_subs front) ((id, s) ∷ R)
+      ∙ filter_map-append (object_fault known size) (first_subs front) ((id, s) ∷ R)
       ∙ ap (λ (fs : List ReadFault). fs ++ filter_map (object_fault known size) ((id, s) ∷ R)) none in
       ap (λ (fs : List ReadFault). slice_get fs 0) faults ∙ ap (λ (o : Option ReadFault). slice_get (cons_option o (filter_map (object_fault known size) R)) 0) here
 
@@ -251,7 +251,7 @@ opaque-le known size list i ids roots tally h =
     omega (
       arith,
       h.opaque_is,
-      count_by-le-length (λ (p : ℕ × Sub). is_opaque known p.1.item) (standing_subs (take i list)),
+      count_by-le-length (λ (p : ℕ × Sub). is_opaque known p.1.item) (first_subs (take i list)),
       ap (λ (xs : List (ℕ × Sub)). length xs) (standing-firsts (take i list)),
       firsts-le sub_key [] (object_subs (take i list)),
       filter_map-le object_sub (take i list),

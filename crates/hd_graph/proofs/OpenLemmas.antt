@@ -13,7 +13,7 @@ use Rattle.hd_terms.specs.declared.errors.ReadFault.{ReadFault}
 use Rattle.hd_terms.specs.Records.{Record, header_len, segment_spans, is_segment, texts, loads}
 use Rattle.hd_terms.specs.SubRecords.{SubRecord, Sub, Item, ObjArray, PrimArray, AreSubRecords, AreDumpSubRecords, dump_subs_at}
 use Rattle.hd_terms.specs.SubRecords as subs
-use Rattle.hd_terms.specs.FirstRecords.{object_sub, standing_subs, repeats}
+use Rattle.hd_terms.specs.FirstRecords.{object_sub, first_subs, repeats}
 use Rattle.hd_terms.specs.Classes.{ClassTable, class_table, class_of_item, resolved_class}
 use Rattle.hd_terms.specs.HeapFaults as heap
 use Rattle.hd_terms.specs.HeapFaults.{fault_if, class_faults}
@@ -68,7 +68,7 @@ same-fault : (t : ClassTable) (size : IdSize) (p : ℕ × Sub) → object_fault 
 same-fault t size (id, s) = ap (λ (m : Bool). cond (eqb id 0) (fault_if true causes.NullObject s) (fault_if m causes.InstanceSize s)) (same-size_mismatch t size s.item)
 
 same-faults : (t : ClassTable) (size : IdSize) (list : List Sub) → object_faults (resolved_class t) size list ≡ heap.object_faults t size list
-same-faults t size list = ap (λ (f : ℕ × Sub → Option ReadFault). filter_map f (standing_subs list)) (fun_ext (same-fault t size))
+same-faults t size list = ap (λ (f : ℕ × Sub → Option ReadFault). filter_map f (first_subs list)) (fun_ext (same-fault t size))
 
 abbrev same : ℕ → ℕ
 same id = id
@@ -182,7 +182,7 @@ module _ (bytes : List ℕ) (size : IdSize) (strings : List Text) (classes : Lis
           omega (
             arith,
             h.few,
-            filter_map-le (λ (p : ℕ × Sub). class_of_item p.1.item) (standing_subs list),
+            filter_map-le (λ (p : ℕ × Sub). class_of_item p.1.item) (first_subs list),
             ap (λ (xs : List (ℕ × Sub)). length xs) (standing-firsts list),
             firsts-le sub_key [] (object_subs list),
             filter_map-le object_sub list,
@@ -259,8 +259,8 @@ module _ (bytes : List ℕ) (size : IdSize) (strings : List Text) (classes : Lis
           opaque_are : tally.opaque ≡ opaque_in real placed
           opaque_are =
               n.opaque_is
-              ∙ ap (λ (kn : KnownBy). count_by (λ (x : ℕ × Sub). is_opaque kn x.1.item) (standing_subs list)) known-is
-              ∙ ap (λ (test : Item → Bool). count_by (λ (x : ℕ × Sub). test x.1.item) (standing_subs list)) (fun_ext (same-opaque real))
+              ∙ ap (λ (kn : KnownBy). count_by (λ (x : ℕ × Sub). is_opaque kn x.1.item) (first_subs list)) known-is
+              ∙ ap (λ (test : Item → Bool). count_by (λ (x : ℕ × Sub). test x.1.item) (first_subs list)) (fun_ext (same-opaque real))
               ∙ ap (opaque_in real) list_of_records
 
           -- what is repeated

@@ -7,7 +7,7 @@ use Rattle.hd_terms.specs.declared.errors.Cause.TheVariants as causes
 use Rattle.hd_terms.specs.declared.errors.ReadFault.{ReadFault}
 use Rattle.hd_terms.specs.SubRecords.{Sub, Item, ObjArray, PrimArray}
 use Rattle.hd_terms.specs.SubRecords as subs
-use Rattle.hd_terms.specs.FirstRecords.{repeats, standing_subs}
+use Rattle.hd_terms.specs.FirstRecords.{repeats, first_subs}
 use Rattle.hd_terms.specs.Classes.{ResolvedClass, layout_len}
 use Rattle.hd_terms.specs.HeapFaults.{fault_if}
 use Rattle.hd_terms.specs.ReadFaults.{fault}
@@ -39,7 +39,7 @@ object_fault known size (id, s) = if id == 0 then fault_if true causes.NullObjec
 
 -- the faults of objects, those that stand
 abbrev pub object_faults : KnownBy → IdSize → List Sub → List ReadFault
-object_faults known size list = filter_map (object_fault known size) (standing_subs list)
+object_faults known size list = filter_map (object_fault known size) (first_subs list)
 
 -- want of memory, or the first fault of objects
 abbrev pub IsObjectFaultOrMemory : KnownBy → IdSize → List Sub → ReadFault → Type 0
@@ -51,7 +51,7 @@ pub record IsNumbered (known : KnownBy) (size : IdSize) (list : List Sub) (ids :
   pub ids_are : ids ≡ object_ids list
   pub known_ids : (id : ℕ) → list_any (λ k. id == k) ids ≡ list_any (λ k. id == k) (filter_map object_id list)
   pub repeated_is : tally.repeated ≡ repeats (λ (id : ℕ). id) (filter_map object_id list)
-  pub opaque_is : tally.opaque ≡ count_by (λ (p : ℕ × Sub). is_opaque known p.1.item) (standing_subs list)
+  pub opaque_is : tally.opaque ≡ count_by (λ (p : ℕ × Sub). is_opaque known p.1.item) (first_subs list)
   pub roots_are : map root_of_row roots ≡ roots_in list
   pub no_null : All (λ id. 0 < id) ids
   pub distinct : IsDistinct nat_eq ids

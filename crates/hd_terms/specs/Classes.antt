@@ -15,7 +15,7 @@ use Rattle.hd_terms.specs.declared.EdgeKind.TheVariants as kinds
 use Rattle.hd_terms.specs.Types.{is_id_type, value_len}
 use Rattle.hd_terms.specs.SubRecords.{ClassItem, FieldItem, Item, Instance, ObjArray, PrimArray, Sub}
 use Rattle.hd_terms.specs.SubRecords as subs
-use Rattle.hd_terms.specs.FirstRecords.{standing_subs}
+use Rattle.hd_terms.specs.FirstRecords.{first_subs}
 
 -- what says all of classes: the bytes of a file, its texts, its loaded classes, and its class objects
 pub record ClassTable : Type 0 where
@@ -33,11 +33,11 @@ class_of_item (ObjArray id class elements) = None
 class_of_item (PrimArray id element count) = None
 
 -- the class objects of sub-records
-abbrev pub standing_classes : List Sub → List ClassItem
-standing_classes list = filter_map (λ (p : ℕ × Sub). class_of_item p.1.item) (standing_subs list)
+abbrev pub first_classes : List Sub → List ClassItem
+first_classes list = filter_map (λ (p : ℕ × Sub). class_of_item p.1.item) (first_subs list)
 
 abbrev pub class_table : List ℕ → List Text → List Load → List Sub → ClassTable
-class_table bytes texts loads list = record { bytes = bytes; texts = texts; loads = loads; classes = standing_classes list }
+class_table bytes texts loads list = record { bytes = bytes; texts = texts; loads = loads; classes = first_classes list }
 
 -- names
 

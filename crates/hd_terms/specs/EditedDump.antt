@@ -1,7 +1,7 @@
 -- The edited dump: which edges and roots stand under a log.
 -- Source: this project. Edits are what-if: they are never written to the dump, and one that names nothing has no effect.
-use Rattle.std.specs.Prelude.{ℕ, ◌+◌, ◌==◌, Bool, false, ◌&&◌, not, if◌then◌else◌, List, ◌++◌, length, Option, Some, None, slice_get}
-use Rattle.std.specs.Option.{option_map}
+use Rattle.std.specs.Prelude.{ℕ, ◌+◌, ◌-◌, ◌==◌, nat_lt, Bool, true, false, ◌&&◌, ◌||◌, not, if◌then◌else◌, List, ◌++◌, length, Option, Some, None, slice_get}
+use Rattle.std.specs.Option.{option_map, option_and_then}
 use Rattle.std.specs.List.{filter, filter_map, list_any, enumerate_from}
 use Rattle.hd_terms.specs.declared.Slot.{Slot}
 use Rattle.hd_terms.specs.declared.Slot.TheVariants as slots
@@ -63,6 +63,22 @@ drops r (edits.Add id) = false
 -- the root of a number is dropped: a live edit drops it
 abbrev pub is_dropped : List Event → ℕ → Bool
 is_dropped log r = list_any (drops r) (live_edits log)
+
+-- an edit, where there is one, adds a root
+abbrev pub adds_root : Option Edit → Bool
+adds_root None = false
+adds_root (Some (edits.Cut id slot)) = false
+adds_root (Some (edits.Clear id)) = false
+adds_root (Some (edits.Drop r)) = false
+adds_root (Some (edits.Add id)) = true
+
+-- the edit of event k of a log, where there is such an event and it is live
+abbrev pub live_edit_at : List Event → ℕ → Option Edit
+live_edit_at log k = option_and_then (λ (e : Event). live_edit log (k, e)) (slice_get log k)
+
+-- a root has this number: one of the dump's, of which there are so many, or that of a live event that adds a root
+abbrev pub is_root : (roots : ℕ) → List Event → ℕ → Bool
+is_root roots log r = nat_lt r roots || adds_root (live_edit_at log (r - roots))
 
 -- a root of a number on an ID, where no live edit drops it and the ID is an object's
 abbrev pub standing_root : Dump → List Event → ℕ → ℕ → Option RootEntry

@@ -36,5 +36,5 @@ abbrev pub object_sub : Sub → Option (ℕ × Sub)
 object_sub s = option_map (λ (id : ℕ). (id, s)) (id_of_item s.item)
 
 -- the sub-records of objects that stand: the first of each ID
-abbrev pub standing_subs : List Sub → List (ℕ × Sub)
-standing_subs list = first_of_each (λ (p : ℕ × Sub). p.0) (filter_map object_sub list)
+abbrev pub first_subs : List Sub → List (ℕ × Sub)
+first_subs list = first_of_each (λ (p : ℕ × Sub). p.0) (filter_map object_sub list)

@@ -10,7 +10,7 @@ use Rattle.hd_terms.specs.declared.errors.Cause.TheVariants as causes
 use Rattle.hd_terms.specs.declared.errors.ReadFault.{ReadFault}
 use Rattle.hd_terms.specs.SubRecords.{ClassItem, Item, Instance, ObjArray, PrimArray, Sub}
 use Rattle.hd_terms.specs.SubRecords as subs
-use Rattle.hd_terms.specs.FirstRecords.{standing_subs}
+use Rattle.hd_terms.specs.FirstRecords.{first_subs}
 use Rattle.hd_terms.specs.Classes.{ClassTable, ResolvedClass, class_of_item, never_ends, resolved_class, layout_len}
 
 -- a fault of a cause at the tag of a sub-record, if a test holds
@@ -23,7 +23,7 @@ class_fault t (id, s) = fault_if (option_map_or (λ (c : ClassItem). never_ends 
 
 -- the faults of the classes among sub-records
 abbrev pub class_faults : ClassTable → List Sub → List ReadFault
-class_faults t list = filter_map (class_fault t) (standing_subs list)
+class_faults t list = filter_map (class_fault t) (first_subs list)
 
 -- the values of an instance have another number of bytes than its class's layout
 abbrev pub is_size_mismatch : ClassTable → IdSize → Item → Bool
@@ -39,4 +39,4 @@ object_fault t size (id, s) = if id == 0 then fault_if true causes.NullObject s 
 
 -- the faults of the objects among sub-records
 abbrev pub object_faults : ClassTable → IdSize → List Sub → List ReadFault
-object_faults t size list = filter_map (object_fault t size) (standing_subs list)
+object_faults t size list = filter_map (object_fault t size) (first_subs list)

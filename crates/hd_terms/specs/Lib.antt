@@ -22,6 +22,8 @@ pub mod SlotRows
 pub mod Fell
 pub mod Lines
 pub mod Asking
+pub mod Appending
+pub mod Memory
 pub mod Replies
 pub mod Sessions
 pub mod Counts

@@ -7,6 +7,11 @@ use Rattle.std.specs.Str.{bytes_eq}
 use Rattle.std.specs.Io.BufRead.{strip_last}
 use Rattle.hd_terms.specs.declared.Slot.{Slot}
 use Rattle.hd_terms.specs.declared.Slot.TheVariants as slots
+use Rattle.hd_terms.specs.declared.Edit.TheVariants as edits
+use Rattle.hd_terms.specs.declared.commands.Command.{Command}
+use Rattle.hd_terms.specs.declared.commands.Command.TheVariants as commands
+use Rattle.hd_terms.specs.declared.commands.LineFault.{LineFault}
+use Rattle.hd_terms.specs.declared.commands.LineFault.TheVariants as faults
 
 -- the most bytes of a line before its newline
 abbrev pub longest_line : ℕ
@@ -36,24 +41,6 @@ whole_lines input = all_but_last (pieces input)
 -- the lines of an input that has ended
 abbrev pub lines_of : List ℕ → List (List ℕ)
 lines_of input = without_empty_end (pieces input)
-
--- what a line asks for
-pub data Command : Type 0 where
-  -- the strength of the object of an ID
-  Strength : (id : ℕ) → Command
-  -- the slots of the object of an ID
-  Slots : (id : ℕ) → Command
-  -- the reference in a slot of the object of an ID is taken away
-  Cut : (id : ℕ) (slot : Slot) → Command
-  -- event k is taken back, or the last of the analyst's own edits
-  Undo : (number : Option ℕ) → Command
-  Quit : Command
-
--- why a line asks for nothing
-pub data LineFault : Type 0 where
-  LineTooLong : LineFault
-  UnknownCommand : LineFault
-  BadArgument : LineFault
 
 -- the words of a line: what stands between spaces, without one carriage return at the line's end
 abbrev pub words_of : List ℕ → List (List ℕ)
@@ -132,67 +119,67 @@ only_word (word ∷ more ∷ rest) = None
 
 -- `strength ID`
 abbrev pub strength_of : Option ℕ → Result Command LineFault
-strength_of None = Err BadArgument
-strength_of (Some id) = Ok (Strength id)
+strength_of None = Err faults.BadArgument
+strength_of (Some id) = Ok (commands.Strength id)
 
 abbrev pub strength_command : List (List ℕ) → Result Command LineFault
 strength_command arguments = strength_of (option_and_then id_of_word (only_word arguments))
 
 -- `slots ID`
 abbrev pub slots_of : Option ℕ → Result Command LineFault
-slots_of None = Err BadArgument
-slots_of (Some id) = Ok (Slots id)
+slots_of None = Err faults.BadArgument
+slots_of (Some id) = Ok (commands.Slots id)
 
 abbrev pub slots_command : List (List ℕ) → Result Command LineFault
 slots_command arguments = slots_of (option_and_then id_of_word (only_word arguments))
 
 -- `cut ID SLOT`
 abbrev pub cut_of : Option ℕ → Option Slot → Result Command LineFault
-cut_of None slot = Err BadArgument
-cut_of (Some id) None = Err BadArgument
-cut_of (Some id) (Some slot) = Ok (Cut id slot)
+cut_of None slot = Err faults.BadArgument
+cut_of (Some id) None = Err faults.BadArgument
+cut_of (Some id) (Some slot) = Ok (commands.Edit (edits.Cut id slot))
 
 abbrev pub cut_command : List (List ℕ) → Result Command LineFault
-cut_command [] = Err BadArgument
+cut_command [] = Err faults.BadArgument
 cut_command (id ∷ rest) = cut_of (id_of_word id) (option_and_then slot_of_word (only_word rest))
 
 -- `undo`, and `undo N`
 abbrev pub undo_of : Option ℕ → Result Command LineFault
-undo_of None = Err BadArgument
-undo_of (Some k) = Ok (Undo (Some k))
+undo_of None = Err faults.BadArgument
+undo_of (Some k) = Ok (commands.Undo (Some k))
 
 abbrev pub undo_command : List (List ℕ) → Result Command LineFault
-undo_command [] = Ok (Undo None)
+undo_command [] = Ok (commands.Undo None)
 undo_command (number ∷ rest) = undo_of (option_and_then number_of_word (only_word (number ∷ rest)))
 
 -- `quit`
 abbrev pub quit_command : List (List ℕ) → Result Command LineFault
-quit_command [] = Ok Quit
-quit_command (more ∷ rest) = Err BadArgument
+quit_command [] = Ok commands.Quit
+quit_command (more ∷ rest) = Err faults.BadArgument
 
 -- the first word decides, in lower case; then the arguments have to fit
 abbrev pub command_of_words : List (List ℕ) → Result Command LineFault
-command_of_words [] = Err UnknownCommand
+command_of_words [] = Err faults.UnknownCommand
 command_of_words (word ∷ arguments) =
     if bytes_eq word (codes "strength") then strength_command arguments
     else if bytes_eq word (codes "slots") then slots_command arguments
     else if bytes_eq word (codes "cut") then cut_command arguments
     else if bytes_eq word (codes "undo") then undo_command arguments
     else if bytes_eq word (codes "quit") then quit_command arguments
-    else Err UnknownCommand
+    else Err faults.UnknownCommand
 
 -- the command that a line spells, or the first of its faults: too long, unknown, a wrong argument
 abbrev pub command_of : List ℕ → Result Command LineFault
-command_of line = if nat_lt longest_line (length line) then Err LineTooLong else command_of_words (words_of line)
+command_of line = if nat_lt longest_line (length line) then Err faults.LineTooLong else command_of_words (words_of line)
 
 -- the line spells `quit`
 abbrev pub is_quit_command : Result Command LineFault → Bool
 is_quit_command (Err f) = false
-is_quit_command (Ok (Strength id)) = false
-is_quit_command (Ok (Slots id)) = false
-is_quit_command (Ok (Cut id slot)) = false
-is_quit_command (Ok (Undo number)) = false
-is_quit_command (Ok Quit) = true
+is_quit_command (Ok (commands.Strength id)) = false
+is_quit_command (Ok (commands.Slots id)) = false
+is_quit_command (Ok (commands.Edit edit)) = false
+is_quit_command (Ok (commands.Undo number)) = false
+is_quit_command (Ok commands.Quit) = true
 
 abbrev pub is_quit : List ℕ → Bool
 is_quit line = is_quit_command (command_of line)

@@ -11,7 +11,7 @@ use Rattle.hd_terms.specs.declared.Load.{Load}
 use Rattle.hd_terms.specs.Records.{id_len, Record, HasHeader, AreRecords, header_len, segment_spans, texts, loads}
 use Rattle.hd_terms.specs.SubRecords.{SubRecord, RootOf, ClassDump, InstanceDump, ObjectArray, PrimitiveArray, Item, Instance, ObjArray, PrimArray, Sub, AreDumpSubRecords, dump_subs_at}
 use Rattle.hd_terms.specs.SubRecords as subs
-use Rattle.hd_terms.specs.FirstRecords.{first_of_each, repeats, standing_subs}
+use Rattle.hd_terms.specs.FirstRecords.{first_of_each, repeats, first_subs}
 use Rattle.hd_terms.specs.Classes.{ClassTable, ResolvedClass, class_table, resolved_class, fitting_class}
 use Rattle.hd_terms.specs.Groups.{instance_group, instance_bytes, array_group, array_bytes, class_group, class_bytes, primitive_group, primitive_bytes}
 use Rattle.hd_terms.specs.Slots.{instance_slots, array_slots, class_slots}
@@ -73,7 +73,7 @@ is_opaque t (PrimArray id element count) = false
 
 -- how many instances among sub-records are opaque
 abbrev pub opaque_in : ClassTable → List Sub → ℕ
-opaque_in t list = count_by (λ (p : ℕ × Sub). is_opaque t p.1.item) (standing_subs list)
+opaque_in t list = count_by (λ (p : ℕ × Sub). is_opaque t p.1.item) (first_subs list)
 
 -- the classes of a file, by its records and the sub-records of its segments
 abbrev pub classes_of : List ℕ → IdSize → List Record → List (List SubRecord) → ClassTable

@@ -23,8 +23,12 @@ use Rattle.hd_terms.specs.Edges.{index_of}
 use Rattle.hd_terms.specs.EditedDump.{standing}
 use Rattle.hd_terms.specs.SlotRows.{slot_rows}
 use Rattle.hd_terms.specs.Fell.{FellCount}
-use Rattle.hd_terms.specs.Lines.{Command, Quit, LineFault, LineTooLong, UnknownCommand, BadArgument, command_of}
-use Rattle.hd_terms.specs.Lines as commands
+use Rattle.hd_terms.specs.declared.commands.Command.{Command}
+use Rattle.hd_terms.specs.declared.commands.Command.TheVariants as commands
+use Rattle.hd_terms.specs.declared.commands.LineFault.{LineFault}
+use Rattle.hd_terms.specs.declared.commands.LineFault.TheVariants as line_faults
+use Rattle.hd_terms.specs.Lines.{command_of}
+use Rattle.hd_terms.specs.Memory.{Memory}
 
 -- a text and the newline that ends it
 abbrev pub with_newline : List ℕ → List ℕ
@@ -49,9 +53,9 @@ strength_name strengths.Strong = codes "STRONG"
 
 -- a line's fault as it is printed
 abbrev pub line_fault_name : LineFault → List ℕ
-line_fault_name LineTooLong = codes "LineTooLong"
-line_fault_name UnknownCommand = codes "UnknownCommand"
-line_fault_name BadArgument = codes "BadArgument"
+line_fault_name line_faults.LineTooLong = codes "LineTooLong"
+line_fault_name line_faults.UnknownCommand = codes "UnknownCommand"
+line_fault_name line_faults.BadArgument = codes "BadArgument"
 
 -- why an edit or an undo is refused, as it is printed
 abbrev pub log_fault_name : LogFault → List ℕ
@@ -65,8 +69,10 @@ abbrev pub refusal_name : Refusal → List ℕ
 refusal_name refusals.NoSuchObject = codes "NoSuchObject"
 refusal_name refusals.NoSuchSlot = codes "NoSuchSlot"
 refusal_name refusals.NotCuttable = codes "NotCuttable"
+refusal_name refusals.NotReference = codes "NotReference"
 refusal_name refusals.EmptySlot = codes "EmptySlot"
 refusal_name refusals.NothingToUndo = codes "NothingToUndo"
+refusal_name refusals.NoSuchRoot = codes "NoSuchRoot"
 refusal_name (refusals.Log f) = log_fault_name f
 
 -- an ID as it is printed: 0x and hexadecimal digits in lower case, without leading zeros
@@ -118,18 +124,19 @@ abbrev pub RepliesSlots : Dump → List Event → Option ℕ → List ℕ → Ty
 RepliesSlots dump log None reply = reply ≡ refused (refusal_name refusals.NoSuchObject)
 RepliesSlots dump log (Some o) reply = reply ≡ answered (map slot_line (slot_rows dump log (object_at dump o)))
 
--- the reply to a command that asks nothing of the log. What an edit or an undo is answered isn't said here
-abbrev pub RepliesTo : Dump → List Event → Result Command LineFault → List ℕ → Type 0
-RepliesTo dump log (Err f) reply = reply ≡ refused (line_fault_name f)
-RepliesTo dump log (Ok (commands.Strength id)) reply = RepliesStrength dump log (index_of dump.objects id) reply
-RepliesTo dump log (Ok (commands.Slots id)) reply = RepliesSlots dump log (index_of dump.objects id) reply
-RepliesTo dump log (Ok (commands.Cut id slot)) reply = ⊥
-RepliesTo dump log (Ok (commands.Undo number)) reply = ⊥
-RepliesTo dump log (Ok Quit) reply = reply ≡ answered []
+-- the reply to a command that asks nothing of the log, by what the session remembers. What an edit or an undo is
+-- answered isn't said here
+abbrev pub RepliesTo : Dump → Memory → Result Command LineFault → List ℕ → Type 0
+RepliesTo dump memory (Err f) reply = reply ≡ refused (line_fault_name f)
+RepliesTo dump memory (Ok (commands.Strength id)) reply = RepliesStrength dump memory.log (index_of dump.objects id) reply
+RepliesTo dump memory (Ok (commands.Slots id)) reply = RepliesSlots dump memory.log (index_of dump.objects id) reply
+RepliesTo dump memory (Ok (commands.Edit edit)) reply = ⊥
+RepliesTo dump memory (Ok (commands.Undo number)) reply = ⊥
+RepliesTo dump memory (Ok commands.Quit) reply = reply ≡ answered []
 
 -- the reply to a line that asks nothing of the log
-abbrev pub IsReply : Dump → List Event → List ℕ → List ℕ → Type 0
-IsReply dump log line reply = RepliesTo dump log (command_of line) reply
+abbrev pub IsReply : Dump → Memory → List ℕ → List ℕ → Type 0
+IsReply dump memory line reply = RepliesTo dump memory (command_of line) reply
 
 -- the reply to an edit or an undo that the log has taken: the number of its event, and how many objects fell by it and
 -- how many came back
@@ -149,6 +156,6 @@ abbrev pub takes_memory : Result Command LineFault → Bool
 takes_memory (Err f) = false
 takes_memory (Ok (commands.Strength id)) = false
 takes_memory (Ok (commands.Slots id)) = true
-takes_memory (Ok (commands.Cut id slot)) = true
+takes_memory (Ok (commands.Edit edit)) = true
 takes_memory (Ok (commands.Undo number)) = true
-takes_memory (Ok Quit) = false
+takes_memory (Ok commands.Quit) = false

@@ -1,24 +1,27 @@
 -- Sessions: what one analyst's lines are answered, one after another.
--- Source: this project. A session of many analysts' logs is the general form; alone, each log is the last turn's.
-use Rattle.std.specs.Prelude.{◌≡◌, ℕ, ◌==◌, ◌⊎◌, true, false, List, [], ◌∷◌, ◌++◌, map, filter, Some, None, Ok, Err}
+-- Source: this project. A session beside other analysts is the general form; alone, each turn begins with what the last
+-- one left.
+use Rattle.std.specs.Prelude.{◌≡◌, ℕ, ◌==◌, ◌⊎◌, true, false, List, [], ◌∷◌, ◌++◌, length, map, filter, Some, None, Ok, Err}
 use Rattle.std.specs.List.{flat_map, AllByRecursion}
 use Rattle.hd_terms.specs.declared.Event.{Event}
 use Rattle.hd_terms.specs.Dump.{Dump}
 use Rattle.hd_terms.specs.declared.What.{What}
-use Rattle.hd_terms.specs.declared.errors.LogFault.{LogFault}
 use Rattle.hd_terms.specs.declared.errors.Refusal.{Refusal}
-use Rattle.hd_terms.specs.declared.errors.Refusal.TheVariants as refusals
-use Rattle.hd_terms.specs.Lines.{Command, command_of, whole_lines, lines_of, run_lines, is_quit}
+use Rattle.hd_terms.specs.declared.commands.Command.{Command}
+use Rattle.hd_terms.specs.Memory.{Memory, beginning, at_log}
+use Rattle.hd_terms.specs.Appending.{append_refusal}
+use Rattle.hd_terms.specs.Lines.{command_of, whole_lines, lines_of, run_lines, is_quit}
 use Rattle.hd_terms.specs.Replies.{IsReply, RepliesDone, refused, refusal_name, no_memory, takes_memory}
 use Rattle.hd_terms.specs.Asking.{asked}
-use Rattle.hd_terms.specs.Log.{IsLawful, log_fault}
+use Rattle.hd_terms.specs.Log.{IsLawful}
 
--- one line, the log that its queries speak of, the log on which an edit is decided, the log after it, and the reply
+-- one line: what the session remembers as the line is run, and of whose log its queries speak; the log on which an edit is
+-- decided; what the session remembers after it; and the reply
 pub record Turn : Type 0 where
   pub line : List ℕ
-  pub log : List Event
+  pub before : Memory
   pub found : List Event
-  pub after : List Event
+  pub after : Memory
   pub reply : List ℕ
 
 -- the events of one analyst, in order
@@ -40,31 +43,41 @@ event_by who what = record { who = who; what = what }
 abbrev pub with_event : List Event → Event → List Event
 with_event log event = log ++ event ∷ []
 
+-- nothing is remembered after a turn but a log
+abbrev pub Remembers : Turn → List Event → Type 0
+Remembers t log = t.after ≡ at_log t.before log
+
 -- what a turn of an analyst may be
 pub data IsTurn (dump : Dump) (who : ℕ) (t : Turn) : Type 0 where
   -- a line that asks nothing of the log: the reply is the one under its log, and nothing is added
-  answered : IsReply dump t.log t.line t.reply → t.found ≡ t.log → t.after ≡ t.found → IsTurn dump who t
+  answered : IsReply dump t.before t.line t.reply → t.found ≡ t.before.log → Remembers t t.found → IsTurn dump who t
   -- an edit or undo that is refused before the log is asked
-  declined : (c : Command) (r : Refusal) → command_of t.line ≡ Ok c → asked dump t.log who c ≡ Some (Err r) → t.reply ≡ refused (refusal_name r)
-      → t.found ≡ t.log → t.after ≡ t.found → IsTurn dump who t
+  declined : (c : Command) (r : Refusal) → command_of t.line ≡ Ok c → asked dump t.before.log who c ≡ Some (Err r) → t.reply ≡ refused (refusal_name r)
+      → t.found ≡ t.before.log → Remembers t t.found → IsTurn dump who t
   -- an edit or undo that the log doesn't take
-  rejected : (c : Command) (what : What) (f : LogFault) → command_of t.line ≡ Ok c → asked dump t.log who c ≡ Some (Ok what)
-      → log_fault t.found (event_by who what) ≡ Some f → t.reply ≡ refused (refusal_name (refusals.Log f)) → t.after ≡ t.found → IsTurn dump who t
+  rejected : (c : Command) (what : What) (r : Refusal) → command_of t.line ≡ Ok c → asked dump t.before.log who c ≡ Some (Ok what)
+      → append_refusal (length dump.roots) t.found (event_by who what) ≡ Some r → t.reply ≡ refused (refusal_name r) → Remembers t t.found → IsTurn dump who t
   -- an edit or undo that the log takes: its event is added
-  accepted : (c : Command) (what : What) → command_of t.line ≡ Ok c → asked dump t.log who c ≡ Some (Ok what)
-      → log_fault t.found (event_by who what) ≡ None → RepliesDone dump t.found t.after t.reply → t.after ≡ with_event t.found (event_by who what) → IsTurn dump who t
+  accepted : (c : Command) (what : What) → command_of t.line ≡ Ok c → asked dump t.before.log who c ≡ Some (Ok what)
+      → append_refusal (length dump.roots) t.found (event_by who what) ≡ None → RepliesDone dump t.found (with_event t.found (event_by who what)) t.reply
+      → Remembers t (with_event t.found (event_by who what)) → IsTurn dump who t
   -- a command that finds no memory: nothing is added
-  wanting : takes_memory (command_of t.line) ≡ true → t.reply ≡ no_memory → t.found ≡ t.log → t.after ≡ t.found → IsTurn dump who t
+  wanting : takes_memory (command_of t.line) ≡ true → t.reply ≡ no_memory → t.found ≡ t.before.log → Remembers t t.found → IsTurn dump who t
 
--- the turns of an analyst from a log on
-abbrev pub IsSession : Dump → ℕ → List Event → List Turn → Type 0
-IsSession dump who front [] = Unit {0}
-IsSession dump who front (t ∷ ts) = IsLater who front t.log × IsLater who t.log t.found × IsTurn dump who t × IsSession dump who t.after ts
+-- between two turns of an analyst a later log may be found; all else is remembered
+pub record IsRefreshed (who : ℕ) (before after : Memory) : Type 0 where
+  pub later : IsLater who before.log after.log
+  pub same : after ≡ at_log before after.log
+
+-- the turns of an analyst, from what the session remembers on
+abbrev pub IsSession : Dump → ℕ → Memory → List Turn → Type 0
+IsSession dump who memory [] = Unit {0}
+IsSession dump who memory (t ∷ ts) = IsRefreshed who memory t.before × IsLater who t.before.log t.found × IsTurn dump who t × IsSession dump who t.after ts
 
 -- the analyst is alone: nothing comes between the turns
-abbrev pub IsAlone : List Event → List Turn → Type 0
-IsAlone front [] = Unit {0}
-IsAlone front (t ∷ ts) = (t.log ≡ front) × (t.found ≡ t.log) × IsAlone t.after ts
+abbrev pub IsAlone : Memory → List Turn → Type 0
+IsAlone memory [] = Unit {0}
+IsAlone memory (t ∷ ts) = (t.before ≡ memory) × (t.found ≡ memory.log) × IsAlone t.after ts
 
 -- the replies of a session, joined
 abbrev pub replies : List Turn → List ℕ
@@ -72,8 +85,8 @@ replies ts = flat_map (λ (t : Turn). t.reply) ts
 
 -- a session of the analyst 0, alone from the empty log, over these lines
 pub record IsSessionAlone (dump : Dump) (lines : List (List ℕ)) (ts : List Turn) : Type 0 where
-  pub session : IsSession dump 0 [] ts
-  pub alone : IsAlone [] ts
+  pub session : IsSession dump 0 (beginning []) ts
+  pub alone : IsAlone (beginning []) ts
   pub over : map (λ (t : Turn). t.line) ts ≡ lines
 
 -- the whole input was served: the replies to its lines up to `quit` or to its end

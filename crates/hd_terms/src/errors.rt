@@ -63,10 +63,14 @@ pub enum Refusal {
     NoSuchSlot,
     /// The slot isn't a field, an element or a static.
     NotCuttable,
+    /// The object has no referent slot.
+    NotReference,
     /// The slot is null, or its ID is no object's.
     EmptySlot,
     /// None of the analyst's own edits is live.
     NothingToUndo,
+    /// A root has this number neither in the dump nor by a live edit that adds it.
+    NoSuchRoot,
     /// The log doesn't take the event.
     Log(LogFault),
 }

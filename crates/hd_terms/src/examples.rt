@@ -21,8 +21,13 @@ ghost use Rattle.hd_terms.specs.Counts.{counts_of};
 ghost use Rattle.hd_terms.specs.SlotRows.{slot_rows};
 ghost use Rattle.hd_terms.specs.Fell.{FellCount};
 ghost use Rattle.hd_terms.specs.Asking.{asked};
+ghost use Rattle.hd_terms.specs.Appending.{append_refusal};
 ghost use Rattle.hd_terms.specs.Log.{IsLawful, live_edits, last_live, log_fault};
-ghost use Rattle.hd_terms.specs.Lines.{command_of, lines_of, whole_lines, Strength, Slots, Cut, Undo, Quit, LineTooLong, UnknownCommand, BadArgument};
+ghost use Rattle.hd_terms.specs.Lines.{command_of, lines_of, whole_lines};
+ghost use Rattle.hd_terms.specs.Memory.{beginning};
+ghost use Rattle.hd_terms.specs.declared.commands.Command.TheVariants as commands;
+ghost use Rattle.hd_terms.specs.declared.commands.LineFault.TheVariants as line_faults;
+ghost use Rattle.hd_terms.specs.declared.Edit.TheVariants as edits;
 ghost use Rattle.hd_terms.specs.Examples as examples;
 
 /// What files are read as, and their faults.
@@ -132,14 +137,26 @@ pub fn edit_examples()
     ensures no_such_event_of_a_full_log { log_fault examples.full_log (examples.undoes 0 5000) ≡ Some faults.NoSuchEvent }
     ensures last_live { last_live (take 2 examples.two_cuts_of_one_slot) 0 ≡ Some 0 }
     ensures none_live { last_live examples.cut_and_undo 0 ≡ None }
-    ensures cut { asked examples.two_arrays [] 0 (Cut 1 (slots.Element 0)) ≡ Some (Ok (whats.Do (examples.cut 0))) }
-    ensures null_slot { asked examples.two_arrays [] 0 (Cut 1 (slots.Element 1)) ≡ Some (Err refusals.EmptySlot) }
-    ensures absent_slot { asked examples.two_arrays [] 0 (Cut 1 (slots.Element 2)) ≡ Some (Err refusals.EmptySlot) }
-    ensures no_such_slot { asked examples.two_arrays [] 0 (Cut 1 (slots.Element 3)) ≡ Some (Err refusals.NoSuchSlot) }
-    ensures no_such_word { asked examples.two_arrays [] 0 (Cut 1 slots.Super) ≡ Some (Err refusals.NoSuchSlot) }
-    ensures not_cuttable { asked examples.two_arrays [] 0 (Cut 1 slots.OfClass) ≡ Some (Err refusals.NotCuttable) }
-    ensures no_such_object { asked examples.two_arrays [] 0 (Cut 9 (slots.Element 0)) ≡ Some (Err refusals.NoSuchObject) }
-    ensures nothing_to_undo { asked examples.two_arrays [] 0 (Undo None) ≡ Some (Err refusals.NothingToUndo) }
+    ensures cut { asked examples.two_arrays [] 0 (commands.Edit (edits.Cut 1 (slots.Element 0))) ≡ Some (Ok (whats.Do (examples.cut 0))) }
+    ensures null_slot { asked examples.two_arrays [] 0 (commands.Edit (edits.Cut 1 (slots.Element 1))) ≡ Some (Err refusals.EmptySlot) }
+    ensures absent_slot { asked examples.two_arrays [] 0 (commands.Edit (edits.Cut 1 (slots.Element 2))) ≡ Some (Err refusals.EmptySlot) }
+    ensures no_such_slot { asked examples.two_arrays [] 0 (commands.Edit (edits.Cut 1 (slots.Element 3))) ≡ Some (Err refusals.NoSuchSlot) }
+    ensures no_such_word { asked examples.two_arrays [] 0 (commands.Edit (edits.Cut 1 slots.Super)) ≡ Some (Err refusals.NoSuchSlot) }
+    ensures not_cuttable { asked examples.two_arrays [] 0 (commands.Edit (edits.Cut 1 slots.OfClass)) ≡ Some (Err refusals.NotCuttable) }
+    ensures no_such_object { asked examples.two_arrays [] 0 (commands.Edit (edits.Cut 9 (slots.Element 0))) ≡ Some (Err refusals.NoSuchObject) }
+    ensures clear { asked examples.weak_and_final_referents [] 0 (commands.Edit (edits.Clear 0x21)) ≡ Some (Ok (whats.Do (edits.Clear 0x21))) }
+    ensures not_reference { asked examples.weak_and_final_referents [] 0 (commands.Edit (edits.Clear 1)) ≡ Some (Err refusals.NotReference) }
+    ensures clear_of_no_object { asked examples.two_arrays [] 0 (commands.Edit (edits.Clear 9)) ≡ Some (Err refusals.NoSuchObject) }
+    ensures add { asked examples.phantom_referent [] 0 (commands.Edit (edits.Add 0x22)) ≡ Some (Ok (whats.Do (edits.Add 0x22))) }
+    ensures add_to_no_object { asked examples.two_arrays [] 0 (commands.Edit (edits.Add 9)) ≡ Some (Err refusals.NoSuchObject) }
+    ensures drop { append_refusal 1 [] (examples.does 0 (edits.Drop 0)) ≡ None }
+    ensures no_such_root { append_refusal 1 [] (examples.does 0 (edits.Drop 18446744073709551615)) ≡ Some refusals.NoSuchRoot }
+    ensures drop_of_an_added_root { append_refusal 2 (take 1 examples.add_and_drop) (examples.does 0 (edits.Drop 2)) ≡ None }
+    ensures drop_of_undone_add { append_refusal 2 (take 3 examples.add_and_drop) (examples.does 0 (edits.Drop 2)) ≡ Some refusals.NoSuchRoot }
+    ensures no_such_root_of_a_full_log { append_refusal 1 examples.full_log (examples.does 0 (edits.Drop 5000)) ≡ Some refusals.NoSuchRoot }
+    ensures drop_on_a_full_log { append_refusal 1 examples.full_log (examples.does 0 (edits.Drop 0)) ≡ Some (refusals.Log faults.LogFull) }
+    ensures undo_of_another { append_refusal 1 (take 1 examples.cut_and_undo) (examples.undoes 1 0) ≡ Some (refusals.Log faults.NotYours) }
+    ensures nothing_to_undo { asked examples.two_arrays [] 0 (commands.Undo None) ≡ Some (Err refusals.NothingToUndo) }
     ensures fell { FellCount examples.two_arrays [] (take 1 examples.cut_and_undo) 1 }
     ensures none_back { FellCount examples.two_arrays (take 1 examples.cut_and_undo) [] 0 }
     ensures back { FellCount examples.two_arrays examples.cut_and_undo (take 1 examples.cut_and_undo) 1 }
@@ -150,42 +167,42 @@ pub fn edit_examples()
 
 /// What lines ask for, and why some ask for nothing.
 pub fn line_examples()
-    ensures strength { command_of (codes "strength 0x2") ≡ Ok (Strength 2) }
-    ensures spaces { command_of (codes "  strength   0x2  ") ≡ Ok (Strength 2) }
-    ensures carriage_return { command_of (codes "  strength   0x2  " ++ 13 ∷ []) ≡ Ok (Strength 2) }
-    ensures sixteen_digits { command_of (codes "strength 0x0000000000000002") ≡ Ok (Strength 2) }
-    ensures seventeen_digits { command_of (codes "strength 0x00000000000000002") ≡ Err BadArgument }
-    ensures slots { command_of (codes "slots 0x1") ≡ Ok (Slots 1) }
-    ensures cut { command_of (codes "cut 0x1 e0") ≡ Ok (Cut 1 (slots.Element 0)) }
-    ensures cut_of_a_word { command_of (codes "cut 0x1 signers") ≡ Ok (Cut 1 slots.Signers) }
-    ensures cut_of_a_static { command_of (codes "cut 0x1 s0000000007") ≡ Ok (Cut 1 (slots.Static 7)) }
-    ensures eleven_digits { command_of (codes "cut 0x1 s00000000007") ≡ Err BadArgument }
-    ensures capital_slot { command_of (codes "cut 0x1 E0") ≡ Err BadArgument }
-    ensures no_slot { command_of (codes "cut 0x1") ≡ Err BadArgument }
-    ensures undo { command_of (codes "undo") ≡ Ok (Undo None) }
-    ensures undo_of_the_greatest { command_of (codes "undo 4294967295") ≡ Ok (Undo (Some 4294967295)) }
-    ensures undo_past_the_greatest { command_of (codes "undo 4294967296") ≡ Err BadArgument }
-    ensures quit { command_of (codes "quit") ≡ Ok Quit }
-    ensures quit_now { command_of (codes "quit now") ≡ Err BadArgument }
-    ensures no_argument { command_of (codes "strength") ≡ Err BadArgument }
-    ensures no_prefix { command_of (codes "strength 2") ≡ Err BadArgument }
-    ensures capital_x { command_of (codes "strength 0X2") ≡ Err BadArgument }
-    ensures no_digit { command_of (codes "strength 0x") ≡ Err BadArgument }
-    ensures capitals { command_of (codes "STRENGTH 0x2") ≡ Err UnknownCommand }
-    ensures empty_line { command_of [] ≡ Err UnknownCommand }
-    ensures longest_line { command_of (replicate 4096 32) ≡ Err UnknownCommand }
-    ensures longer_line { command_of (replicate 4097 32) ≡ Err LineTooLong }
-    ensures carriage_return_counts { command_of (replicate 4096 32 ++ 13 ∷ []) ≡ Err LineTooLong }
+    ensures strength { command_of (codes "strength 0x2") ≡ Ok (commands.Strength 2) }
+    ensures spaces { command_of (codes "  strength   0x2  ") ≡ Ok (commands.Strength 2) }
+    ensures carriage_return { command_of (codes "  strength   0x2  " ++ 13 ∷ []) ≡ Ok (commands.Strength 2) }
+    ensures sixteen_digits { command_of (codes "strength 0x0000000000000002") ≡ Ok (commands.Strength 2) }
+    ensures seventeen_digits { command_of (codes "strength 0x00000000000000002") ≡ Err line_faults.BadArgument }
+    ensures slots { command_of (codes "slots 0x1") ≡ Ok (commands.Slots 1) }
+    ensures cut { command_of (codes "cut 0x1 e0") ≡ Ok (commands.Edit (edits.Cut 1 (slots.Element 0))) }
+    ensures cut_of_a_word { command_of (codes "cut 0x1 signers") ≡ Ok (commands.Edit (edits.Cut 1 slots.Signers)) }
+    ensures cut_of_a_static { command_of (codes "cut 0x1 s0000000007") ≡ Ok (commands.Edit (edits.Cut 1 (slots.Static 7))) }
+    ensures eleven_digits { command_of (codes "cut 0x1 s00000000007") ≡ Err line_faults.BadArgument }
+    ensures capital_slot { command_of (codes "cut 0x1 E0") ≡ Err line_faults.BadArgument }
+    ensures no_slot { command_of (codes "cut 0x1") ≡ Err line_faults.BadArgument }
+    ensures undo { command_of (codes "undo") ≡ Ok (commands.Undo None) }
+    ensures undo_of_the_greatest { command_of (codes "undo 4294967295") ≡ Ok (commands.Undo (Some 4294967295)) }
+    ensures undo_past_the_greatest { command_of (codes "undo 4294967296") ≡ Err line_faults.BadArgument }
+    ensures quit { command_of (codes "quit") ≡ Ok commands.Quit }
+    ensures quit_now { command_of (codes "quit now") ≡ Err line_faults.BadArgument }
+    ensures no_argument { command_of (codes "strength") ≡ Err line_faults.BadArgument }
+    ensures no_prefix { command_of (codes "strength 2") ≡ Err line_faults.BadArgument }
+    ensures capital_x { command_of (codes "strength 0X2") ≡ Err line_faults.BadArgument }
+    ensures no_digit { command_of (codes "strength 0x") ≡ Err line_faults.BadArgument }
+    ensures capitals { command_of (codes "STRENGTH 0x2") ≡ Err line_faults.UnknownCommand }
+    ensures empty_line { command_of [] ≡ Err line_faults.UnknownCommand }
+    ensures longest_line { command_of (replicate 4096 32) ≡ Err line_faults.UnknownCommand }
+    ensures longer_line { command_of (replicate 4097 32) ≡ Err line_faults.LineTooLong }
+    ensures carriage_return_counts { command_of (replicate 4096 32 ++ 13 ∷ []) ≡ Err line_faults.LineTooLong }
     ensures two_lines { lines_of (codes "strength 0x2" ++ 10 ∷ codes "quit") ≡ codes "strength 0x2" ∷ codes "quit" ∷ [] }
     ensures one_whole_line { whole_lines (codes "strength 0x2" ++ 10 ∷ codes "quit") ≡ codes "strength 0x2" ∷ [] }
 {}
 
 /// What lines and whole inputs are answered under the empty log.
 pub fn reply_examples()
-    ensures strength { IsReply examples.two_arrays [] (codes "strength 0x2") (codes "ok 1" ++ 10 ∷ codes "STRONG" ++ 10 ∷ []) }
-    ensures absent { IsReply examples.two_arrays [] (codes "strength 0x9") (codes "no NoSuchObject" ++ 10 ∷ []) }
-    ensures no_prefix { IsReply examples.two_arrays [] (codes "strength 2") (codes "no BadArgument" ++ 10 ∷ []) }
-    ensures nothing_there { IsReply examples.empty_dump [] (codes "strength 0x1") (codes "no NoSuchObject" ++ 10 ∷ []) }
+    ensures strength { IsReply examples.two_arrays (beginning []) (codes "strength 0x2") (codes "ok 1" ++ 10 ∷ codes "STRONG" ++ 10 ∷ []) }
+    ensures absent { IsReply examples.two_arrays (beginning []) (codes "strength 0x9") (codes "no NoSuchObject" ++ 10 ∷ []) }
+    ensures no_prefix { IsReply examples.two_arrays (beginning []) (codes "strength 2") (codes "no BadArgument" ++ 10 ∷ []) }
+    ensures nothing_there { IsReply examples.empty_dump (beginning []) (codes "strength 0x1") (codes "no NoSuchObject" ++ 10 ∷ []) }
     ensures served { IsServed examples.two_arrays (codes "strength 0x2" ++ 10 ∷ codes "quit" ++ 10 ∷ codes "strength 0x1" ++ 10 ∷ [])
         (codes "ok 1" ++ 10 ∷ codes "STRONG" ++ 10 ∷ codes "ok 0" ++ 10 ∷ []) }
     ensures read_failed { IsServedUntilRead examples.two_arrays (codes "strength 0x2") (codes "2") [] }

@@ -13,6 +13,7 @@ ghost use Rattle.hd_terms.specs.Dump.{Dump};
 ghost use Rattle.hd_terms.specs.Objects.{IsDumpOf};
 ghost use Rattle.hd_terms.specs.ReadFaults.{IsReadFault};
 ghost use Rattle.hd_terms.specs.Log.{IsLawful, log_fault};
+ghost use Rattle.hd_terms.specs.Appending.{append_refusal};
 ghost use Rattle.hd_terms.specs.Paths.{Edge, RootEntry, Standing};
 ghost use Rattle.hd_terms.specs.Strengths.{HasStrength};
 ghost use Rattle.hd_terms.specs.Chains.{IsChain};
@@ -44,11 +45,12 @@ pub fn class_chains()
     ensures never_ends { (classes : List ClassItem) (id : ℕ) → never_ends classes id ≡ true → NeverEnds classes id }
 {}
 
-/// A lawful log takes exactly the events that leave it lawful.
+/// A lawful log takes exactly the events that leave it lawful, and an append that isn't refused is one of these.
 pub fn lawful_logs()
     ensures none { IsLawful [] }
     ensures takes { (log : List Event) (event : Event) → IsLawful log → log_fault log event ≡ None → IsLawful (log ++ event ∷ []) }
     ensures refuses { (log : List Event) (event : Event) (f : LogFault) → log_fault log event ≡ Some f → IsLawful (log ++ event ∷ []) → ⊥ }
+    ensures appends { (roots : ℕ) (log : List Event) (event : Event) → append_refusal roots log event ≡ None → log_fault log event ≡ None }
 {}
 
 /// An object has one strength.

@@ -5,6 +5,7 @@
 //! "Reachability" of the package specification of `java.lang.ref`, Java SE 17.
 #![tactic(auto)]
 
+mod commands;
 mod errors;
 mod examples;
 mod laws;
@@ -16,6 +17,7 @@ ghost use Rattle.hd_terms.specs.Ranks.{rank, given_by, weaker_of};
 ghost use Rattle.hd_terms.specs.Records.{id_len};
 
 use byteorder::{BigEndian, ByteOrder};
+pub use commands::{Command, LineFault};
 pub use errors::{Cause, LogFault, NoMemory, ReadFault, Refusal};
 pub use examples::{
     class_examples, edit_examples, file_examples, heap_examples, instance_examples, line_examples,

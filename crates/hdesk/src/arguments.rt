@@ -91,7 +91,7 @@ fn workers_of(matches: &ArgMatches<'_>) -> u32
 ///
 /// # Errors
 ///
-/// A usage fault with its text, an asked help among them; or want of memory.
+/// A usage fault with its text, an asked help among them; or out of memory.
 pub fn read_arguments<'a>(alloc: Global, words: &'a [String]) -> Result<Option<Task<'a>>, Error>
     ensures { IfOk result HasWorkers }
 {

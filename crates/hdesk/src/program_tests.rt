@@ -2,7 +2,7 @@
 use crate::program::{BAD_DUMP, DONE, FAILED, USAGE, program};
 use crate::run::RunFault;
 use crate::sample::SAMPLE;
-use crate::serve::ServeFault;
+use crate::serving::ServeFault;
 use crate::spellings::stats;
 use crate::stat::stat_bytes;
 use std::alloc::{AllocError, Global};

@@ -5,7 +5,8 @@ use Rattle.hd_terms.specs.declared.Strength.TheVariants as strengths
 use Rattle.hd_terms.specs.declared.Support.TheVariants as supports
 use Rattle.hd_terms.specs.EditedDump.{standing}
 use Rattle.hd_terms.specs.Replies.{IsReply, answered, with_newline}
-use Rattle.hd_terms.specs.Sessions.{Turn, IsLater, IsSessionAlone}
+use Rattle.hd_terms.specs.Sessions.{Turn, IsLater, IsRefreshed, IsSessionAlone}
+use Rattle.hd_terms.specs.Memory.{beginning}
 use Rattle.hd_terms.specs.Sessions as sessions
 use Rattle.hd_terms.specs.Examples as examples
 use Rattle.hd_terms.proofs.SettledByTest.{strengths_of}
@@ -28,7 +29,7 @@ ok_none_is : ok_none ≡ answered []
 ok_none_is = sym (ap (λ (digits : List ℕ). with_newline (codes "ok " ++ digits) ++ []) (decimal_digit 0 (lit< tt)))
 
 -- the second object is strong
-strong_reply : IsReply examples.two_arrays [] (codes "strength 0x2") ok_strong
+strong_reply : IsReply examples.two_arrays (beginning []) (codes "strength 0x2") ok_strong
 strong_reply = (
   strengths.Strong,
   strengths_of (standing examples.two_arrays [])
@@ -39,16 +40,19 @@ strong_reply = (
 
 -- a turn under the empty log that leaves it empty
 abbrev turn : List ℕ → List ℕ → Turn
-turn line reply = record { line = line; log = []; found = []; after = []; reply = reply }
+turn line reply = record { line = line; before = beginning []; found = []; after = beginning []; reply = reply }
 
 -- nothing came to the empty log
 nothing_came : IsLater 0 [] []
 nothing_came = record { more = []; begins = refl; same_own = refl; lawful = lawful [] refl }
 
+nothing_new : IsRefreshed 0 (beginning []) (beginning [])
+nothing_new = record { later = nothing_came; same = refl }
+
 -- a session of the one line
 one_turn : IsSessionAlone examples.two_arrays (codes "strength 0x2" ∷ []) (turn (codes "strength 0x2") ok_strong ∷ [])
 one_turn = record {
-  session = (nothing_came, nothing_came, sessions.answered strong_reply refl refl, tt);
+  session = (nothing_new, nothing_came, sessions.answered strong_reply refl refl, tt);
   alone = (refl, refl, tt);
   over = refl;
 }
@@ -61,10 +65,10 @@ returns-clause-served c = record {
   turns = turn (codes "strength 0x2") ok_strong ∷ turn (codes "quit") ok_none ∷ [];
   session = record {
     session = (
-      nothing_came,
+      nothing_new,
       nothing_came,
       sessions.answered strong_reply refl refl,
-      (nothing_came, nothing_came, sessions.answered ok_none_is refl refl, tt),
+      (nothing_new, nothing_came, sessions.answered ok_none_is refl refl, tt),
     );
     alone = (refl, refl, (refl, refl, tt));
     over = refl;

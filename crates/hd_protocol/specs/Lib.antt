@@ -1,0 +1,8 @@
+pub mod Commands
+pub mod Replying
+pub mod Editing
+pub mod Answering
+pub mod Serving
+pub mod Running
+pub mod Tasks
+pub mod Stating

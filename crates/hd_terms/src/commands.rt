@@ -1,0 +1,28 @@
+//! What a line of an analyst asks for.
+use crate::Edit;
+
+/// A command, as a line spells it.
+#[derive(Clone, Copy, Debug, PartialEq, Eq)]
+pub enum Command {
+    /// The strength of the object of an ID.
+    Strength(u64),
+    /// The slots of the object of an ID.
+    Slots(u64),
+    /// An edit is added to the log.
+    Edit(Edit),
+    /// The event of a number is taken back; without a number the last of the analyst's own edits that is live.
+    Undo(Option<u32>),
+    /// The end of the session.
+    Quit,
+}
+
+/// Why a line is no command. The first that holds is answered.
+#[derive(Clone, Copy, Debug, PartialEq, Eq)]
+pub enum LineFault {
+    /// It has more than 4,096 bytes before its newline.
+    LineTooLong,
+    /// Its first word is no command, or it has no word.
+    UnknownCommand,
+    /// The words after the first are not what the command takes.
+    BadArgument,
+}
