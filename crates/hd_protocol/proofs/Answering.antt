@@ -2,10 +2,13 @@
 use Rattle.std.proofs.Common.{◌≡◌, ◌∙◌, ℕ, ◌⊎◌, inl, inr, Bool, true, false, List, take, ◌∷◌, [], length, Option, Some, Result, Ok, Err, refl, sym, ap, subst}
 use Rattle.hd_terms.specs.declared.Event.{Event}
 use Rattle.hd_terms.specs.declared.What.{What}
+use Rattle.hd_terms.specs.declared.commands.Command.{Command}
+use Rattle.hd_terms.specs.declared.commands.Command.TheVariants as commands
+use Rattle.hd_terms.specs.declared.commands.LineFault.{LineFault}
 use Rattle.hd_terms.specs.declared.errors.Refusal.{Refusal}
 use Rattle.hd_terms.specs.Edges.{index_of}
 use Rattle.hd_terms.specs.Fell.{FellCount}
-use Rattle.hd_terms.specs.Lines.{Command, Slots, LineFault, command_of, is_quit, is_quit_command}
+use Rattle.hd_terms.specs.Lines.{command_of, is_quit, is_quit_command}
 use Rattle.hd_terms.specs.Asking.{asked}
 use Rattle.hd_terms.specs.Replies.{RepliesTo, RepliesSlots, RepliesDone, answered, event_line, refused, refusal_name, no_memory, takes_memory}
 use Rattle.hd_terms.specs.Sessions.{IsTurn, event_by, with_event}
@@ -19,17 +22,15 @@ use Rattle.hd_protocol.specs.declared.serving.ServeFault.{ServeFault}
 use Rattle.hd_protocol.specs.declared.serving.ServeFault.TheVariants as serve_faults
 use Rattle.hd_protocol.specs.declared.serving.Flow.{Flow}
 use Rattle.hd_protocol.specs.declared.serving.Flow.TheVariants as flows
-use Rattle.hd_protocol.specs.declared.command.Command.{Command as Command'}
-use Rattle.hd_protocol.specs.Commands.{command_seen}
-use Rattle.hd_protocol.specs.Serving.{turn_alone, EndsLine, RunsLine}
+use Rattle.hd_protocol.specs.Serving.{remembered, turn_alone, EndsLine, RunsLine}
 use Rattle.hd_protocol.specs.Editing.{Adds, LogRefuses, IsWhyNot, EditEnds, edit_reply}
 use Rattle.hd_protocol.specs.Answering.{IsAnswered}
 
 -- nothing is asked of the log
-pub asks_nothing : (state : Situation) (reading : Result Command LineFault) (reply : List ℕ) → RepliesTo state.dump state.log reading reply → IsAnswered state state reading reply
+pub asks_nothing : (state : Situation) (reading : Result Command LineFault) (reply : List ℕ) → RepliesTo state.dump (remembered state.log) reading reply → IsAnswered state state reading reply
 asks_nothing state reading reply h = record {
   same_dump = refl;
-  is_turn = λ line spells. sessions.answered (subst (λ (r : Result Command LineFault). RepliesTo state.dump state.log r reply) (sym spells) h) refl refl;
+  is_turn = λ line spells. sessions.answered (subst (λ (r : Result Command LineFault). RepliesTo state.dump (remembered state.log) r reply) (sym spells) h) refl refl;
 }
 
 -- there is no memory
@@ -40,52 +41,52 @@ wants_memory state reading reply takes is = record {
 }
 
 -- what is known of one command, state and reply holds of those that are the same
-pub answered_as : (old new new' : Situation) (command command' : Command') (reply reply' : List ℕ) → command ≡ command' → new ≡ new' → reply ≡ reply'
-    → IsAnswered old new' (Ok (command_seen command')) reply' → IsAnswered old new (Ok (command_seen command)) reply
+pub answered_as : (old new new' : Situation) (command command' : Command) (reply reply' : List ℕ) → command ≡ command' → new ≡ new' → reply ≡ reply'
+    → IsAnswered old new' (Ok command') reply' → IsAnswered old new (Ok command) reply
 answered_as old new new' command command' reply reply' same_command same_state same_reply h =
     rw (same_command, same_state, same_reply) h
 
 -- `slots` is answered by a refusal, or by a text
-pub slots_short : (state : Situation) (id : ℕ) (reply : List ℕ) → (reply ≡ no_memory) ⊎ RepliesSlots state.dump state.log (index_of state.dump.objects id) reply → IsAnswered state state (Ok (Slots id)) reply
-slots_short state id reply (inl memory) = wants_memory state (Ok (Slots id)) reply refl memory
-slots_short state id reply (inr is) = asks_nothing state (Ok (Slots id)) reply is
+pub slots_short : (state : Situation) (id : ℕ) (reply : List ℕ) → (reply ≡ no_memory) ⊎ RepliesSlots state.dump state.log (index_of state.dump.objects id) reply → IsAnswered state state (Ok (commands.Slots id)) reply
+slots_short state id reply (inl memory) = wants_memory state (Ok (commands.Slots id)) reply refl memory
+slots_short state id reply (inr is) = asks_nothing state (Ok (commands.Slots id)) reply is
 
-pub slots_long : (state : Situation) (id : ℕ) (reply : List ℕ) → RepliesSlots state.dump state.log (index_of state.dump.objects id) reply → IsAnswered state state (Ok (Slots id)) reply
-slots_long state id reply is = asks_nothing state (Ok (Slots id)) reply is
+pub slots_long : (state : Situation) (id : ℕ) (reply : List ℕ) → RepliesSlots state.dump state.log (index_of state.dump.objects id) reply → IsAnswered state state (Ok (commands.Slots id)) reply
+slots_long state id reply is = asks_nothing state (Ok (commands.Slots id)) reply is
 
 -- an edit or an undo
 module _ (old new : Situation) (c : Command) (want : Result What Refusal) (asks : asked old.dump old.log 0 c ≡ Some want) (takes : takes_memory (Ok c) ≡ true) where
   -- its event is added
   adds : (done : Done) → Adds old new want done → IsAnswered old new (Ok c) (edit_reply (Ok done))
-  adds done a =
-      let after : new.log ≡ with_event old.log (event_by 0 a.what) = ap (λ (s : Situation). s.log) a.added in
-      record {
-        same_dump = ap (λ (s : Situation). s.dump) a.added;
-        is_turn = λ line spells. sessions.accepted c a.what spells (asks ∙ ap (λ (w : Result What Refusal). Some w) a.asked_for) a.taken
-            (record {
-              fell = done.fell;
-              back = done.back;
-              fell_is = subst (λ (log : List Event). FellCount old.dump old.log log done.fell) (sym after) a.counts.fell;
-              back_is = subst (λ (log : List Event). FellCount old.dump log old.log done.back) (sym after) a.counts.back;
-              reply_is = ap (λ (n : ℕ). answered (event_line n done.fell done.back ∷ [])) a.counts.event;
-            })
-            after;
-      }
+  adds done a = record {
+    same_dump = ap (λ (s : Situation). s.dump) a.added;
+    is_turn = λ line spells. sessions.accepted c a.what spells (asks ∙ ap (λ (w : Result What Refusal). Some w) a.asked_for) a.taken
+        (record {
+          fell = done.fell;
+          back = done.back;
+          fell_is = a.counts.fell;
+          back_is = a.counts.back;
+          reply_is = ap (λ (n : ℕ). answered (event_line n done.fell done.back ∷ [])) a.counts.event;
+        })
+        (ap (λ (s : Situation). remembered s.log) a.added);
+  }
 
   -- nothing changes
-  stays : (r : Refusal) → new ≡ old → IsWhyNot old.log want r → IsAnswered old new (Ok c) (refused (refusal_name r))
+  same_memory : new ≡ old → remembered new.log ≡ remembered old.log
+  same_memory same = ap (λ (s : Situation). remembered s.log) same
+
+  stays : (r : Refusal) → new ≡ old → IsWhyNot old want r → IsAnswered old new (Ok c) (refused (refusal_name r))
   stays r same (inl memory) = record {
     same_dump = ap (λ (s : Situation). s.dump) same;
-    is_turn = λ line spells. sessions.wanting (ap takes_memory spells ∙ takes) (ap (λ (q : Refusal). refused (refusal_name q)) memory) refl (ap (λ (s : Situation). s.log) same);
+    is_turn = λ line spells. sessions.wanting (ap takes_memory spells ∙ takes) (ap (λ (q : Refusal). refused (refusal_name q)) memory) refl (same_memory same);
   }
   stays r same (inr (inl before)) = record {
     same_dump = ap (λ (s : Situation). s.dump) same;
-    is_turn = λ line spells. sessions.declined c r spells (asks ∙ ap (λ (w : Result What Refusal). Some w) before) refl refl (ap (λ (s : Situation). s.log) same);
+    is_turn = λ line spells. sessions.declined c r spells (asks ∙ ap (λ (w : Result What Refusal). Some w) before) refl refl (same_memory same);
   }
   stays r same (inr (inr log)) = record {
     same_dump = ap (λ (s : Situation). s.dump) same;
-    is_turn = λ line spells. sessions.rejected c log.what log.fault spells (asks ∙ ap (λ (w : Result What Refusal). Some w) log.asked_for) log.refuses
-        (ap (λ (q : Refusal). refused (refusal_name q)) log.refusal) (ap (λ (s : Situation). s.log) same);
+    is_turn = λ line spells. sessions.rejected c log.what r spells (asks ∙ ap (λ (w : Result What Refusal). Some w) log.asked_for) log.refuses refl (same_memory same);
   }
 
   pub edit_answered : (ended : Result Done Refusal) → EditEnds old new want ended → IsAnswered old new (Ok c) (edit_reply ended)

@@ -4,7 +4,7 @@ pub mod Writing
 pub mod Lines
 pub mod Turns
 pub mod ServedLines
-pub mod Cutting
+pub mod Refusals
 pub mod RowTexts
 pub mod Answering
 pub mod Stating

@@ -7,25 +7,26 @@ use Rattle.std.proofs.lemmas.List.{take_more}
 use Rattle.hd_terms.specs.Dump.{Dump}
 use Rattle.hd_terms.specs.Lines.{whole_lines, lines_of, run_lines, is_quit, is_quit_command, command_of}
 use Rattle.hd_terms.specs.declared.Event.{Event}
+use Rattle.hd_terms.specs.Memory.{Memory}
 use Rattle.hd_terms.specs.Sessions.{IsTurn, IsServed, IsServedUntilRead, IsServedUntilWrite}
 use Rattle.hd_state.specs.Situation.{Situation}
 use Rattle.hd_protocol.specs.declared.serving.ServeFault.{ServeFault}
 use Rattle.hd_protocol.specs.declared.serving.ServeFault.TheVariants as faults
 use Rattle.hd_protocol.specs.declared.serving.Flow.{Flow}
 use Rattle.hd_protocol.specs.declared.serving.Flow.TheVariants as flows
-use Rattle.hd_protocol.specs.Serving.{open_line, kept_of, turn_alone, IsAnsweredSoFar, Midway, midway, IsOpen, Stands, RunsBytes, IsTurnOf, RunsLine, StandsAtEnd, RunsEnd, ServesAll, ServesUntilRead, ServesUntilWrite, Serves}
+use Rattle.hd_protocol.specs.Serving.{open_line, kept_of, remembered, turn_alone, IsAnsweredSoFar, Midway, midway, IsOpen, Stands, RunsBytes, IsTurnOf, RunsLine, StandsAtEnd, RunsEnd, ServesAll, ServesUntilRead, ServesUntilWrite, Serves}
 use Rattle.hd_protocol.proofs.Lines.{whole_lines-newline, open_line-newline, whole_lines-other, open_line-other, lines_of-none, lines_of-some, lines_of-newline, run_lines-all, run_lines-push, run_lines-quit, command_of-kept, kept_of-push, kept_of-none, kept_of-some}
 use Rattle.hd_protocol.proofs.Turns.{answered_none, answered_push, all_push}
 use Rattle.hd_protocol.proofs.Writing.{appends_nil, appends_both, appends_kept, consumes_nil, consumes_both, consumes_kept}
 
 -- lines that were answered, as the lines that are run of an input
 pub served : (dump : Dump) (input written : List ℕ) (log : List Event) (lines : List (List ℕ)) → run_lines (lines_of input) ≡ lines → IsAnsweredSoFar dump lines written log → IsServed dump input written
-served dump input written log lines are so_far = record { turns = so_far.turns; session = rw are so_far.session; written_is = so_far.written_is }
+served dump input written memory lines are so_far = record { turns = so_far.turns; session = rw are so_far.session; written_is = so_far.written_is }
 
 -- a front of what was answered
-fault : (dump : Dump) (seen rest written more : List ℕ) (log : List Event) (lines answered_lines : List (List ℕ)) → (lines ≡ whole_lines seen) ⊎ ((rest ≡ []) × (lines ≡ lines_of seen))
-    → run_lines lines ≡ answered_lines → IsAnsweredSoFar dump answered_lines (written ++ more) log → IsServedUntilWrite dump (seen ++ rest) written
-fault dump seen rest written more log lines answered_lines read are so_far = record {
+fault : (dump : Dump) (seen rest written more : List ℕ) (memory : Memory) (lines answered_lines : List (List ℕ)) → (lines ≡ whole_lines seen) ⊎ ((rest ≡ []) × (lines ≡ lines_of seen))
+    → run_lines lines ≡ answered_lines → IsAnsweredSoFar dump answered_lines (written ++ more) memory → IsServedUntilWrite dump (seen ++ rest) written
+fault dump seen rest written more memory lines answered_lines read are so_far = record {
   seen = seen;
   rest = rest;
   front = refl;
@@ -50,10 +51,10 @@ module _ (dump : Dump) (seen : List ℕ) (m : Midway) (written : List ℕ) (o : 
   quit_of_open = ap is_quit_command same_command
 
   -- the open line is answered
-  answered_open : (after : List Event) (reply : List ℕ) → IsTurnOf m.state.dump m.kept m.state.log after reply → IsAnsweredSoFar dump (whole_lines seen ++ open_line seen ∷ []) (written ++ reply) after
+  answered_open : (after : List Event) (reply : List ℕ) → IsTurnOf m.state.dump m.kept m.state.log after reply → IsAnsweredSoFar dump (whole_lines seen ++ open_line seen ∷ []) (written ++ reply) (remembered after)
   answered_open after reply h =
-      answered_push dump (whole_lines seen) written m.state.log after (open_line seen) reply o.so_far
-      (subst (λ (d : Dump). IsTurn d 0 (turn_alone (open_line seen) m.state.log after reply)) o.same_dump (h (open_line seen) same_command))
+      answered_push dump (whole_lines seen) written (remembered m.state.log) (remembered after) (open_line seen) reply o.so_far
+      (subst (λ (d : Dump). IsTurn d 0 (turn_alone (open_line seen) (remembered m.state.log) (remembered after) reply)) o.same_dump (h (open_line seen) same_command))
 
   -- a byte that is no newline
   pub after_other : (b : ℕ) → (b ≡ 10 → ⊥) → IsOpen dump (seen ++ b ∷ []) (midway m.state (kept_of (m.kept ++ b ∷ []))) written
@@ -82,7 +83,7 @@ module _ (dump : Dump) (seen : List ℕ) (m : Midway) (written : List ℕ) (o : 
   -- a newline after `quit`
   after_quit : (after : List Event) (reply : List ℕ) → IsTurnOf m.state.dump m.kept m.state.log after reply → is_quit m.kept ≡ true → (rest : List ℕ) → IsServed dump ((seen ++ 10 ∷ []) ++ rest) (written ++ reply)
   after_quit after reply h quits rest =
-      served dump ((seen ++ 10 ∷ []) ++ rest) (written ++ reply) after (whole_lines seen ++ open_line seen ∷ [])
+      served dump ((seen ++ 10 ∷ []) ++ rest) (written ++ reply) (remembered after) (whole_lines seen ++ open_line seen ∷ [])
       (ap (λ l. run_lines (lines_of l)) (append_assoc seen (10 ∷ []) rest)
       ∙ ap run_lines (lines_of-newline seen rest)
       ∙ run_lines-quit (whole_lines seen) (open_line seen) (lines_of rest) o.none_quits (quit_of_open ∙ quits))
@@ -90,13 +91,13 @@ module _ (dump : Dump) (seen : List ℕ) (m : Midway) (written : List ℕ) (o : 
 
   -- a fault while the reply to the open line was written
   answered_front : (after : List Event) (reply : List ℕ) (k : ℕ) → IsTurnOf m.state.dump m.kept m.state.log after reply
-      → IsAnsweredSoFar dump (whole_lines seen ++ open_line seen ∷ []) ((written ++ take k reply) ++ drop k reply) after
+      → IsAnsweredSoFar dump (whole_lines seen ++ open_line seen ∷ []) ((written ++ take k reply) ++ drop k reply) (remembered after)
   answered_front after reply k h =
       rw (append_assoc written (take k reply) (drop k reply), take-append-drop k reply) (answered_open after reply h)
 
   after_fault : (after : List Event) (reply : List ℕ) (k : ℕ) → IsTurnOf m.state.dump m.kept m.state.log after reply → (rest : List ℕ) → IsServedUntilWrite dump ((seen ++ 10 ∷ []) ++ rest) (written ++ take k reply)
   after_fault after reply k h rest =
-      fault dump (seen ++ 10 ∷ []) rest (written ++ take k reply) (drop k reply) after (whole_lines seen ++ open_line seen ∷ []) (whole_lines seen ++ open_line seen ∷ [])
+      fault dump (seen ++ 10 ∷ []) rest (written ++ take k reply) (drop k reply) (remembered after) (whole_lines seen ++ open_line seen ∷ []) (whole_lines seen ++ open_line seen ∷ [])
       (inl (sym (whole_lines-newline seen))) (run_lines-push (whole_lines seen) (open_line seen) o.none_quits) (answered_front after reply k h)
 
   -- a newline, when the line was run
@@ -116,7 +117,7 @@ module _ (dump : Dump) (seen : List ℕ) (m : Midway) (written : List ℕ) (o : 
   pub end_none : length m.kept ≡ 0 → IsServed dump seen written
   end_none none =
       let open_none_too : length (open_line seen) ≡ 0 = kept_of-none (open_line seen) (ap length (sym o.kept_is) ∙ none) in
-      served dump seen written m.state.log (whole_lines seen) (ap run_lines (lines_of-none seen open_none_too) ∙ run_lines-all (whole_lines seen) o.none_quits) o.so_far
+      served dump seen written (remembered m.state.log) (whole_lines seen) (ap run_lines (lines_of-none seen open_none_too) ∙ run_lines-all (whole_lines seen) o.none_quits) o.so_far
 
   -- the end of the input, with a last line
   last : 0 < length m.kept → lines_of seen ≡ whole_lines seen ++ open_line seen ∷ []
@@ -124,13 +125,13 @@ module _ (dump : Dump) (seen : List ℕ) (m : Midway) (written : List ℕ) (o : 
 
   end_served : 0 < length m.kept → (after : List Event) (reply : List ℕ) → IsTurnOf m.state.dump m.kept m.state.log after reply → IsServed dump seen (written ++ reply)
   end_served some after reply h =
-      served dump seen (written ++ reply) after (whole_lines seen ++ open_line seen ∷ [])
+      served dump seen (written ++ reply) (remembered after) (whole_lines seen ++ open_line seen ∷ [])
       (ap run_lines (last some) ∙ run_lines-push (whole_lines seen) (open_line seen) o.none_quits) (answered_open after reply h)
 
   end_fault : 0 < length m.kept → (after : List Event) (reply : List ℕ) (k : ℕ) → IsTurnOf m.state.dump m.kept m.state.log after reply → IsServedUntilWrite dump seen (written ++ take k reply)
   end_fault some after reply k h =
       subst (λ l. IsServedUntilWrite dump l (written ++ take k reply)) (append-nil seen)
-      (fault dump seen [] (written ++ take k reply) (drop k reply) after (whole_lines seen ++ open_line seen ∷ []) (whole_lines seen ++ open_line seen ∷ [])
+      (fault dump seen [] (written ++ take k reply) (drop k reply) (remembered after) (whole_lines seen ++ open_line seen ∷ []) (whole_lines seen ++ open_line seen ∷ [])
       (inr (refl, sym (last some))) (run_lines-push (whole_lines seen) (open_line seen) o.none_quits) (answered_front after reply k h))
 
   end_ok : 0 < length m.kept → (new : Situation) (before after : Option (List ℕ)) (flow : Flow) → RunsLine m.state new m.kept before after (Ok flow) → (more : List ℕ) × Appends before after more × IsServed dump seen (written ++ more)
@@ -145,7 +146,7 @@ module _ (dump : Dump) (seen : List ℕ) (m : Midway) (written : List ℕ) (o : 
   -- a fault between lines
   pub flush_fault : (rest : List ℕ) → IsServedUntilWrite dump (seen ++ rest) written
   flush_fault rest =
-      fault dump seen rest written [] m.state.log (whole_lines seen) (whole_lines seen) (inl refl) (run_lines-all (whole_lines seen) o.none_quits) (rw (append-nil written) o.so_far)
+      fault dump seen rest written [] (remembered m.state.log) (whole_lines seen) (whole_lines seen) (inl refl) (run_lines-all (whole_lines seen) o.none_quits) (rw (append-nil written) o.so_far)
 
   -- the reader failed
   pub read_fault : (rest : List ℕ) → IsServedUntilRead dump (seen ++ rest) rest written

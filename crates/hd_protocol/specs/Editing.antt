@@ -1,13 +1,11 @@
 -- How an edit or an undo of the only analyst ends.
 -- Source: this project.
-use Rattle.std.specs.Prelude.{◌≡◌, ◌⊎◌, ℕ, List, [], ◌∷◌, None, Some, Result, Ok, Err}
-use Rattle.hd_terms.specs.declared.Event.{Event}
+use Rattle.std.specs.Prelude.{◌≡◌, ◌⊎◌, ℕ, List, [], ◌∷◌, length, None, Some, Result, Ok, Err}
 use Rattle.hd_terms.specs.declared.What.{What}
-use Rattle.hd_terms.specs.declared.errors.LogFault.{LogFault}
 use Rattle.hd_terms.specs.declared.errors.LogFault.TheVariants as faults
 use Rattle.hd_terms.specs.declared.errors.Refusal.{Refusal}
 use Rattle.hd_terms.specs.declared.errors.Refusal.TheVariants as refusals
-use Rattle.hd_terms.specs.Log.{log_fault}
+use Rattle.hd_terms.specs.Appending.{append_refusal}
 use Rattle.hd_terms.specs.Replies.{answered, refused, event_line, refusal_name}
 use Rattle.hd_terms.specs.Sessions.{event_by, with_event}
 use Rattle.hd_state.specs.declared.state.Done.{Done}
@@ -18,26 +16,24 @@ use Rattle.hd_state.specs.Done.{IsDone}
 pub record Adds (old new : Situation) (want : Result What Refusal) (done : Done) : Type 0 where
   pub what : What
   pub asked_for : want ≡ Ok what
-  pub taken : log_fault old.log (event_by 0 what) ≡ None
+  pub taken : append_refusal (length old.dump.roots) old.log (event_by 0 what) ≡ None
   pub added : new ≡ record { dump = old.dump; log = with_event old.log (event_by 0 what) }
   pub counts : IsDone old.dump old.log (with_event old.log (event_by 0 what)) done
 
 -- the log doesn't take the event that is asked for
-pub record LogRefuses (log : List Event) (want : Result What Refusal) (r : Refusal) : Type 0 where
+pub record LogRefuses (old : Situation) (want : Result What Refusal) (r : Refusal) : Type 0 where
   pub what : What
-  pub fault : LogFault
   pub asked_for : want ≡ Ok what
-  pub refuses : log_fault log (event_by 0 what) ≡ Some fault
-  pub refusal : r ≡ refusals.Log fault
+  pub refuses : append_refusal (length old.dump.roots) old.log (event_by 0 what) ≡ Some r
 
 -- why nothing was added: memory ran out, or it was refused before the log was asked, or by the log
-abbrev pub IsWhyNot : List Event → Result What Refusal → Refusal → Type 0
-IsWhyNot log want r = (r ≡ refusals.Log faults.OutOfMemory) ⊎ ((want ≡ Err r) ⊎ LogRefuses log want r)
+abbrev pub IsWhyNot : Situation → Result What Refusal → Refusal → Type 0
+IsWhyNot old want r = (r ≡ refusals.Log faults.OutOfMemory) ⊎ ((want ≡ Err r) ⊎ LogRefuses old want r)
 
 -- how an edit or an undo ends that asks for this: its event is added, or nothing changes
 abbrev pub EditEnds : (old new : Situation) → Result What Refusal → Result Done Refusal → Type 0
 EditEnds old new want (Ok done) = Adds old new want done
-EditEnds old new want (Err r) = (new ≡ old) × IsWhyNot old.log want r
+EditEnds old new want (Err r) = (new ≡ old) × IsWhyNot old want r
 
 -- its reply
 abbrev pub edit_reply : Result Done Refusal → List ℕ

@@ -1,4 +1,4 @@
-pub mod Commands
+pub mod Words
 pub mod Replying
 pub mod Editing
 pub mod Answering

@@ -7,6 +7,7 @@ use Rattle.hd_terms.specs.declared.Event.{Event}
 use Rattle.hd_terms.specs.Dump.{Dump}
 use Rattle.hd_terms.specs.Lines.{command_of, pieces, whole_lines, is_quit}
 use Rattle.hd_terms.specs.Log.{IsLawful}
+use Rattle.hd_terms.specs.Memory.{Memory, beginning, at_log}
 use Rattle.hd_terms.specs.Sessions.{Turn, IsTurn, IsSessionAlone, replies, IsServed, IsServedUntilRead, IsServedUntilWrite}
 use Rattle.hd_state.specs.Situation.{Situation}
 use Rattle.hd_protocol.specs.declared.serving.ServeFault.{ServeFault}
@@ -28,22 +29,26 @@ open_line seen = last_piece (pieces seen)
 abbrev pub kept_of : List ℕ → List ℕ
 kept_of line = take 4097 line
 
--- the turn of an analyst alone: from one log to the next
-abbrev pub turn_alone : (line : List ℕ) → (log after : List Event) → (reply : List ℕ) → Turn
-turn_alone line log after reply = record { line = line; log = log; found = log; after = after; reply = reply }
+-- what a session remembers that has a log, and neither marks of its own nor a private part
+abbrev pub remembered : List Event → Memory
+remembered log = at_log (beginning []) log
 
--- the log after turns
-abbrev pub log_after : List Event → List Turn → List Event
-log_after log [] = log
-log_after log (t ∷ ts) = log_after t.after ts
+-- the turn of an analyst alone: what is remembered before it and after it
+abbrev pub turn_alone : (line : List ℕ) → (before after : Memory) → (reply : List ℕ) → Turn
+turn_alone line before after reply = record { line = line; before = before; found = before.log; after = after; reply = reply }
 
--- these lines were answered so by an analyst alone, and this is the log then
-pub record IsAnsweredSoFar (dump : Dump) (lines : List (List ℕ)) (written : List ℕ) (log : List Event) : Type 0 where
+-- what is remembered after turns
+abbrev pub memory_after : Memory → List Turn → Memory
+memory_after memory [] = memory
+memory_after memory (t ∷ ts) = memory_after t.after ts
+
+-- these lines were answered so by an analyst alone, and this is remembered then
+pub record IsAnsweredSoFar (dump : Dump) (lines : List (List ℕ)) (written : List ℕ) (memory : Memory) : Type 0 where
   pub turns : List Turn
   pub session : IsSessionAlone dump lines turns
   pub written_is : written ≡ replies turns
-  pub log_is : log ≡ log_after [] turns
-  pub lawful : IsLawful log
+  pub memory_is : memory ≡ memory_after (beginning []) turns
+  pub lawful : IsLawful memory.log
 
 -- the lines that don't end a session
 abbrev pub NoneQuits : List (List ℕ) → Type 0
@@ -60,7 +65,7 @@ midway state kept = record { state = state; kept = kept }
 -- the whole lines of what was read are answered, none of them is `quit`, and the open line is kept
 pub record IsOpen (dump : Dump) (seen : List ℕ) (m : Midway) (written : List ℕ) : Type 0 where
   pub same_dump : m.state.dump ≡ dump
-  pub so_far : IsAnsweredSoFar dump (whole_lines seen) written m.state.log
+  pub so_far : IsAnsweredSoFar dump (whole_lines seen) written (remembered m.state.log)
   pub none_quits : NoneQuits (whole_lines seen)
   pub kept_is : m.kept ≡ kept_of (open_line seen)
 
@@ -87,7 +92,7 @@ EndsLine line reply before after (Err faults.OutOfMemory) = ⊥
 
 -- a line that spells the same as this one has this reply, from one log to another
 abbrev pub IsTurnOf : Dump → (line : List ℕ) → (log after : List Event) → (reply : List ℕ) → Type 0
-IsTurnOf dump line log after reply = (spelled : List ℕ) → command_of spelled ≡ command_of line → IsTurn dump 0 (turn_alone spelled log after reply)
+IsTurnOf dump line log after reply = (spelled : List ℕ) → command_of spelled ≡ command_of line → IsTurn dump 0 (turn_alone spelled (remembered log) (remembered after) reply)
 
 -- a line is run
 pub record RunsLine (old new : Situation) (line : List ℕ) (before after : Option (List ℕ)) (result : Result Flow ServeFault) : Type 0 where

@@ -3,42 +3,16 @@ ghost use Rattle.std.specs.Prelude.{◌≡◌, ◌≢◌, ℕ, ◌<◌, ◌≤�
 ghost use Rattle.std.specs.Io.BufRead.{strip_last};
 ghost use Rattle.std.specs.Option.{option_and_then, option_copied};
 ghost use Rattle.hd_terms.specs.Lines.{command_of, strength_command, slots_command, cut_command, undo_command, quit_command, only_word, id_of_word, number_of_word, slot_of_word, numbered_slot, hex_digit, digit_in, number_in};
-ghost use Rattle.hd_protocol.specs.Commands.{reading_seen, words_between};
+ghost use Rattle.hd_protocol.specs.Words.{words_between};
 
-use hd_terms::Slot;
-
-/// What a line asks for.
-#[derive(Clone, Copy, Debug, PartialEq, Eq)]
-pub enum Command {
-    /// The strength of the object of an ID.
-    Strength(u64),
-    /// The slots of the object of an ID.
-    Slots(u64),
-    /// The reference in a slot of the object of an ID is taken away.
-    Cut(u64, Slot),
-    /// The event of a number is taken back; without a number the last of the analyst's own edits that is live.
-    Undo(Option<u32>),
-    /// The end of the session.
-    Quit,
-}
-
-/// Why a line asks for nothing.
-#[derive(Clone, Copy, Debug, PartialEq, Eq)]
-pub enum LineFault {
-    /// It has more bytes than the longest line.
-    LineTooLong,
-    /// Its first word is no command, or it has no word.
-    UnknownCommand,
-    /// The words after the first are not what the command takes.
-    BadArgument,
-}
+use hd_terms::{Command, Edit, LineFault, Slot};
 
 /// The most bytes of a line before its newline.
 pub const LONGEST_LINE: usize = 4096;
 
 /// The command that a line spells, or the first of its faults.
 pub fn read_command(line: &[u8]) -> Result<Command, LineFault>
-    ensures { reading_seen result ≡ command_of line.now }
+    ensures { result ≡ command_of line.now }
 {
     if line.len() > LONGEST_LINE {
         return Err(LineFault::LineTooLong);
@@ -63,7 +37,7 @@ pub fn read_command(line: &[u8]) -> Result<Command, LineFault>
 
 /// What follows `strength` is one ID.
 fn read_strength(rest: &[u8]) -> Result<Command, LineFault>
-    ensures { reading_seen result ≡ strength_command (words_between rest.now) }
+    ensures { result ≡ strength_command (words_between rest.now) }
 {
     match read_only_id(rest) {
         Some(id) => Ok(Command::Strength(id)),
@@ -73,7 +47,7 @@ fn read_strength(rest: &[u8]) -> Result<Command, LineFault>
 
 /// What follows `slots` is one ID.
 fn read_slots(rest: &[u8]) -> Result<Command, LineFault>
-    ensures { reading_seen result ≡ slots_command (words_between rest.now) }
+    ensures { result ≡ slots_command (words_between rest.now) }
 {
     match read_only_id(rest) {
         Some(id) => Ok(Command::Slots(id)),
@@ -83,20 +57,20 @@ fn read_slots(rest: &[u8]) -> Result<Command, LineFault>
 
 /// What follows `cut` is an ID and a slot.
 fn read_cut(rest: &[u8]) -> Result<Command, LineFault>
-    ensures { reading_seen result ≡ cut_command (words_between rest.now) }
+    ensures { result ≡ cut_command (words_between rest.now) }
 {
     let Some((word, more)) = split_word(rest) else {
         return Err(LineFault::BadArgument);
     };
     match (read_id(word), read_only_slot(more)) {
-        (Some(id), Some(slot)) => Ok(Command::Cut(id, slot)),
+        (Some(id), Some(slot)) => Ok(Command::Edit(Edit::Cut(id, slot))),
         _ => Err(LineFault::BadArgument),
     }
 }
 
 /// What follows `undo` is nothing, or the number of an event.
 fn read_undo(rest: &[u8]) -> Result<Command, LineFault>
-    ensures { reading_seen result ≡ undo_command (words_between rest.now) }
+    ensures { result ≡ undo_command (words_between rest.now) }
 {
     if split_word(rest).is_none() {
         return Ok(Command::Undo(None));
@@ -109,7 +83,7 @@ fn read_undo(rest: &[u8]) -> Result<Command, LineFault>
 
 /// What follows `quit` is nothing.
 fn read_quit(rest: &[u8]) -> Result<Command, LineFault>
-    ensures { reading_seen result ≡ quit_command (words_between rest.now) }
+    ensures { result ≡ quit_command (words_between rest.now) }
 {
     match split_word(rest) {
         Some(_) => Err(LineFault::BadArgument),

@@ -11,7 +11,7 @@ mod serving;
 mod slots;
 mod stat;
 
-pub use command::{Command, LONGEST_LINE, LineFault, read_command};
+pub use command::{LONGEST_LINE, read_command};
 pub use run::{RunFault, open_bytes, run_bytes};
 pub use sample::SAMPLE;
 pub use serving::{ServeFault, serve};

@@ -2,17 +2,15 @@
 ghost use Rattle.std.specs.Prelude.{◌≡◌, ◌⊎◌, ◌+◌, ◌<◌, ◌≤◌, [], ◌∷◌, ◌++◌, length, decimal, string_bytes, Ok, MatchOption};
 ghost use Rattle.hd_terms.specs.Replies.{RepliesStrength, RepliesSlots, with_newline, answered, refused, event_line, strength_name, refusal_name, line_fault_name, no_memory};
 ghost use Rattle.hd_terms.specs.Edges.{index_of};
-ghost use Rattle.hd_protocol.specs.Commands.{command_seen, reading_seen, fault_seen};
 ghost use Rattle.hd_protocol.specs.Replying.{answered_head};
 ghost use Rattle.hd_protocol.specs.Editing.{edit_reply};
 ghost use Rattle.hd_protocol.specs.Answering.{IsAnswered};
 
-use crate::command::{Command, LineFault};
-use crate::edit::{cut, undo};
+use crate::edit::{apply_edit, undo};
 use crate::fixed_buffer::FixedBuffer;
 use crate::slots::slots_text;
 use hd_state::{Done, State};
-use hd_terms::{LogFault, Refusal, Strength};
+use hd_terms::{Command, LineFault, LogFault, Refusal, Strength};
 use itoa::Buffer;
 use std::alloc::Global;
 
@@ -26,8 +24,8 @@ pub fn answer(
     reading: Result<Command, LineFault>,
     out: &mut FixedBuffer<LONGEST_REPLY>,
 ) -> Option<String>
-    ensures { MatchOption result (IsAnswered state.old state.new (reading_seen reading) out.new)
-        (λ text. IsAnswered state.old state.new (reading_seen reading) (string_bytes text)) }
+    ensures { MatchOption result (IsAnswered state.old state.new reading out.new)
+        (λ text. IsAnswered state.old state.new reading (string_bytes text)) }
 {
     match reading {
         Ok(command) => answer_command(alloc, state, command, out),
@@ -45,13 +43,13 @@ fn answer_command(
     command: Command,
     out: &mut FixedBuffer<LONGEST_REPLY>,
 ) -> Option<String>
-    ensures { MatchOption result (IsAnswered state.old state.new (Ok (command_seen command)) out.new)
-        (λ text. IsAnswered state.old state.new (Ok (command_seen command)) (string_bytes text)) }
+    ensures { MatchOption result (IsAnswered state.old state.new (Ok command) out.new)
+        (λ text. IsAnswered state.old state.new (Ok command) (string_bytes text)) }
 {
     match command {
         Command::Strength(id) => put_strength(out, state, id),
         Command::Slots(id) => return answer_slots(alloc, state, id, out),
-        Command::Cut(id, slot) => put_edit(out, cut(alloc, state, id, slot)),
+        Command::Edit(edit) => put_edit(out, apply_edit(alloc, state, edit)),
         Command::Undo(number) => put_edit(out, undo(alloc, state, number)),
         Command::Quit => put_head(out, 0),
     }
@@ -188,8 +186,10 @@ fn refusal_text(refusal: Refusal) -> &'static [u8]
         Refusal::NoSuchObject => b"NoSuchObject",
         Refusal::NoSuchSlot => b"NoSuchSlot",
         Refusal::NotCuttable => b"NotCuttable",
+        Refusal::NotReference => b"NotReference",
         Refusal::EmptySlot => b"EmptySlot",
         Refusal::NothingToUndo => b"NothingToUndo",
+        Refusal::NoSuchRoot => b"NoSuchRoot",
         Refusal::Log(LogFault::NoSuchEvent) => b"NoSuchEvent",
         Refusal::Log(LogFault::NotYours) => b"NotYours",
         Refusal::Log(LogFault::NotLive) => b"NotLive",
@@ -200,7 +200,7 @@ fn refusal_text(refusal: Refusal) -> &'static [u8]
 
 /// A line's fault as it is printed.
 fn fault_name(fault: LineFault) -> &'static [u8]
-    ensures name { result.now ≡ line_fault_name (fault_seen fault) }
+    ensures name { result.now ≡ line_fault_name fault }
     ensures short { length result.now ≤ 16 }
 {
     match fault {

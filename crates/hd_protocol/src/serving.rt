@@ -2,13 +2,13 @@
 ghost use Rattle.std.specs.Prelude.{◌≡◌, ℕ, ◌≤◌, [], ◌∷◌, ◌++◌, length, take, Ok, Err, IfOk, IfErr, OnOk, OnErr, OnSome, if◌then◌else◌};
 ghost use Rattle.std.specs.Io.KnownBytes.{Keeps, Appends, Consumes, IsAtEnd};
 ghost use Rattle.hd_terms.specs.Lines.{is_quit_command};
-ghost use Rattle.hd_protocol.specs.Commands.{reading_seen};
 ghost use Rattle.hd_protocol.specs.Serving.{kept_of, midway, RunsLine, RunsBytes, RunsEnd, Serves};
 
-use crate::command::{Command, LONGEST_LINE, LineFault, read_command};
+use crate::command::{LONGEST_LINE, read_command};
 use crate::fixed_buffer::FixedBuffer;
 use crate::reply::{LONGEST_REPLY, answer};
 use hd_state::State;
+use hd_terms::{Command, LineFault};
 use std::alloc::{AllocError, Global};
 use std::io::{BufRead, Write};
 use thiserror::Error;
@@ -130,7 +130,7 @@ fn run_line<W: Write>(writer: &mut W, service: &mut Service) -> Result<Flow, Ser
 
 /// Whether lines are read on after one that spells this.
 fn flow_after(reading: Result<Command, LineFault>) -> Flow
-    ensures { (if is_quit_command (reading_seen reading) then Flow.Quits else Flow.GoesOn) ≡ result }
+    ensures { (if is_quit_command reading then Flow.Quits else Flow.GoesOn) ≡ result }
 {
     match reading {
         Ok(Command::Quit) => Flow::Quits,

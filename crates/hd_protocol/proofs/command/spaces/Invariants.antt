@@ -1,5 +1,5 @@
 use Rattle.std.proofs.Common.{◌≡◌, drop}
-use Rattle.hd_protocol.specs.Commands.{words_between}
+use Rattle.hd_protocol.specs.Words.{words_between}
 use Rattle.hd_protocol.proofs.command.spaces.Given as goal
 
 -- what is left has the words
