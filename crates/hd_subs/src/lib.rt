@@ -15,6 +15,3 @@ pub use dump_subs::DumpSubs;
 pub use reading::{read_segment, read_segment_into};
 pub use sub::{Item, Sub};
 pub use subs::Subs;
-
-#[cfg(test)]
-mod tests;
