@@ -59,7 +59,7 @@ module _ (old new : Situation) (c : Command) (want : Result What Refusal) (asks 
   -- its event is added
   adds : (done : Done) → Adds old new want done → IsAnswered old new (Ok c) (edit_reply (Ok done))
   adds done a = record {
-    same_dump = ap (λ (s : Situation). s.dump) a.added;
+    same_dump = a.same_dump;
     is_turn = λ line spells. sessions.accepted c a.what spells (asks ∙ ap (λ (w : Result What Refusal). Some w) a.asked_for) a.taken
         (record {
           fell = done.fell;
@@ -68,7 +68,7 @@ module _ (old new : Situation) (c : Command) (want : Result What Refusal) (asks 
           back_is = a.counts.back;
           reply_is = ap (λ (n : ℕ). answered (event_line n done.fell done.back ∷ [])) a.counts.event;
         })
-        (ap (λ (s : Situation). remembered s.log) a.added);
+        (ap remembered a.added);
   }
 
   -- nothing changes

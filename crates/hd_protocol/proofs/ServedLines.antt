@@ -20,7 +20,7 @@ use Rattle.hd_protocol.proofs.Turns.{answered_none, answered_push, all_push}
 use Rattle.hd_protocol.proofs.Writing.{appends_nil, appends_both, appends_kept, consumes_nil, consumes_both, consumes_kept}
 
 -- lines that were answered, as the lines that are run of an input
-pub served : (dump : Dump) (input written : List ℕ) (log : List Event) (lines : List (List ℕ)) → run_lines (lines_of input) ≡ lines → IsAnsweredSoFar dump lines written log → IsServed dump input written
+pub served : (dump : Dump) (input written : List ℕ) (memory : Memory) (lines : List (List ℕ)) → run_lines (lines_of input) ≡ lines → IsAnsweredSoFar dump lines written memory → IsServed dump input written
 served dump input written memory lines are so_far = record { turns = so_far.turns; session = rw are so_far.session; written_is = so_far.written_is }
 
 -- a front of what was answered

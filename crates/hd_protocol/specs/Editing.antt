@@ -17,7 +17,8 @@ pub record Adds (old new : Situation) (want : Result What Refusal) (done : Done)
   pub what : What
   pub asked_for : want ≡ Ok what
   pub taken : append_refusal (length old.dump.roots) old.log (event_by 0 what) ≡ None
-  pub added : new ≡ record { dump = old.dump; log = with_event old.log (event_by 0 what) }
+  pub same_dump : new.dump ≡ old.dump
+  pub added : new.log ≡ with_event old.log (event_by 0 what)
   pub counts : IsDone old.dump old.log (with_event old.log (event_by 0 what)) done
 
 -- the log doesn't take the event that is asked for

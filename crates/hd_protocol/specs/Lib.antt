@@ -4,5 +4,4 @@ pub mod Editing
 pub mod Answering
 pub mod Serving
 pub mod Running
-pub mod Tasks
 pub mod Stating
