@@ -40,10 +40,10 @@ pub record HasAllKnown (s : Source) (rows : List (ℕ × declared_class.Resolved
   pub known : HasKnown (table_of s) (class_places s.list.now) rows
   pub no_cycle : filter_map (cycle_at (table_of s)) (class_places s.list.now) ≡ []
 
--- want of memory, or this class's fault
+-- out of memory, or this class's fault
 abbrev pub IsCycleOrMemory : ClassTable → ClassPlace → ReadFault → Type 0
 IsCycleOrMemory t x f = (f ≡ fault causes.OutOfMemory 0) ⊎ (cycle_at t x ≡ Some f)
 
--- want of memory, or the first class's fault
+-- out of memory, or the first class's fault
 abbrev pub IsFirstCycleOrMemory : Source → ReadFault → Type 0
 IsFirstCycleOrMemory s f = (f ≡ fault causes.OutOfMemory 0) ⊎ (slice_get (filter_map (cycle_at (table_of s)) (class_places s.list.now)) 0 ≡ Some f)

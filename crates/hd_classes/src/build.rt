@@ -85,7 +85,7 @@ impl Classes {
     ///
     /// # Errors
     ///
-    /// `ClassCycle` at the tag of the first class whose chain never ends, an offset into the file in bytes; or want of memory,
+    /// `ClassCycle` at the tag of the first class whose chain never ends, an offset into the file in bytes; or out of memory,
     /// at 0.
     pub fn build(
         alloc: Global,

@@ -41,6 +41,6 @@ pub record IsBodiesFault (size : IdSize) (bytes : List ℕ) (spans : List Span) 
   pub whole : AreBodies size bytes before segments
   pub faulty : IsSegmentFault size span.start (body_at bytes span) f
 
--- want of memory, or the fault of the first body that has one
+-- out of memory, or the fault of the first body that has one
 abbrev pub IsBodiesFaultOrMemory : IdSize → List ℕ → List Span → ReadFault → Type 0
 IsBodiesFaultOrMemory size bytes spans f = (f ≡ fault causes.OutOfMemory 0) ⊎ IsBodiesFault size bytes spans f

@@ -64,7 +64,7 @@ fn join_parts(alloc: Global, parts: Vec<Result<Subs, ReadFault>>) -> Result<Dump
 /// # Errors
 ///
 /// The fault of the first segment that has one, an offset into the file in bytes (`ShortSub`, `UnknownSub` or
-/// `UnknownType`); or want of memory, at 0.
+/// `UnknownType`); or out of memory, at 0.
 pub fn decode<R: Threads + Sync, G: Gate>(
     rt: &R,
     alloc: Global,

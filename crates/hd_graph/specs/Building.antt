@@ -11,7 +11,7 @@ use Rattle.hd_graph.specs.Shapes.{ObjectShape}
 use Rattle.hd_slots.specs.Table.{Table}
 use Rattle.hd_graph.specs.ArrayRows.{ObjectEntry, KnownBy, object_ids, entry_of_item, entries_of, item_weight, layout_shape}
 
--- want of memory, or the fault of the file
+-- out of memory, or the fault of the file
 abbrev pub IsReadFaultOrMemory : List ℕ → ReadFault → Type 0
 IsReadFaultOrMemory bytes f = (f ≡ fault causes.OutOfMemory 0) ⊎ IsReadFault bytes f
 

@@ -42,7 +42,7 @@ object_fault known size (id, s) = if id == 0 then fault_if true causes.NullObjec
 abbrev pub object_faults : KnownBy → IdSize → List Sub → List ReadFault
 object_faults known size list = filter_map (object_fault known size) (first_subs list)
 
--- want of memory, or the first fault of objects
+-- out of memory, or the first fault of objects
 abbrev pub IsObjectFaultOrMemory : KnownBy → IdSize → List Sub → ReadFault → Type 0
 IsObjectFaultOrMemory known size list f = (f ≡ fault causes.OutOfMemory 0) ⊎ (slice_get (object_faults known size list) 0 ≡ Some f)
 
@@ -68,17 +68,17 @@ pub record NotesObject (known : KnownBy) (size : IdSize) (item : Item) (id : ℕ
   pub fits : is_noted ids id ≡ false → is_size_mismatch known size item ≡ false
   pub opaque : tally'.opaque ≡ tally.opaque + (if not (is_noted ids id) && is_opaque known item then 1 else 0)
 
--- want of memory, or a fault of an object of an ID at a place: its ID is 0, or it is new and doesn't fit
+-- out of memory, or a fault of an object of an ID at a place: its ID is 0, or it is new and doesn't fit
 pub data IsObjectStop (known : KnownBy) (size : IdSize) (item : Item) (id offset : ℕ) (ids : List ℕ) : ReadFault → Type 0 where
   memory : IsObjectStop known size item id offset ids (fault causes.OutOfMemory 0)
   null : id ≡ 0 → IsObjectStop known size item id offset ids (fault causes.NullObject offset)
   size_mismatch : 0 < id → is_noted ids id ≡ false → is_size_mismatch known size item ≡ true → IsObjectStop known size item id offset ids (fault causes.InstanceSize offset)
 
--- want of memory, or the ID 0 at a place
+-- out of memory, or the ID 0 at a place
 abbrev pub IsNullIdOrMemory : ℕ → ℕ → ReadFault → Type 0
 IsNullIdOrMemory id offset f = (f ≡ fault causes.OutOfMemory 0) ⊎ ((id ≡ 0) × (f ≡ fault causes.NullObject offset))
 
--- want of memory, or a fault of a sub-record behind others that were numbered
+-- out of memory, or a fault of a sub-record behind others that were numbered
 abbrev pub StopsAt : KnownBy → IdSize → Sub → List ℕ → ReadFault → Type 0
 StopsAt known size s ids f = (f ≡ fault causes.OutOfMemory 0) ⊎ ((id : ℕ) × (object_id s ≡ Some id) × IsObjectStop known size s.item id s.offset ids f)
 

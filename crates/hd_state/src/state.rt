@@ -58,7 +58,7 @@ impl State {
     ///
     /// # Errors
     ///
-    /// Want of memory.
+    /// Memory ran out.
     pub fn open(alloc: Global, graph: Arc<Graph>) -> Result<State, NoMemory>
         ensures dump { IfOk result (λ s. s.dump ≡ arc_value graph) }
         ensures log { IfOk result (λ s. s.log ≡ []) }
@@ -76,7 +76,7 @@ impl State {
     ///
     /// # Errors
     ///
-    /// Want of memory.
+    /// Memory ran out.
     pub fn step(&self, alloc: Global, event: Event) -> Result<(State, Done), NoMemory>
         requires { log_fault self.now.log event ≡ None }
         ensures dump { IfOk result (λ r. r.0.dump ≡ self.now.dump) }
@@ -139,7 +139,7 @@ impl State {
     ///
     /// # Errors
     ///
-    /// Want of memory.
+    /// Memory ran out.
     pub fn slots(&self, alloc: Global, o: u32) -> Result<Vec<SlotRow>, NoMemory>
         requires { o < length self.now.dump.objects }
         ensures { IfOk result (λ v. v.items ≡ slot_rows self.now.dump self.now.log (object_at self.now.dump o)) }

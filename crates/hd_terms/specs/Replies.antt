@@ -146,7 +146,7 @@ pub record RepliesDone (dump : Dump) (before after : List Event) (reply : List �
   pub back_is : FellCount dump after before back
   pub reply_is : reply ≡ answered (event_line (length before) fell back ∷ [])
 
--- the reply to a command that wants more memory than there is
+-- the reply to a command for which there is not enough memory
 abbrev pub out_of_memory_reply : List ℕ
 out_of_memory_reply = refused (log_fault_name faults.OutOfMemory)
 
