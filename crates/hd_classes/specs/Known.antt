@@ -65,7 +65,7 @@ pub record AreClassesOf (t : ClassTable) (k : Known) : Type 0 where
   pub few : length k.classes ≤ length t.classes
   pub short : All (λ (p : ℕ × ResolvedClass). length p.1.layout < 2 ^ 29) k.classes
 
--- want of memory, or the first class whose chain never ends
+-- out of memory, or the first class whose chain never ends
 abbrev pub IsClassFaultOrMemory : ClassTable → List Sub → ReadFault → Type 0
 IsClassFaultOrMemory t list f = (f ≡ fault causes.OutOfMemory 0) ⊎ (slice_get (class_faults t list) 0 ≡ Some f)
 

@@ -45,7 +45,7 @@ fn push_fields(layout: &mut Vec<LayoutField>, class: &ClassDump) -> Result<(), A
 }
 
 impl Walk {
-    /// One class more, from which the chain goes on to its super class. Want of memory is also answered where the layout
+    /// One class more, from which the chain goes on to its super class. Out of memory is also answered where the layout
     /// would get too long.
     fn push(&mut self, class: &ClassDump) -> Result<(), ReadFault>
         requires { vec_len self.old.layout < 2 ^ 29 }

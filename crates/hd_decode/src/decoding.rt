@@ -1,8 +1,9 @@
-//! The sub-records of a dump.
+//! Decoding the segments of a dump on worker threads; the sub-records come in file order.
 ghost use Rattle.std.specs.Prelude.{◌≤◌, ◌<◌, ◌^◌, length, All, IfOk, IfErr, OnOk};
 ghost use Rattle.hd_records.specs.Reading.{ReadsRecords};
 ghost use Rattle.hd_subs.specs.Reading.{AppendsSegment, IsSegmentFaultOrMemory};
-ghost use Rattle.hd_decode.specs.Bodies.{ReadsBodies, IsSpanWithin, body_at, IsBodiesFaultOrMemory};
+ghost use Rattle.hd_terms.specs.Classes.{bytes_of_span};
+ghost use Rattle.hd_decode.specs.Bodies.{ReadsBodies, IsSpanWithin, IsBodiesFaultOrMemory};
 ghost use Rattle.hd_decode.specs.Shares.{IsPart, AreJoined, IsFirstFaultOrMemory, subs_in, share_at};
 
 use crate::gate::Gate;
@@ -17,8 +18,8 @@ use std::thread::Threads;
 /// Adds the sub-records of one segment, whose body is a span of the file.
 fn read_body(list: &mut Subs, bytes: &[u8], id_size: IdSize, span: Span) -> Result<(), ReadFault>
     requires { IsSpanWithin bytes.now span }
-    ensures ok { OnOk result (AppendsSegment id_size span.start (body_at bytes.now span) list.old list.new) }
-    ensures err { IfErr result (λ f. IsSegmentFaultOrMemory id_size span.start (body_at bytes.now span) f) }
+    ensures ok { OnOk result (AppendsSegment id_size span.start (bytes_of_span bytes.now span) list.old list.new) }
+    ensures err { IfErr result (λ f. IsSegmentFaultOrMemory id_size span.start (bytes_of_span bytes.now span) f) }
 {
     let start = span.start as usize;
     let body = &bytes[start..start + span.len as usize];
@@ -63,7 +64,7 @@ fn join_parts(alloc: Global, parts: Vec<Result<Subs, ReadFault>>) -> Result<Dump
 /// # Errors
 ///
 /// The fault of the first segment that has one, an offset into the file in bytes (`ShortSub`, `UnknownSub` or
-/// `UnknownType`); or want of memory, at 0.
+/// `UnknownType`); or out of memory, at 0.
 pub fn decode<R: Threads + Sync, G: Gate>(
     rt: &R,
     alloc: Global,

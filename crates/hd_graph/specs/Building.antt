@@ -1,4 +1,4 @@
--- What the passes over the sub-records come to.
+-- What filling the rows and shapes of objects, sub-record by sub-record, comes to.
 use Rattle.std.specs.Prelude.{◌≡◌, ◌⊎◌, ◌<◌, ◌≤◌, ◌+◌, ◌^◌, ◌≢◌, ℕ, List, length, slice_get, [], ◌∷◌, ◌++◌, map, Option, Some, None, All}
 use Rattle.hd_terms.specs.declared.IdSize.{IdSize}
 use Rattle.hd_terms.specs.declared.errors.Cause.TheVariants as causes
@@ -11,7 +11,7 @@ use Rattle.hd_graph.specs.Shapes.{ObjectShape}
 use Rattle.hd_slots.specs.Table.{Table}
 use Rattle.hd_graph.specs.ArrayRows.{ObjectEntry, KnownBy, object_ids, entry_of_item, entries_of, item_weight, layout_shape}
 
--- want of memory, or the fault of the file
+-- out of memory, or the fault of the file
 abbrev pub IsReadFaultOrMemory : List ℕ → ReadFault → Type 0
 IsReadFaultOrMemory bytes f = (f ≡ fault causes.OutOfMemory 0) ⊎ IsReadFault bytes f
 

@@ -19,6 +19,6 @@ pub record ReadsRecords (bytes : List ℕ) (size : IdSize) (strings : List Text)
   pub loads_are : classes ≡ loads size records
   pub spans : segments ≡ segment_spans header_len records
 
--- a fault of the header and the records, or want of memory
+-- a fault of the header and the records, or out of memory
 abbrev pub IsRecordsFaultOrMemory : List ℕ → ReadFault → Type 0
 IsRecordsFaultOrMemory bytes f = (f ≡ fault OutOfMemory 0) ⊎ IsRecordsFault bytes f
