@@ -24,7 +24,7 @@ use Rattle.hd_subs.specs.declared.sub.Item as declared_item
 use Rattle.hd_subs.specs.declared.sub.Sub as declared_sub
 use Rattle.hd_subs.specs.Views.{item_view, sub_view}
 use Rattle.hd_classes.specs.declared.first_class.FirstClass as declared_first
-use Rattle.hd_classes.specs.FirstClass.{ClassPlace, class_place, class_places, entry_of, place_view, HasFirstClasses, AreFirstClasses}
+use Rattle.hd_classes.specs.FirstClass.{PlacedClass, placed_class, placed_classes, entry_of, first_class_view, HasFirstClasses, AreFirstClasses}
 use Rattle.hd_classes.specs.Building.{cycle_at}
 use Rattle.hd_classes.specs.Firsts.{firsts_from}
 use Rattle.hd_classes.proofs.FirstLemmas.{is_known, if_new, first_of_each-firsts, first_of_each-append}
@@ -39,24 +39,24 @@ id_of p = p.0
 abbrev pub objects : List Sub → List Entry
 objects list = filter_map object_sub list
 
-abbrev pub place_of : Entry → Option ClassPlace
-place_of p = class_place p.1
+abbrev pub place_of : Entry → Option PlacedClass
+place_of p = placed_class p.1
 
 -- the classes of the definition
-case-classes : (s : Sub) (o : Option ClassItem) (R : List ClassItem) (S : List ClassPlace) → R ≡ map (λ (x : ClassPlace). x.class) S
-    → cons_option o R ≡ map (λ (x : ClassPlace). x.class) (cons_option (option_map (λ (c : ClassItem). record { class = c; offset = s.offset }) o) S)
+case-classes : (s : Sub) (o : Option ClassItem) (R : List ClassItem) (S : List PlacedClass) → R ≡ map (λ (x : PlacedClass). x.class) S
+    → cons_option o R ≡ map (λ (x : PlacedClass). x.class) (cons_option (option_map (λ (c : ClassItem). record { class = c; offset = s.offset }) o) S)
 case-classes s None R S e = e
 case-classes s (Some c) R S e = ap (λ (r : List ClassItem). c ∷ r) e
 
-classes-of : (ps : List Entry) → filter_map (λ (p : Entry). class_of_item p.1.item) ps ≡ map (λ (x : ClassPlace). x.class) (filter_map place_of ps)
+classes-of : (ps : List Entry) → filter_map (λ (p : Entry). class_of_item p.1.item) ps ≡ map (λ (x : PlacedClass). x.class) (filter_map place_of ps)
 classes-of [] = refl
 classes-of (p ∷ ps) = case-classes p.1 (class_of_item p.1.item) _ _ (classes-of ps)
 
-pub first_classes-places : (list : List Sub) → first_classes list ≡ map (λ (x : ClassPlace). x.class) (class_places list)
+pub first_classes-places : (list : List Sub) → first_classes list ≡ map (λ (x : PlacedClass). x.class) (placed_classes list)
 first_classes-places list = classes-of (first_subs list)
 
 -- the faults of the definition
-case-faults : (t : ClassTable) (s : Sub) (o : Option ClassItem) (R : List ReadFault) (ps : List ClassPlace) → R ≡ filter_map (cycle_at t) ps
+case-faults : (t : ClassTable) (s : Sub) (o : Option ClassItem) (R : List ReadFault) (ps : List PlacedClass) → R ≡ filter_map (cycle_at t) ps
     → cons_option (fault_if (option_map_or (λ (c : ClassItem). never_ends t.classes c.id) o false) causes.ClassCycle s) R
     ≡ filter_map (cycle_at t) (cons_option (option_map (λ (c : ClassItem). record { class = c; offset = s.offset }) o) ps)
 case-faults t s None R ps e = e
@@ -66,17 +66,17 @@ faults-of : (t : ClassTable) (ps : List Entry) → filter_map (class_fault t) ps
 faults-of t [] = refl
 faults-of t (p ∷ ps) = case-faults t p.1 (class_of_item p.1.item) _ _ (faults-of t ps)
 
-pub class_faults-places : (t : ClassTable) (list : List Sub) → class_faults t list ≡ filter_map (cycle_at t) (class_places list)
+pub class_faults-places : (t : ClassTable) (list : List Sub) → class_faults t list ≡ filter_map (cycle_at t) (placed_classes list)
 class_faults-places t list = faults-of t (first_subs list)
 
 -- one class by its ID
 module _ (id : ℕ) where
-  case-found : (b : Bool) (x : ClassPlace) (o : Option ClassPlace) (p : Option ClassItem) → option_map (λ (y : ClassPlace). y.class) o ≡ p
-      → option_map (λ (y : ClassPlace). y.class) (cond b (Some x) o) ≡ cond b (Some x.class) p
+  case-found : (b : Bool) (x : PlacedClass) (o : Option PlacedClass) (p : Option ClassItem) → option_map (λ (y : PlacedClass). y.class) o ≡ p
+      → option_map (λ (y : PlacedClass). y.class) (cond b (Some x) o) ≡ cond b (Some x.class) p
   case-found true x o p e = refl
   case-found false x o p e = e
 
-  found-place : (xs : List ClassPlace) → option_map (λ (x : ClassPlace). x.class) (lookup (λ (k : ℕ). eqb id k) (map entry_of xs)) ≡ find (λ (c : ClassItem). eqb id c.id) (map (λ (x : ClassPlace). x.class) xs)
+  found-place : (xs : List PlacedClass) → option_map (λ (x : PlacedClass). x.class) (lookup (λ (k : ℕ). eqb id k) (map entry_of xs)) ≡ find (λ (c : ClassItem). eqb id c.id) (map (λ (x : PlacedClass). x.class) xs)
   found-place [] = refl
   found-place (x ∷ xs) = case-found (eqb id x.class.id) x _ _ (found-place xs)
 
@@ -86,11 +86,11 @@ module _ (id : ℕ) where
 
   -- the class that is kept by an ID is the definition's
   pub class-found : (list : List Sub) (entries : List (ℕ × declared_first.FirstClass)) → HasFirstClasses list entries
-      → option_map (λ (s : declared_first.FirstClass). (place_view s).class) (lookup (λ (k : ℕ). eqb id k) entries) ≡ find (λ (c : ClassItem). eqb id c.id) (first_classes list)
+      → option_map (λ (s : declared_first.FirstClass). (first_class_view s).class) (lookup (λ (k : ℕ). eqb id k) entries) ≡ find (λ (c : ClassItem). eqb id c.id) (first_classes list)
   class-found list entries kept =
-      sym (case-map place_view (λ (x : ClassPlace). x.class) (lookup (λ (k : ℕ). eqb id k) entries))
-      ∙ ap (option_map (λ (x : ClassPlace). x.class)) (sym (lookup-map_values place_view (λ (k : ℕ). eqb id k) entries) ∙ ap (lookup (λ (k : ℕ). eqb id k)) kept)
-      ∙ found-place (class_places list)
+      sym (case-map first_class_view (λ (x : PlacedClass). x.class) (lookup (λ (k : ℕ). eqb id k) entries))
+      ∙ ap (option_map (λ (x : PlacedClass). x.class)) (sym (lookup-map_values first_class_view (λ (k : ℕ). eqb id k) entries) ∙ ap (lookup (λ (k : ℕ). eqb id k)) kept)
+      ∙ found-place (placed_classes list)
       ∙ ap (find (λ (c : ClassItem). eqb id c.id)) (sym (first_classes-places list))
 
 -- no class has an ID that no object has
@@ -121,10 +121,10 @@ objects-tied [] = tt
 objects-tied (s ∷ list) = case-tied s (id_of_item s.item) refl (objects list) (objects-tied list)
 
 module _ (id : ℕ) where
-  abbrev kept_by : List ClassPlace → Option ClassPlace
+  abbrev kept_by : List PlacedClass → Option PlacedClass
   kept_by xs = lookup (λ (k : ℕ). eqb id k) (map entry_of xs)
 
-  case-absent : (p : Entry) (o : Option ClassItem) → class_of_item p.1.item ≡ o → id_of_item p.1.item ≡ Some p.0 → eqb id p.0 ≡ false → (rest : List ClassPlace) → kept_by rest ≡ None
+  case-absent : (p : Entry) (o : Option ClassItem) → class_of_item p.1.item ≡ o → id_of_item p.1.item ≡ Some p.0 → eqb id p.0 ≡ false → (rest : List PlacedClass) → kept_by rest ≡ None
       → kept_by (cons_option (option_map (λ (c : ClassItem). record { class = c; offset = p.1.offset }) o) rest) ≡ None
   case-absent p None is tied other rest h = h
   case-absent p (Some c) is tied other rest h =
@@ -144,8 +144,8 @@ module _ (id : ℕ) where
   pub absent : (list : List Sub) (entries : List (ℕ × declared_first.FirstClass)) → HasFirstClasses list entries → list_any (λ (p : Entry). eqb id p.0) (objects list) ≡ false
       → lookup (λ (k : ℕ). eqb id k) entries ≡ None
   absent list entries kept none =
-      none-from_map place_view (lookup (λ (k : ℕ). eqb id k) entries)
-      (sym (lookup-map_values place_view (λ (k : ℕ). eqb id k) entries) ∙ ap (lookup (λ (k : ℕ). eqb id k)) kept
+      none-from_map first_class_view (lookup (λ (k : ℕ). eqb id k) entries)
+      (sym (lookup-map_values first_class_view (λ (k : ℕ). eqb id k) entries) ∙ ap (lookup (λ (k : ℕ). eqb id k)) kept
       ∙ ap (λ (ps : List Entry). kept_by (filter_map place_of ps)) (first_of_each-firsts id_of (objects list))
       ∙ absent-from [] (objects list) (objects-tied list) none)
 
@@ -203,23 +203,23 @@ module _ (front : List Sub) (s : Sub) (id : ℕ) (ids : List ℕ) (entries : Sta
       ∙ sym (list_any-append (λ (p : Entry). eqb q p.0) (objects front) ((id, s) ∷ []))
       ∙ ap (list_any (λ (p : Entry). eqb q p.0)) (sym more)
 
-  places-push : (known : Bool) → list_any (λ (k : ℕ). eqb id k) ids ≡ known → class_places (front ++ s ∷ []) ≡ class_places front ++ filter_map place_of (if_new id_of known (id, s))
+  places-push : (known : Bool) → list_any (λ (k : ℕ). eqb id k) ids ≡ known → placed_classes (front ++ s ∷ []) ≡ placed_classes front ++ filter_map place_of (if_new id_of known (id, s))
   places-push known e =
       ap (λ (ps : List Entry). filter_map place_of (first_of_each id_of ps)) more
       ∙ ap (filter_map place_of) (first_of_each-append id_of (objects front) ((id, s) ∷ []))
       ∙ filter_map-append place_of (first_of_each id_of (objects front)) (if_new id_of (is_known id_of (objects front) (id, s)) (id, s))
-      ∙ ap (λ (b : Bool). class_places front ++ filter_map place_of (if_new id_of b (id, s))) (sym (h.noted id) ∙ e)
+      ∙ ap (λ (b : Bool). placed_classes front ++ filter_map place_of (if_new id_of b (id, s))) (sym (h.noted id) ∙ e)
 
   -- of an object that is no class, or one whose ID is known
-  case-other : (known : Bool) → class_place s ≡ None → filter_map place_of (if_new id_of known (id, s)) ≡ []
+  case-other : (known : Bool) → placed_class s ≡ None → filter_map place_of (if_new id_of known (id, s)) ≡ []
   case-other true none = refl
-  case-other false none = ap (λ (o : Option ClassPlace). cons_option o []) none
+  case-other false none = ap (λ (o : Option PlacedClass). cons_option o []) none
 
-  kept-same : (added : List ClassPlace) → class_places (front ++ s ∷ []) ≡ class_places front ++ added → added ≡ [] → HasFirstClasses (front ++ s ∷ []) entries
+  kept-same : (added : List PlacedClass) → placed_classes (front ++ s ∷ []) ≡ placed_classes front ++ added → added ≡ [] → HasFirstClasses (front ++ s ∷ []) entries
   kept-same added e none =
-      h.kept ∙ ap (map entry_of) (sym (e ∙ ap (λ (xs : List ClassPlace). class_places front ++ xs) none ∙ append-nil (class_places front)))
+      h.kept ∙ ap (map entry_of) (sym (e ∙ ap (λ (xs : List PlacedClass). placed_classes front ++ xs) none ∙ append-nil (placed_classes front)))
 
-  pub other-push : (ids' : List ℕ) → ids' ≡ cond (list_any (λ (k : ℕ). eqb id k) ids) ids (ids ++ id ∷ []) → class_place s ≡ None → AreFirstClasses (front ++ s ∷ []) ids' entries
+  pub other-push : (ids' : List ℕ) → ids' ≡ cond (list_any (λ (k : ℕ). eqb id k) ids) ids (ids ++ id ∷ []) → placed_class s ≡ None → AreFirstClasses (front ++ s ∷ []) ids' entries
   other-push ids' e none = record {
     noted = noted-push ids' e;
     kept = kept-same _ (places-push (list_any (λ (k : ℕ). eqb id k) ids) refl) (case-other (list_any (λ (k : ℕ). eqb id k) ids) none);
@@ -234,17 +234,17 @@ module _ (front : List Sub) (s : Sub) (id : ℕ) (ids : List ℕ) (entries : Sta
 
   -- of a class with a new ID
   pub class-push : (ids' : List ℕ) → ids' ≡ cond (list_any (λ (k : ℕ). eqb id k) ids) ids (ids ++ id ∷ []) → list_any (λ (k : ℕ). eqb id k) ids ≡ false
-      → (x : declared_first.FirstClass) → class_place s ≡ Some (place_view x) → (place_view x).class.id ≡ id → (entries' : Standings) → entries' ≡ insert_entry eqb entries id x
+      → (x : declared_first.FirstClass) → placed_class s ≡ Some (first_class_view x) → (first_class_view x).class.id ≡ id → (entries' : Standings) → entries' ≡ insert_entry eqb entries id x
       → AreFirstClasses (front ++ s ∷ []) ids' entries'
   class-push ids' e new x place same_id entries' grown = record {
     noted = noted-push ids' e;
     kept =
-        ap (map (λ (y : ℕ × declared_first.FirstClass). (y.0, place_view y.1))) (grown ∙ insert-absent id x entries (new-absent new))
-        ∙ map-append (λ (y : ℕ × declared_first.FirstClass). (y.0, place_view y.1)) entries ((id, x) ∷ [])
-        ∙ ap (λ (ys : List (ℕ × ClassPlace)). ys ++ (id, place_view x) ∷ []) h.kept
-        ∙ ap (λ (n : ℕ). map entry_of (class_places front) ++ (n, place_view x) ∷ []) (sym same_id)
-        ∙ sym (map-append entry_of (class_places front) (place_view x ∷ []))
-        ∙ ap (map entry_of) (sym (places-push false new ∙ ap (λ (o : Option ClassPlace). class_places front ++ cons_option o []) place));
+        ap (map (λ (y : ℕ × declared_first.FirstClass). (y.0, first_class_view y.1))) (grown ∙ insert-absent id x entries (new-absent new))
+        ∙ map-append (λ (y : ℕ × declared_first.FirstClass). (y.0, first_class_view y.1)) entries ((id, x) ∷ [])
+        ∙ ap (λ (ys : List (ℕ × PlacedClass)). ys ++ (id, first_class_view x) ∷ []) h.kept
+        ∙ ap (λ (n : ℕ). map entry_of (placed_classes front) ++ (n, first_class_view x) ∷ []) (sym same_id)
+        ∙ sym (map-append entry_of (placed_classes front) (first_class_view x ∷ []))
+        ∙ ap (map entry_of) (sym (places-push false new ∙ ap (λ (o : Option PlacedClass). placed_classes front ++ cons_option o []) place));
   }
 
 -- no class behind the last one
@@ -254,33 +254,33 @@ case-nothing (Some a) xs e = cc
 
 case-nil : (b : Bool) (p : Entry) (rest : List Entry) → place_of p ≡ None → filter_map place_of rest ≡ [] → filter_map place_of (cond b rest (p ∷ rest)) ≡ []
 case-nil true p rest none e = e
-case-nil false p rest none e = ap (λ (o : Option ClassPlace). cons_option o (filter_map place_of rest)) none ∙ e
+case-nil false p rest none e = ap (λ (o : Option PlacedClass). cons_option o (filter_map place_of rest)) none ∙ e
 
-module _ (s : Sub) (list : List Sub) (none : class_place s ≡ None) where
+module _ (s : Sub) (list : List Sub) (none : placed_class s ≡ None) where
   case-behind : (o : Option ℕ) → ((before : List Entry) → filter_map place_of (firsts_from id_of before (objects list)) ≡ []) → (before : List Entry)
       → filter_map place_of (firsts_from id_of before (cons_option (option_map (λ (id : ℕ). (id, s)) o) (objects list))) ≡ []
   case-behind None more before = more before
   case-behind (Some id) more before = case-nil (is_known id_of before (id, s)) (id, s) (firsts_from id_of (before ++ (id, s) ∷ []) (objects list)) none (more (before ++ (id, s) ∷ []))
 
-none-behind : (list : List Sub) → filter_map class_place list ≡ [] → (before : List Entry) → filter_map place_of (firsts_from id_of before (objects list)) ≡ []
+none-behind : (list : List Sub) → filter_map placed_class list ≡ [] → (before : List Entry) → filter_map place_of (firsts_from id_of before (objects list)) ≡ []
 none-behind [] e before = refl
 none-behind (s ∷ list) e before =
-    let parts = case-nothing (class_place s) (filter_map class_place list) e in
+    let parts = case-nothing (placed_class s) (filter_map placed_class list) e in
     case-behind s list parts.0 (id_of_item s.item) (none-behind list parts.1) before
 
-pub places-front : (list : List Sub) (n : ℕ) → filter_map class_place (drop n list) ≡ [] → class_places (take n list) ≡ class_places list
+pub places-front : (list : List Sub) (n : ℕ) → filter_map placed_class (drop n list) ≡ [] → placed_classes (take n list) ≡ placed_classes list
 places-front list n none =
     let whole = take-append-drop n list in
     sym (
-    ap class_places (sym whole)
+    ap placed_classes (sym whole)
     ∙ ap (λ (ps : List Entry). filter_map place_of (first_of_each id_of ps)) (filter_map-append object_sub (take n list) (drop n list))
     ∙ ap (filter_map place_of) (first_of_each-append id_of (objects (take n list)) (objects (drop n list)))
     ∙ filter_map-append place_of (first_of_each id_of (objects (take n list))) (firsts_from id_of (objects (take n list)) (objects (drop n list)))
-    ∙ ap (λ (xs : List ClassPlace). class_places (take n list) ++ xs) (none-behind (drop n list) none (objects (take n list)))
-    ∙ append-nil (class_places (take n list))
+    ∙ ap (λ (xs : List PlacedClass). placed_classes (take n list) ++ xs) (none-behind (drop n list) none (objects (take n list)))
+    ∙ append-nil (placed_classes (take n list))
     )
 
-pub not-class : (s : declared_sub.Sub) → ((class : Bor ClassDump) → s.item ≡ items.Class class → ⊥) → class_place (sub_view s) ≡ None
+pub not-class : (s : declared_sub.Sub) → ((class : Bor ClassDump) → s.item ≡ items.Class class → ⊥) → placed_class (sub_view s) ≡ None
 not-class s other = ap (option_map (λ (c : ClassItem). record { class = c; offset = s.offset })) (by s.item other)
   where
     by : (i : declared_item.Item) → ((class : Bor ClassDump) → i ≡ items.Class class → ⊥) → class_of_item (item_view i) ≡ None
@@ -290,14 +290,14 @@ not-class s other = ap (option_map (λ (c : ClassItem). record { class = c; offs
     by (items.ObjArray id class elements) h = refl
     by (items.PrimArray id element count) h = refl
 
-pub none-longer : (list : List Sub) (end : ℕ) (s : Sub) → 0 < end → slice_get list (end - 1) ≡ Some s → class_place s ≡ None → filter_map class_place (drop end list) ≡ [] → filter_map class_place (drop (end - 1) list) ≡ []
+pub none-longer : (list : List Sub) (end : ℕ) (s : Sub) → 0 < end → slice_get list (end - 1) ≡ Some s → placed_class s ≡ None → filter_map placed_class (drop end list) ≡ [] → filter_map placed_class (drop (end - 1) list) ≡ []
 none-longer list end s some is none behind =
     let lt = slice_get_within list (end - 1) s is in
     let same : suc (end - 1) ≡ end = omega arith in
-    ap (filter_map class_place) (drop-cons list (end - 1) s lt)
-    ∙ ap (λ (x : Sub). cons_option (class_place x) (filter_map class_place (drop (suc (end - 1)) list))) (get_or_from_slice_get list (end - 1) s s is)
-    ∙ ap (λ (o : Option ClassPlace). cons_option o (filter_map class_place (drop (suc (end - 1)) list))) none
-    ∙ ap (λ (n : ℕ). filter_map class_place (drop n list)) same
+    ap (filter_map placed_class) (drop-cons list (end - 1) s lt)
+    ∙ ap (λ (x : Sub). cons_option (placed_class x) (filter_map placed_class (drop (suc (end - 1)) list))) (get_or_from_slice_get list (end - 1) s s is)
+    ∙ ap (λ (o : Option PlacedClass). cons_option o (filter_map placed_class (drop (suc (end - 1)) list))) none
+    ∙ ap (λ (n : ℕ). filter_map placed_class (drop n list)) same
     ∙ behind
 
 -- they are as many as the definition's
@@ -305,13 +305,13 @@ length-map : {X Y : Type 0} (f : X → Y) (xs : List X) → length (map f xs) �
 length-map f [] = refl
 length-map f (x ∷ xs) = ap suc (length-map f xs)
 
-pub length-places : (list : List Sub) (entries : Standings) → HasFirstClasses list entries → length entries ≡ length (class_places list)
+pub length-places : (list : List Sub) (entries : Standings) → HasFirstClasses list entries → length entries ≡ length (placed_classes list)
 length-places list entries kept =
-    sym (length-map (λ (y : ℕ × declared_first.FirstClass). (y.0, place_view y.1)) entries) ∙ ap (λ (ys : List (ℕ × ClassPlace)). length ys) kept ∙ length-map entry_of (class_places list)
+    sym (length-map (λ (y : ℕ × declared_first.FirstClass). (y.0, first_class_view y.1)) entries) ∙ ap (λ (ys : List (ℕ × PlacedClass)). length ys) kept ∙ length-map entry_of (placed_classes list)
 
 pub length-standing : (list : List Sub) (entries : Standings) → HasFirstClasses list entries → length entries ≡ length (first_classes list)
 length-standing list entries kept =
-    length-places list entries kept ∙ sym (ap (λ (cs : List ClassItem). length cs) (first_classes-places list) ∙ length-map (λ (x : ClassPlace). x.class) (class_places list))
+    length-places list entries kept ∙ sym (ap (λ (cs : List ClassItem). length cs) (first_classes-places list) ∙ length-map (λ (x : PlacedClass). x.class) (placed_classes list))
 
 pub class_at-some : (classes : List ClassItem) (id : ℕ) → (id ≡ 0 → ⊥) → class_at classes id ≡ find (λ (c : ClassItem). eqb id c.id) classes
 class_at-some classes id some = ap (λ (b : Bool). cond b None (find (λ (c : ClassItem). eqb id c.id) classes)) (ne_eqb id 0 some)

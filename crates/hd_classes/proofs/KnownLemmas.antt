@@ -28,7 +28,7 @@ use Rattle.hd_classes.specs.declared.chains.Walk.{Walk}
 use Rattle.hd_classes.specs.declared.source.Source.{Source}
 use Rattle.hd_classes.specs.declared.first_class.FirstClass as declared_first
 use Rattle.hd_classes.specs.Known.{AreClassesOf, IsClassFaultOrMemory, known_view, field_view}
-use Rattle.hd_classes.specs.FirstClass.{ClassPlace, class_places, entry_of, place_view, HasFirstClasses}
+use Rattle.hd_classes.specs.FirstClass.{PlacedClass, placed_classes, entry_of, first_class_view, HasFirstClasses}
 use Rattle.hd_classes.specs.Sources.{IsSource, IsSourceOf, table_of, kind_among, known_of_walk}
 use Rattle.hd_classes.specs.Walks.{IsChainPrefix}
 use Rattle.hd_classes.specs.Building.{HasKnown, HasAllKnown, AddsClass, rows_view, is_among, cycle_at, IsCycleOrMemory, IsFirstCycleOrMemory}
@@ -88,19 +88,19 @@ module _ (t : ClassTable) (id end : ℕ) (some : id ≡ 0 → ⊥) (is_end : end
   pub end-cycle : (c : ClassItem) → Some c ≡ class_at t.classes end → never_ends t.classes id ≡ true
   end-cycle c is = ap (λ (n : ℕ). is_some (class_at t.classes n)) (sym is_end) ∙ ap is_some (sym is)
 
-pub cycle-found : (t : ClassTable) (x : ClassPlace) → never_ends t.classes x.class.id ≡ true → cycle_at t x ≡ Some (fault causes.ClassCycle x.offset)
+pub cycle-found : (t : ClassTable) (x : PlacedClass) → never_ends t.classes x.class.id ≡ true → cycle_at t x ≡ Some (fault causes.ClassCycle x.offset)
 cycle-found t x never = ap (λ (b : Bool). cond b (Some (fault causes.ClassCycle x.offset)) None) never
 
-pub cycle-none : (t : ClassTable) (x : ClassPlace) → never_ends t.classes x.class.id ≡ false → cycle_at t x ≡ None
+pub cycle-none : (t : ClassTable) (x : PlacedClass) → never_ends t.classes x.class.id ≡ false → cycle_at t x ≡ None
 cycle-none t x ends = ap (λ (b : Bool). cond b (Some (fault causes.ClassCycle x.offset)) None) ends
 
 abbrev pub Rows : Type 0
 Rows = List (ℕ × declared_class.ResolvedClass)
 
 -- one class more
-module _ (t : ClassTable) (before : List ClassPlace) (x : ClassPlace) where
+module _ (t : ClassTable) (before : List PlacedClass) (x : PlacedClass) where
   among-push : (q : ℕ) → is_among (before ++ x ∷ []) q ≡ (is_among before q || (eqb q x.class.id || false))
-  among-push q = list_any-append (λ (y : ClassPlace). eqb q y.class.id) before (x ∷ [])
+  among-push q = list_any-append (λ (y : PlacedClass). eqb q y.class.id) before (x ∷ [])
 
   case-skips : (a b : Bool) (k : Option ResolvedClass) → (b ≡ true → k ≡ None) → cond a k None ≡ cond (a || (b || false)) k None
   case-skips true b k h = refl
@@ -173,23 +173,23 @@ map-same [] = refl
 map-same {X} (x ∷ xs) = ap (λ (ys : List X). x ∷ ys) (map-same xs)
 
 pub place-at : (list : List Sub) (entries : List (ℕ × declared_first.FirstClass)) (i : ℕ) (x : declared_first.FirstClass) → HasFirstClasses list entries → slice_get (values_of entries) i ≡ Some x
-    → slice_get (class_places list) i ≡ Some (place_view x)
+    → slice_get (placed_classes list) i ≡ Some (first_class_view x)
 place-at list entries i x kept at =
-    let snd : ℕ × ClassPlace → ClassPlace = λ (p : ℕ × ClassPlace). p.1 in
-    let places : map place_view (values_of entries) ≡ class_places list =
-    map-twice (λ (e : ℕ × declared_first.FirstClass). e.1) place_view entries
-    ∙ sym (map-twice (λ (e : ℕ × declared_first.FirstClass). (e.0, place_view e.1)) snd entries)
+    let snd : ℕ × PlacedClass → PlacedClass = λ (p : ℕ × PlacedClass). p.1 in
+    let places : map first_class_view (values_of entries) ≡ placed_classes list =
+    map-twice (λ (e : ℕ × declared_first.FirstClass). e.1) first_class_view entries
+    ∙ sym (map-twice (λ (e : ℕ × declared_first.FirstClass). (e.0, first_class_view e.1)) snd entries)
     ∙ ap (map snd) kept
-    ∙ map-twice entry_of snd (class_places list)
-    ∙ map-same (class_places list) in
-    ap (λ (xs : List ClassPlace). slice_get xs i) (sym places) ∙ slice_get-map place_view (values_of entries) i ∙ ap (option_map place_view) at
+    ∙ map-twice entry_of snd (placed_classes list)
+    ∙ map-same (placed_classes list) in
+    ap (λ (xs : List PlacedClass). slice_get xs i) (sym places) ∙ slice_get-map first_class_view (values_of entries) i ∙ ap (option_map first_class_view) at
 
 -- all classes
-none-among : (id : ℕ) (xs : List ClassPlace) → is_among xs id ≡ false → find (λ (c : ClassItem). eqb id c.id) (map (λ (x : ClassPlace). x.class) xs) ≡ None
+none-among : (id : ℕ) (xs : List PlacedClass) → is_among xs id ≡ false → find (λ (c : ClassItem). eqb id c.id) (map (λ (x : PlacedClass). x.class) xs) ≡ None
 none-among id [] none = refl
 none-among id (x ∷ xs) none =
     let parts = or_parts (eqb id x.class.id) (is_among xs id) none in
-    ap (λ (b : Bool). cond b (Some x.class) (find (λ (c : ClassItem). eqb id c.id) (map (λ (y : ClassPlace). y.class) xs))) parts.0 ∙ none-among id xs parts.1
+    ap (λ (b : Bool). cond b (Some x.class) (find (λ (c : ClassItem). eqb id c.id) (map (λ (y : PlacedClass). y.class) xs))) parts.0 ∙ none-among id xs parts.1
 
 absent-class : (b : Bool) (o : Option ClassItem) → o ≡ None → cond b None o ≡ None
 absent-class true o e = refl
@@ -215,8 +215,8 @@ pub length-layout : (fs : List declared_field.LayoutField) → length (map field
 length-layout fs = length-map field_view fs
 
 module _ (s : Source) (rows : Rows) (is : IsSource s) (h : HasAllKnown s rows) where
-  abbrev places : List ClassPlace
-  places = class_places s.list.now
+  abbrev places : List PlacedClass
+  places = placed_classes s.list.now
 
   unknown : (id : ℕ) → is_among places id ≡ false → resolved_class (table_of s) id ≡ None
   unknown id none =
@@ -241,7 +241,7 @@ module _ (s : Source) (rows : Rows) (is : IsSource s) (h : HasAllKnown s rows) w
       h.known.few,
       length-rows rows,
       ap (λ (cs : List ClassItem). length cs) (first_classes-places s.list.now),
-      length-map (λ (x : ClassPlace). x.class) places,
+      length-map (λ (x : PlacedClass). x.class) places,
     );
     short = h.known.short;
   }
@@ -257,7 +257,7 @@ module _ (bytes : List ℕ) (records : Records) (list : List Sub) (s : Source) (
       ∙ ap (λ (r : Records). class_table bytes r.strings r.loads s.list.now) is.of_records
       ∙ ap (λ (l : List Sub). class_table bytes records.strings records.loads l) is.of_list
 
-  faults-are : filter_map (cycle_at (table_of s)) (class_places s.list.now) ≡ class_faults table list
+  faults-are : filter_map (cycle_at (table_of s)) (placed_classes s.list.now) ≡ class_faults table list
   faults-are =
       sym (class_faults-places (table_of s) s.list.now) ∙ ap (λ (t : ClassTable). class_faults t s.list.now) table-is ∙ ap (class_faults table) is.of_list
 
@@ -274,26 +274,26 @@ module _ (bytes : List ℕ) (records : Records) (list : List Sub) (s : Source) (
   fault-of_file f (inr first) = inr (ap (λ (fs : List ReadFault). slice_get fs 0) (sym faults-are) ∙ first)
 
 -- one fault is the first of all
-pub fault-first : (s : Source) (i : ℕ) (x : ClassPlace) (f : ReadFault) → slice_get (class_places s.list.now) i ≡ Some x → filter_map (cycle_at (table_of s)) (take i (class_places s.list.now)) ≡ []
+pub fault-first : (s : Source) (i : ℕ) (x : PlacedClass) (f : ReadFault) → slice_get (placed_classes s.list.now) i ≡ Some x → filter_map (cycle_at (table_of s)) (take i (placed_classes s.list.now)) ≡ []
     → IsCycleOrMemory (table_of s) x f → IsFirstCycleOrMemory s f
 fault-first s i x f at none (inl memory) = inl memory
-fault-first s i x f at none (inr cycle) = inr (first-at (cycle_at (table_of s)) (class_places s.list.now) i x at f none cycle)
+fault-first s i x f at none (inr cycle) = inr (first-at (cycle_at (table_of s)) (placed_classes s.list.now) i x at f none cycle)
 
 -- the class at a place, after those before it
-pub known-next : (s : Source) (i : ℕ) (x : ClassPlace) (rows rows' : Rows) → slice_get (class_places s.list.now) i ≡ Some x
-    → HasKnown (table_of s) (take i (class_places s.list.now)) rows × (filter_map (cycle_at (table_of s)) (take i (class_places s.list.now)) ≡ []) → AddsClass (table_of s) x rows rows'
-    → HasKnown (table_of s) (take (i + 1) (class_places s.list.now)) rows' × (filter_map (cycle_at (table_of s)) (take (i + 1) (class_places s.list.now)) ≡ [])
+pub known-next : (s : Source) (i : ℕ) (x : PlacedClass) (rows rows' : Rows) → slice_get (placed_classes s.list.now) i ≡ Some x
+    → HasKnown (table_of s) (take i (placed_classes s.list.now)) rows × (filter_map (cycle_at (table_of s)) (take i (placed_classes s.list.now)) ≡ []) → AddsClass (table_of s) x rows rows'
+    → HasKnown (table_of s) (take (i + 1) (placed_classes s.list.now)) rows' × (filter_map (cycle_at (table_of s)) (take (i + 1) (placed_classes s.list.now)) ≡ [])
 known-next s i x rows rows' at h more =
-    let P : List ClassPlace → Type 0 = λ (xs : List ClassPlace). HasKnown (table_of s) xs rows' in (
-      subst P (sym (take-next (class_places s.list.now) i x at)) (more.more (take i (class_places s.list.now)) h.0),
-      none-at (cycle_at (table_of s)) (class_places s.list.now) i x at h.1 (cycle-none (table_of s) x more.ends),
+    let P : List PlacedClass → Type 0 = λ (xs : List PlacedClass). HasKnown (table_of s) xs rows' in (
+      subst P (sym (take-next (placed_classes s.list.now) i x at)) (more.more (take i (placed_classes s.list.now)) h.0),
+      none-at (cycle_at (table_of s)) (placed_classes s.list.now) i x at h.1 (cycle-none (table_of s) x more.ends),
     )
 
 pub known-all : (s : Source) (i : ℕ) (rows : Rows) → length s.classes.entries ≤ i → HasFirstClasses s.list.now s.classes.entries
-    → HasKnown (table_of s) (take i (class_places s.list.now)) rows × (filter_map (cycle_at (table_of s)) (take i (class_places s.list.now)) ≡ []) → HasAllKnown s rows
+    → HasKnown (table_of s) (take i (placed_classes s.list.now)) rows × (filter_map (cycle_at (table_of s)) (take i (placed_classes s.list.now)) ≡ []) → HasAllKnown s rows
 known-all s i rows le kept h =
-    let all : take i (class_places s.list.now) ≡ class_places s.list.now = take_all i (class_places s.list.now) (omega (arith, length-places s.list.now s.classes.entries kept)) in
-    let P : List ClassPlace → Type 0 = λ (xs : List ClassPlace). HasKnown (table_of s) xs rows in
+    let all : take i (placed_classes s.list.now) ≡ placed_classes s.list.now = take_all i (placed_classes s.list.now) (omega (arith, length-places s.list.now s.classes.entries kept)) in
+    let P : List PlacedClass → Type 0 = λ (xs : List PlacedClass). HasKnown (table_of s) xs rows in
     record { known = subst P all h.0; no_cycle = ap (filter_map (cycle_at (table_of s))) (sym all) ∙ h.1 }
 
 pub one-longer : (b : Bool) (m n : ℕ) → m ≡ n + cond b 0 1 → m ≤ n + 1

@@ -1,4 +1,4 @@
--- Classes that stand, one sub-record after another.
+-- The first class object of each ID, one sub-record after another.
 use Rattle.std.specs.Prelude.{◌≡◌, ℕ, ◌==◌, List, ◌∷◌, [], ◌++◌, map, Option}
 use Rattle.std.specs.Option.{option_map}
 use Rattle.std.specs.List.{filter_map, list_any}
@@ -8,29 +8,29 @@ use Rattle.hd_terms.specs.Classes.{class_of_item}
 use Rattle.hd_subs.specs.Views.{class_view}
 use Rattle.hd_classes.specs.declared.first_class.FirstClass as declared_first
 
--- a class and the place of its tag in the file
-pub record ClassPlace : Type 0 where
+-- a class and the file offset of its tag
+pub record PlacedClass : Type 0 where
   pub class : ClassItem
   pub offset : ℕ
 
 -- that of a sub-record, if it is a class's
-abbrev pub class_place : Sub → Option ClassPlace
-class_place s = option_map (λ (c : ClassItem). record { class = c; offset = s.offset }) (class_of_item s.item)
+abbrev pub placed_class : Sub → Option PlacedClass
+placed_class s = option_map (λ (c : ClassItem). record { class = c; offset = s.offset }) (class_of_item s.item)
 
--- the classes that stand
-abbrev pub class_places : List Sub → List ClassPlace
-class_places list = filter_map (λ (p : ℕ × Sub). class_place p.1) (first_subs list)
+-- the class objects of a dump, each the first sub-record of its ID
+abbrev pub placed_classes : List Sub → List PlacedClass
+placed_classes list = filter_map (λ (p : ℕ × Sub). placed_class p.1) (first_subs list)
 
 -- a class by its ID
-abbrev pub entry_of : ClassPlace → ℕ × ClassPlace
+abbrev pub entry_of : PlacedClass → ℕ × PlacedClass
 entry_of x = (x.class.id, x)
 
-abbrev pub place_view : declared_first.FirstClass → ClassPlace
-place_view s = record { class = class_view s.class.now; offset = s.offset }
+abbrev pub first_class_view : declared_first.FirstClass → PlacedClass
+first_class_view s = record { class = class_view s.class.now; offset = s.offset }
 
--- the classes that stand are kept by their IDs, in file order
+-- the class objects are kept by their IDs, in file order
 abbrev pub HasFirstClasses : List Sub → List (ℕ × declared_first.FirstClass) → Type 0
-HasFirstClasses list entries = map (λ (e : ℕ × declared_first.FirstClass). (e.0, place_view e.1)) entries ≡ map entry_of (class_places list)
+HasFirstClasses list entries = map (λ (e : ℕ × declared_first.FirstClass). (e.0, first_class_view e.1)) entries ≡ map entry_of (placed_classes list)
 
 -- so it is of these sub-records, and the IDs of their objects are noted
 pub record AreFirstClasses (list : List Sub) (ids : List ℕ) (entries : List (ℕ × declared_first.FirstClass)) : Type 0 where

@@ -1,4 +1,4 @@
--- What classes are found out from: the file, and its texts and classes by their IDs.
+-- What classes are resolved from: the file, and its texts and classes by their IDs.
 use Rattle.std.specs.Prelude.{◌≡◌, ℕ, ◌==◌, List, length, codes, map, slice_get, unwrap_or, if◌then◌else◌, Option, Some, None, All}
 use Rattle.std.specs.Option.{option_map}
 use Rattle.std.specs.List.{filter_map, find}

@@ -1,10 +1,10 @@
-//! Finding out about the classes of a dump.
+//! Resolving the classes of a dump, one after another: the chain, layout, referent field and reference kind of each.
 ghost use Rattle.std.specs.Prelude.{◌≡◌, ◌<◌, ◌^◌, [], length, All, IfOk, IfErr, OnOk};
 ghost use Rattle.hd_terms.specs.Classes.{class_table};
 ghost use Rattle.hd_terms.specs.HeapFaults.{class_faults};
 ghost use Rattle.hd_classes.specs.Known.{AreClassesOf, IsClassFaultOrMemory, IsTextWithin, known_view};
 ghost use Rattle.hd_classes.specs.Sources.{IsSource, table_of, known_of_walk};
-ghost use Rattle.hd_classes.specs.FirstClass.{place_view};
+ghost use Rattle.hd_classes.specs.FirstClass.{first_class_view};
 ghost use Rattle.hd_classes.specs.Building.{AddsClass, HasAllKnown, IsCycleOrMemory, IsFirstCycleOrMemory};
 
 use crate::chains::{Walk, end_of_chain, walk_up};
@@ -42,8 +42,8 @@ fn add_class(
     class: FirstClass<'_>,
 ) -> Result<(), ReadFault>
     requires { IsSource source.now }
-    ensures ok { OnOk result (AddsClass (table_of source.now) (place_view class.entry) known.old.entries known.new.entries) }
-    ensures err { IfErr result (λ f. IsCycleOrMemory (table_of source.now) (place_view class.entry) f) }
+    ensures ok { OnOk result (AddsClass (table_of source.now) (first_class_view class.entry) known.old.entries known.new.entries) }
+    ensures err { IfErr result (λ f. IsCycleOrMemory (table_of source.now) (first_class_view class.entry) f) }
 {
     let id = class.class.id;
     if id == 0 {

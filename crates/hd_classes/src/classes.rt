@@ -1,4 +1,4 @@
-//! Classes as they are looked up.
+//! Looking classes up by ID or number.
 ghost use Rattle.std.specs.Prelude.{◌≡◌, ◌<◌, ◌↔◌, [], length, map, None, Some, MatchOption, IsTrue};
 ghost use Rattle.hd_classes.specs.Known.{name_at, number_of, known_by_number, chain_at, layout_at, referent_at, kind_at, field_view, known_view};
 ghost use Rattle.hd_classes.specs.Building.{rows_view};

@@ -1,14 +1,14 @@
-//! The classes that stand: the first sub-record of their IDs is theirs.
+//! The class objects of a dump: an ID is a class's where the first sub-record of that ID is a CLASS DUMP.
 ghost use Rattle.std.specs.Prelude.{◌≡◌, ◌≤◌, [], length, drop, IfOk, OnOk};
 ghost use Rattle.std.specs.List.{filter_map};
 ghost use Rattle.hd_subs.specs.Views.{sub_view};
-ghost use Rattle.hd_classes.specs.FirstClass.{class_place, HasFirstClasses, NotesOneMore};
+ghost use Rattle.hd_classes.specs.FirstClass.{placed_class, HasFirstClasses, NotesOneMore};
 
 use hd_subs::{ClassDump, DumpSubs, Item, Sub};
 use indexmap::{IndexMap, IndexSet};
 use std::alloc::{AllocError, Global};
 
-/// A class object that stands.
+/// The class object of an ID, whose CLASS DUMP is the first sub-record of the ID.
 #[derive(Clone, Copy)]
 pub(crate) struct FirstClass<'a> {
     pub(crate) class: &'a ClassDump,
@@ -19,7 +19,7 @@ pub(crate) struct FirstClass<'a> {
 /// How many sub-records there are up to the last class.
 fn classes_end(list: &DumpSubs) -> usize
     ensures within { result ≤ length list.now }
-    ensures none_after { filter_map class_place (drop result list.now) ≡ [] }
+    ensures none_after { filter_map placed_class (drop result list.now) ≡ [] }
 {
     let mut end = list.len();
     while end > 0 {
@@ -60,7 +60,7 @@ fn note_sub<'a>(
     Ok(())
 }
 
-/// The classes that stand, by their IDs, in file order.
+/// The class objects by their IDs, in file order.
 ///
 /// Dumps have their classes at the front, so only the IDs of the objects before the last class are noted.
 pub(crate) fn first_classes<'a>(

@@ -1,4 +1,4 @@
-//! What is known of a class whose chain is whole.
+//! A resolved class: its chain, its layout, its referent field and the kind of the reference in it.
 use hd_terms::EdgeKind;
 
 /// An instance field in a layout.

@@ -1,4 +1,4 @@
-//! What classes are found out from.
+//! The texts, the class names and the class objects of a file by ID, from which classes are resolved.
 ghost use Rattle.std.specs.Prelude.{◌≡◌, length, map, All, IfOk};
 ghost use Rattle.std.specs.Option.{option_map, option_copied};
 ghost use Rattle.hd_terms.specs.Classes.{class_at, text_of_id, name_of, bytes_of_span};
@@ -24,11 +24,11 @@ pub(crate) struct Source<'a> {
     pub(crate) texts: IndexMap<u64, Span>,
     /// The ID of the text that is a class's name, by the class's ID.
     pub(crate) names: IndexMap<u64, u64>,
-    /// The classes that stand, in file order.
+    /// The class objects, in file order.
     pub(crate) classes: IndexMap<u64, FirstClass<'a>>,
 }
 
-/// What the classes of a file are found out from.
+/// The file as classes are resolved from it.
 pub(crate) fn source_of<'a>(
     alloc: Global,
     bytes: &'a [u8],

@@ -6,7 +6,8 @@ use Rattle.hd_terms.specs.declared.Span.{Span}
 use Rattle.hd_terms.specs.declared.errors.ReadFault.{ReadFault}
 use Rattle.hd_terms.specs.SubRecords.{SubRecord, Sub, subs_at, dump_subs_at}
 use Rattle.hd_subs.specs.Reading.{AppendsSegment, IsSegmentFaultOrMemory}
-use Rattle.hd_decode.specs.Bodies.{AreBodies, ReadsBodies, IsBodiesFaultOrMemory, body_at}
+use Rattle.hd_terms.specs.Classes.{bytes_of_span}
+use Rattle.hd_decode.specs.Bodies.{AreBodies, ReadsBodies, IsBodiesFaultOrMemory}
 
 module _ (size : IdSize) (bytes : List ℕ) where
   bodies-append : (spans others : List Span) (segments more : List (List SubRecord)) → AreBodies size bytes spans segments → AreBodies size bytes others more → AreBodies size bytes (spans ++ others) (segments ++ more)
@@ -58,18 +59,18 @@ module _ (size : IdSize) (bytes : List ℕ) where
   })
 
   -- one more body
-  reads-push : (spans : List Span) (span : Span) (old new : List Sub) → ReadsBodies size bytes spans old → AppendsSegment size span.start (body_at bytes span) old new → ReadsBodies size bytes (spans ++ span ∷ []) new
+  reads-push : (spans : List Span) (span : Span) (old new : List Sub) → ReadsBodies size bytes spans old → AppendsSegment size span.start (bytes_of_span bytes span) old new → ReadsBodies size bytes (spans ++ span ∷ []) new
   reads-push spans span old new h more =
       let one : ReadsBodies size bytes (span ∷ []) (subs_at size span.start more.subs) = record { segments = more.subs ∷ []; whole = (more.whole, tt); list_is = sym (append-nil (subs_at size span.start more.subs)) } in
       subst (ReadsBodies size bytes (spans ++ span ∷ [])) (sym more.list_is) (reads-append spans (span ∷ []) old (subs_at size span.start more.subs) h one)
 
   pub reads-next : (spans : List Span) (i : ℕ) (d : Span) (old new : List Sub) → i < length spans → ReadsBodies size bytes (take i spans) old
-      → AppendsSegment size (get_or spans i d).start (body_at bytes (get_or spans i d)) old new → ReadsBodies size bytes (take (i + 1) spans) new
+      → AppendsSegment size (get_or spans i d).start (bytes_of_span bytes (get_or spans i d)) old new → ReadsBodies size bytes (take (i + 1) spans) new
   reads-next spans i d old new lt h more = rw (take_more spans i d lt) (reads-push (take i spans) (get_or spans i d) old new h more)
 
   -- a fault of one body is the fault of all, where those before it have none
   pub fault-here : (spans : List Span) (i : ℕ) (d : Span) (old : List Sub) (f : ReadFault) → i < length spans → ReadsBodies size bytes (take i spans) old
-      → IsSegmentFaultOrMemory size (get_or spans i d).start (body_at bytes (get_or spans i d)) f → IsBodiesFaultOrMemory size bytes spans f
+      → IsSegmentFaultOrMemory size (get_or spans i d).start (bytes_of_span bytes (get_or spans i d)) f → IsBodiesFaultOrMemory size bytes spans f
   fault-here spans i d old f lt h (inl memory) = inl memory
   fault-here spans i d old f lt h (inr faulty) = inr (record {
     before = take i spans;

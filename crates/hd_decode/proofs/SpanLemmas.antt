@@ -9,12 +9,13 @@ use Rattle.hd_terms.specs.declared.IdSize.{IdSize}
 use Rattle.hd_terms.specs.declared.Span.{Span}
 use Rattle.hd_terms.specs.Records.{Record, IsFramed, IsRecord, record_text, is_segment, segment_spans, largest_file}
 use Rattle.hd_terms.specs.SubRecords.{SubRecord, AreSubRecords}
-use Rattle.hd_decode.specs.Bodies.{IsSpanWithin, AreBodies, body_at, span_total}
+use Rattle.hd_terms.specs.Classes.{bytes_of_span}
+use Rattle.hd_decode.specs.Bodies.{IsSpanWithin, AreBodies, span_total}
 
 -- a record's body has this span
 pub record IsBodyAt (bytes : List ℕ) (span : Span) (r : Record) : Type 0 where
   pub within : IsSpanWithin bytes span
-  pub body : body_at bytes span ≡ r.body
+  pub body : bytes_of_span bytes span ≡ r.body
 
 case-zip : {A B : Type 0} (R : A → B → Type 0) (b : Bool) (x : A) (y : B) (xs : List A) (ys : List B) → R x y → AllZip R xs ys → AllZip R (cond b (x ∷ xs) xs) (cond b (y ∷ ys) ys)
 case-zip R true x y xs ys here rest = (here, rest)

@@ -1,16 +1,13 @@
 -- The bodies of segments, by their spans in the file.
-use Rattle.std.specs.Prelude.{◌≡◌, ◌⊎◌, ℕ, ◌+◌, ◌≤◌, List, ◌∷◌, ◌++◌, length, take, drop, sum_by}
+use Rattle.std.specs.Prelude.{◌≡◌, ◌⊎◌, ℕ, ◌+◌, ◌≤◌, List, ◌∷◌, ◌++◌, length, sum_by}
 use Rattle.std.specs.List.{AllZip}
 use Rattle.hd_terms.specs.declared.IdSize.{IdSize}
 use Rattle.hd_terms.specs.declared.Span.{Span}
 use Rattle.hd_terms.specs.declared.errors.Cause.TheVariants as causes
 use Rattle.hd_terms.specs.declared.errors.ReadFault.{ReadFault}
 use Rattle.hd_terms.specs.SubRecords.{SubRecord, AreSubRecords, Sub, dump_subs_at}
+use Rattle.hd_terms.specs.Classes.{bytes_of_span}
 use Rattle.hd_terms.specs.ReadFaults.{fault, IsSegmentFault}
-
--- the bytes of a span
-abbrev pub body_at : List ℕ → Span → List ℕ
-body_at bytes span = take span.len (drop span.start bytes)
 
 -- the bytes of spans together
 abbrev pub span_total : List Span → ℕ
@@ -23,9 +20,9 @@ pub record IsSpanWithin (bytes : List ℕ) (span : Span) : Type 0 where
 
 -- each span's bytes have these sub-records
 abbrev pub AreBodies : IdSize → List ℕ → List Span → List (List SubRecord) → Type 0
-AreBodies size bytes spans segments = AllZip (λ (span : Span) (subs : List SubRecord). AreSubRecords size (body_at bytes span) subs) spans segments
+AreBodies size bytes spans segments = AllZip (λ (span : Span) (subs : List SubRecord). AreSubRecords size (bytes_of_span bytes span) subs) spans segments
 
--- the spans' bytes have sub-records, and the list has them with their places
+-- the spans' bytes have sub-records, and the list has them with their file offsets
 pub record ReadsBodies (size : IdSize) (bytes : List ℕ) (spans : List Span) (list : List Sub) : Type 0 where
   pub segments : List (List SubRecord)
   pub whole : AreBodies size bytes spans segments
@@ -39,7 +36,7 @@ pub record IsBodiesFault (size : IdSize) (bytes : List ℕ) (spans : List Span) 
   pub segments : List (List SubRecord)
   pub spans_are : spans ≡ before ++ span ∷ after
   pub whole : AreBodies size bytes before segments
-  pub faulty : IsSegmentFault size span.start (body_at bytes span) f
+  pub faulty : IsSegmentFault size span.start (bytes_of_span bytes span) f
 
 -- out of memory, or the fault of the first body that has one
 abbrev pub IsBodiesFaultOrMemory : IdSize → List ℕ → List Span → ReadFault → Type 0

@@ -1,9 +1,10 @@
-//! The sub-records of a dump.
+//! Decoding the segments of a dump on worker threads; the sub-records come in file order.
 ghost use Rattle.std.specs.Prelude.{◌≤◌, ◌<◌, ◌^◌, length, All, IfOk, IfErr, OnOk};
 ghost use Rattle.hd_terms.specs.Workers.{IsWorkers};
 ghost use Rattle.hd_records.specs.Reading.{ReadsRecords};
 ghost use Rattle.hd_subs.specs.Reading.{AppendsSegment, IsSegmentFaultOrMemory};
-ghost use Rattle.hd_decode.specs.Bodies.{ReadsBodies, IsSpanWithin, body_at, IsBodiesFaultOrMemory};
+ghost use Rattle.hd_terms.specs.Classes.{bytes_of_span};
+ghost use Rattle.hd_decode.specs.Bodies.{ReadsBodies, IsSpanWithin, IsBodiesFaultOrMemory};
 ghost use Rattle.hd_decode.specs.Shares.{IsPart, AreJoined, IsFirstFaultOrMemory, subs_in, share_at};
 
 use crate::gate::Gate;
@@ -18,8 +19,8 @@ use std::thread::Threads;
 /// Adds the sub-records of one segment, whose body is a span of the file.
 fn read_body(list: &mut Subs, bytes: &[u8], id_size: IdSize, span: Span) -> Result<(), ReadFault>
     requires { IsSpanWithin bytes.now span }
-    ensures ok { OnOk result (AppendsSegment id_size span.start (body_at bytes.now span) list.old list.new) }
-    ensures err { IfErr result (λ f. IsSegmentFaultOrMemory id_size span.start (body_at bytes.now span) f) }
+    ensures ok { OnOk result (AppendsSegment id_size span.start (bytes_of_span bytes.now span) list.old list.new) }
+    ensures err { IfErr result (λ f. IsSegmentFaultOrMemory id_size span.start (bytes_of_span bytes.now span) f) }
 {
     let start = span.start as usize;
     let body = &bytes[start..start + span.len as usize];

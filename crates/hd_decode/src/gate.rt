@@ -1,4 +1,4 @@
-//! What workers pass before they begin.
+//! The gate that each worker passes before it decodes anything.
 
 /// What each worker passes before it decodes anything.
 pub trait Gate: Sync {

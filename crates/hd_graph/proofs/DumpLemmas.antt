@@ -14,11 +14,12 @@ use Rattle.hd_terms.specs.Objects.{object_of}
 use Rattle.hd_terms.specs.Roots.{root_of, roots_of}
 use Rattle.hd_graph.specs.Shapes.{row_object, row_objects}
 use Rattle.hd_graph.specs.ArrayRows.{ObjectEntry, entry_of, item_weight, weight, IsSubWithin, roots_in}
-use Rattle.hd_decode.specs.Bodies.{AreBodies, body_at, span_total}
+use Rattle.hd_terms.specs.Classes.{bytes_of_span}
+use Rattle.hd_decode.specs.Bodies.{AreBodies, span_total}
 use Rattle.hd_graph.proofs.RowLemmas.{id_of_entry, row_of_entry, shape_of_entry}
 use Rattle.hd_graph.proofs.ClassLemmas.{class-object, class-within, class-links, class-heavy}
 use Rattle.hd_graph.proofs.InstanceLemmas.{instance-object, instance-within, instance-class, instance-weight}
-use Rattle.hd_graph.proofs.UnresolvedLemmas.{object_of_entry, array-object, array-within, array-class, array-weight, primitive-within, primitive-weight}
+use Rattle.hd_graph.proofs.ArrayRowLemmas.{object_of_entry, array-object, array-within, array-class, array-weight, primitive-within, primitive-weight}
 
 module _ (t : ClassTable) (bytes : List ℕ) (size : IdSize) where
   -- where the next sub-record begins
@@ -119,7 +120,7 @@ module _ (t : ClassTable) (bytes : List ℕ) (size : IdSize) where
   roots_at at (ObjectArray id serial count class elements ∷ ss) = roots_at (at + length (sub_record_text (ObjectArray id serial count class elements))) ss
 
   -- the bytes of a span, and those after it
-  from_span : (span : Span) (ss : List SubRecord) → AreSubRecords size (body_at bytes span) ss → drop span.start bytes ≡ flat_map sub_record_text ss ++ drop span.len (drop span.start bytes)
+  from_span : (span : Span) (ss : List SubRecord) → AreSubRecords size (bytes_of_span bytes span) ss → drop span.start bytes ≡ flat_map sub_record_text ss ++ drop span.len (drop span.start bytes)
   from_span span ss h = sym (take-append-drop span.len (drop span.start bytes)) ∙ ap (λ (xs : List ℕ). xs ++ drop span.len (drop span.start bytes)) h.whole
 
   abbrev pub all_of : List (List SubRecord) → List SubRecord

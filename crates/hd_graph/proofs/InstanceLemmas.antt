@@ -27,7 +27,7 @@ use Rattle.hd_slots.specs.Table.{HasIdAt}
 use Rattle.hd_graph.specs.Shapes.{shape_bytes, named_slots, with_kind, referent_kind, HasShape, ComesBefore, IsRising}
 use Rattle.hd_graph.specs.ArrayRows.{placed_fields, value_ids, field_names, layout_names, fitting, instance_entry}
 use Rattle.hd_slots.proofs.CutLemmas.{last_from-push}
-use Rattle.hd_graph.proofs.UnresolvedLemmas.{object_of_entry, id-behind}
+use Rattle.hd_graph.proofs.ArrayRowLemmas.{object_of_entry, id-behind}
 
 -- values that fit a layout have its bytes
 fitting-one : (size : IdSize) (len : ℕ) (x k : ResolvedClass) (b : Bool) → eqb len (layout_len size x.layout) ≡ b → (let o : Option ResolvedClass = cond b (Some x) None in o) ≡ Some k → len ≡ layout_len size k.layout

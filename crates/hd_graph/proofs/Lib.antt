@@ -10,7 +10,7 @@ pub mod ArrayLemmas
 pub mod NumberLemmas
 pub mod RowLemmas
 pub mod TextLemmas
-pub mod UnresolvedLemmas
+pub mod ArrayRowLemmas
 pub mod InstanceLemmas
 pub mod LayoutLemmas
 pub mod KnownLemmas

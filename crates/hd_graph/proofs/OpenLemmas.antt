@@ -32,7 +32,8 @@ use Rattle.hd_slots.specs.Table.{Table}
 use Rattle.hd_classes.specs.Firsts.{firsts}
 use Rattle.hd_graph.specs.Shapes.{ObjectShape, IsSmall, AreColumns, row_objects, HasShape}
 use Rattle.hd_graph.specs.ArrayRows.{ObjectEntry, KnownBy, object_id, entry_of, entries_of, weight, item_weight, AreWithin, root_of_item, roots_in}
-use Rattle.hd_decode.specs.Bodies.{AreBodies, ReadsBodies, IsBodiesFault, IsBodiesFaultOrMemory, body_at}
+use Rattle.hd_terms.specs.Classes.{bytes_of_span}
+use Rattle.hd_decode.specs.Bodies.{AreBodies, ReadsBodies, IsBodiesFault, IsBodiesFaultOrMemory}
 use Rattle.hd_graph.specs.Numbering.{is_size_mismatch, is_opaque, object_fault, object_faults, IsNumbered, IsObjectFaultOrMemory}
 use Rattle.hd_graph.specs.Building.{Columns, HasRowsOf, IsReadFaultOrMemory, AreFewAndShort}
 use Rattle.hd_classes.proofs.FirstLemmas.{firsts-map, first_of_each-firsts, firsts-le, filter_map-le}
@@ -41,7 +42,7 @@ use Rattle.hd_graph.proofs.RowLemmas.{id_of_entry, row_of_entry, shape_of_entry,
 use Rattle.hd_decode.proofs.SpanLemmas.{IsBodyAt, bodies_of_records}
 use Rattle.hd_decode.proofs.Spans as spans_of
 use Rattle.hd_graph.proofs.TextLemmas.{texts-in-file}
-use Rattle.hd_graph.proofs.UnresolvedLemmas.{object_of_entry}
+use Rattle.hd_graph.proofs.ArrayRowLemmas.{object_of_entry}
 use Rattle.hd_graph.proofs.DumpLemmas.{all_of, objects_in, roots_all, within_all, weight_all, weight-cons, row_objects-entries}
 use Rattle.hd_graph.proofs.SmallLemmas.{shapes-small, shapes-fit}
 use Rattle.hd_graph.proofs.RepeatLemmas.{repeats-map}
@@ -100,7 +101,7 @@ module _ (bytes : List ℕ) (size : IdSize) (strings : List Text) (classes : Lis
 
   -- a fault of the sub-records
   split-records : (before : List Span) (span : Span) (after : List Span) (rs : List Record) (segments : List (List SubRecord)) → AllZip (IsBodyAt bytes) (before ++ span ∷ after) rs → AreBodies size bytes before segments
-      → (whole : List Record) × (here : Record) × (rest : List Record) × (rs ≡ whole ++ here ∷ rest) × AllZip (λ (w : Record) (subs : List SubRecord). AreSubRecords size w.body subs) whole segments × (length whole ≡ length before) × (body_at bytes span ≡ here.body)
+      → (whole : List Record) × (here : Record) × (rest : List Record) × (rs ≡ whole ++ here ∷ rest) × AllZip (λ (w : Record) (subs : List SubRecord). AreSubRecords size w.body subs) whole segments × (length whole ≡ length before) × (bytes_of_span bytes span ≡ here.body)
   split-records [] span after [] segments zipped bodies = absurd zipped
   split-records [] span after (x ∷ rs) [] zipped bodies = ([], x, rs, refl, tt, refl, zipped.0.body)
   split-records [] span after (x ∷ rs) (s ∷ segments) zipped bodies = absurd bodies

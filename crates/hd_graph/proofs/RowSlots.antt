@@ -11,7 +11,7 @@ use Rattle.hd_terms.specs.declared.Slot.TheVariants as slots
 use Rattle.hd_terms.specs.Dump.{SlotEntry}
 use Rattle.hd_terms.specs.EditedDump.{same_slot}
 use Rattle.hd_terms.specs.Slots.{strong_slot}
-use Rattle.hd_graph.specs.Arrays.{row_slots, row_place}
+use Rattle.hd_graph.specs.Arrays.{row_slots, row_index}
 
 pub length-row_slots : (i : ℕ) (row : List ℕ) → length (row_slots i row) ≡ length row
 length-row_slots i [] = refl
@@ -35,7 +35,7 @@ row_slots-element i (id ∷ next ∷ rest) (suc k) before =
     row_slots-element (i + 1) (next ∷ rest) k (omega arith) ∙ ap (λ (n : ℕ). Some (strong_slot (slots.Element n) (get_or (next ∷ rest) k 0))) (omega arith)
 
 -- a slot of a row stands at its place
-pub place-of-slot : (row : List ℕ) (slot : Slot) (i : ℕ) (s : SlotEntry) → slice_get (row_slots 0 row) i ≡ Some s → same_slot s.slot slot ≡ true → row_place (length row) slot ≡ Some i
+pub place-of-slot : (row : List ℕ) (slot : Slot) (i : ℕ) (s : SlotEntry) → slice_get (row_slots 0 row) i ≡ Some s → same_slot s.slot slot ≡ true → row_index (length row) slot ≡ Some i
 place-of-slot row slot i s at same = elim (cases_lt (suc i) (length row)) [
   | inl before ↦
       let is : strong_slot (slots.Element (0 + i)) (get_or row i 0) ≡ s = same_Some _ _ (sym (row_slots-element 0 row i before) ∙ at) in
@@ -46,7 +46,7 @@ place-of-slot row slot i s at same = elim (cases_lt (suc i) (length row)) [
       of_class slot (omega arith) (ap (λ (e : SlotEntry). same_slot e.slot slot) is ∙ same)
 ]
   where
-    of_element : (x : Slot) → suc i < length row → same_slot (slots.Element (0 + i)) x ≡ true → row_place (length row) x ≡ Some i
+    of_element : (x : Slot) → suc i < length row → same_slot (slots.Element (0 + i)) x ≡ true → row_index (length row) x ≡ Some i
     of_element (slots.Field k) before e = absurd cc
     of_element (slots.Element k) before e =
         let is : 0 + i ≡ k = eqb-true (0 + i) k e in
@@ -59,7 +59,7 @@ place-of-slot row slot i s at same = elim (cases_lt (suc i) (length row)) [
     of_element slots.Signers before e = absurd cc
     of_element slots.Domain before e = absurd cc
 
-    of_class : (x : Slot) → suc i ≡ length row → same_slot slots.OfClass x ≡ true → row_place (length row) x ≡ Some i
+    of_class : (x : Slot) → suc i ≡ length row → same_slot slots.OfClass x ≡ true → row_index (length row) x ≡ Some i
     of_class (slots.Field k) last e = absurd cc
     of_class (slots.Element k) last e = absurd cc
     of_class (slots.Static k) last e = absurd cc
@@ -76,7 +76,7 @@ pub record HasSlotAt (row : List ℕ) (slot : Slot) (i : ℕ) : Type 0 where
   pub here : slice_get (row_slots 0 row) i ≡ Some entry
   pub same : same_slot entry.slot slot ≡ true
 
-pub slot-at-place : (row : List ℕ) (slot : Slot) (i : ℕ) → row_place (length row) slot ≡ Some i → HasSlotAt row slot i
+pub slot-at-place : (row : List ℕ) (slot : Slot) (i : ℕ) → row_index (length row) slot ≡ Some i → HasSlotAt row slot i
 slot-at-place row (slots.Field k) i h = absurd cc
 slot-at-place row (slots.Element k) i h = elim (cases_lt k (length row - 1)) [
   | inl lt ↦
@@ -117,7 +117,7 @@ module _ (row : List ℕ) (slot : Slot) where
   abbrev is_it : SlotEntry → Bool
   is_it s = same_slot s.slot slot
 
-  by_place : (a b : Option ℕ) → row_place (length row) slot ≡ a → position is_it (row_slots 0 row) ≡ b → a ≡ b
+  by_place : (a b : Option ℕ) → row_index (length row) slot ≡ a → position is_it (row_slots 0 row) ≡ b → a ≡ b
   by_place a (Some i) place at =
       let e = get_or (row_slots 0 row) i (strong_slot slot 0) in
       let f = position-Some is_it (row_slots 0 row) i (strong_slot slot 0) at in
@@ -127,5 +127,5 @@ module _ (row : List ℕ) (slot : Slot) where
       let f = slot-at-place row slot i place in
       absurd (none-at is_it (row_slots 0 row) at i f.entry f.here f.same)
 
-  pub first-place : row_place (length row) slot ≡ position is_it (row_slots 0 row)
-  first-place = by_place (row_place (length row) slot) (position is_it (row_slots 0 row)) refl refl
+  pub first-place : row_index (length row) slot ≡ position is_it (row_slots 0 row)
+  first-place = by_place (row_index (length row) slot) (position is_it (row_slots 0 row)) refl refl

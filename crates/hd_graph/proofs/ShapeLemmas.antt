@@ -13,7 +13,7 @@ use Rattle.hd_terms.specs.Dump.{SlotEntry}
 use Rattle.hd_terms.specs.EditedDump.{same_slot, slot_code}
 use Rattle.hd_terms.specs.Slots.{strong_slot}
 use Rattle.hd_graph.specs.Arrays.{row_slots}
-use Rattle.hd_graph.specs.Shapes.{ObjectShape, ObjectArray, PrimitiveArray, ClassObject, Instance, named_slots, with_kind, shape_slots, slot_name, slot_kind, shape_place, ComesBefore, IsRising, HasShape, IsNamedAt, HasFewNames}
+use Rattle.hd_graph.specs.Shapes.{ObjectShape, ObjectArray, PrimitiveArray, ClassObject, Instance, named_slots, with_kind, shape_slots, slot_name, slot_kind, shape_index, ComesBefore, IsRising, HasShape, IsNamedAt, HasFewNames}
 use Rattle.hd_graph.proofs.RowSlots.{length-row_slots, row_slots-class, row_slots-element, place-of-slot, first-place}
 
 -- as many slots as IDs
@@ -197,14 +197,14 @@ place-with-kind referent kind slot es =
     ap (λ (n : ℕ). cond (ltb n (length (map (with_kind referent kind) es))) (Some n) None) (prefix-with-kind referent kind slot es)
     ∙ ap (λ (m : ℕ). cond (ltb (prefix_len (λ (e : SlotEntry). not (same_slot e.slot slot)) es) m) (Some (prefix_len (λ (e : SlotEntry). not (same_slot e.slot slot)) es)) None) (length-map es (with_kind referent kind))
 
-pub first-place-of : (shape : ObjectShape) (row : List ℕ) (slot : Slot) → HasShape shape row → shape_place shape (length row) slot ≡ position (λ (e : SlotEntry). same_slot e.slot slot) (shape_slots shape row)
+pub first-place-of : (shape : ObjectShape) (row : List ℕ) (slot : Slot) → HasShape shape row → shape_index shape (length row) slot ≡ position (λ (e : SlotEntry). same_slot e.slot slot) (shape_slots shape row)
 first-place-of (ObjectArray bytes) row slot fit = first-place row slot
 first-place-of (PrimitiveArray element bytes) row slot fit = first-place row slot
 first-place-of (ClassObject bytes names) row slot fit = first-named names row slot fit.0
 first-place-of (Instance bytes names referent kind) row slot fit = first-named names row slot fit.0 ∙ sym (place-with-kind referent kind slot (named_slots names row))
 
 pub place-of : (shape : ObjectShape) (row : List ℕ) (slot : Slot) (i : ℕ) (e : SlotEntry) → HasShape shape row → slice_get (shape_slots shape row) i ≡ Some e → same_slot e.slot slot ≡ true
-    → shape_place shape (length row) slot ≡ Some i
+    → shape_index shape (length row) slot ≡ Some i
 place-of (ObjectArray bytes) row slot i e fit at same = place-of-slot row slot i e at same
 place-of (PrimitiveArray element bytes) row slot i e fit at same = place-of-slot row slot i e at same
 place-of (ClassObject bytes names) row slot i e fit at same = place-of-named names row slot i e fit.0 fit.1 at same

@@ -66,7 +66,7 @@ class_names c =
 abbrev pub static_bytes : List StaticItem → ℕ
 static_bytes statics = sum_by (λ (s : StaticItem). s.value.len) statics
 
--- the types of the fields of a layout, and where their values lie, if they begin at a place
+-- the types of the fields of a layout, and where their values lie, if they begin at an offset
 abbrev pub placed_fields : IdSize → ℕ → List LayoutField → List (ℕ × Span)
 placed_fields size at [] = []
 placed_fields size at (f ∷ fs) = (f.code, record { start = at; len = value_len size f.code }) ∷ placed_fields size (at + value_len size f.code) fs
@@ -167,17 +167,17 @@ pub record IsClassWithin (size : IdSize) (n : ℕ) (c : ClassItem) : Type 0 wher
   pub constants : All (IsValueWithin size n) (values_of_constants c.constants)
   pub bytes : static_bytes c.statics ≤ n
 
--- IDs that stand one after another from a place of the file on: a class's super class, loader, signers and protection domain
+-- IDs that stand one after another from an offset of the file on: a class's super class, loader, signers and protection domain
 abbrev pub links_at : List ℕ → IdSize → ℕ → List ℕ
-links_at bytes size place =
-    id_at bytes size place ∷ id_at bytes size (place + id_len size) ∷ id_at bytes size (place + 2 * id_len size) ∷ id_at bytes size (place + 3 * id_len size) ∷ []
+links_at bytes size offset =
+    id_at bytes size offset ∷ id_at bytes size (offset + id_len size) ∷ id_at bytes size (offset + 2 * id_len size) ∷ id_at bytes size (offset + 3 * id_len size) ∷ []
 
 -- a class has these, and they lie in the file
-pub record HasLinks (bytes : List ℕ) (size : IdSize) (place : ℕ) (c : ClassItem) : Type 0 where
-  pub within : place + 4 * id_len size ≤ length bytes
-  pub are : links_at bytes size place ≡ c.super ∷ c.loader ∷ c.signers ∷ c.domain ∷ []
+pub record HasLinks (bytes : List ℕ) (size : IdSize) (offset : ℕ) (c : ClassItem) : Type 0 where
+  pub within : offset + 4 * id_len size ≤ length bytes
+  pub are : links_at bytes size offset ≡ c.super ∷ c.loader ∷ c.signers ∷ c.domain ∷ []
 
--- what the sub-record at a place has lies in the file: values and elements, and the IDs of classes behind the tag, the ID and
+-- what the sub-record at an offset has lies in the file: values and elements, and the IDs of classes behind the tag, the ID and
 -- the serial number, in an array behind its count too
 abbrev pub IsItemWithin : IdSize → List ℕ → ℕ → Item → Type 0
 IsItemWithin size bytes at (subs.Root kind id) = Unit {0}

@@ -11,14 +11,14 @@ row_slots i [] = []
 row_slots i (id ∷ []) = strong_slot slots.OfClass id ∷ []
 row_slots i (id ∷ next ∷ rest) = strong_slot (slots.Element i) id ∷ row_slots (i + 1) (next ∷ rest)
 
--- the place of a slot in a row of so many IDs: an element's is its number, the class stands last, and no row has another
-abbrev pub row_place : ℕ → Slot → Option ℕ
-row_place n (slots.Field i) = None
-row_place n (slots.Element i) = if nat_lt i (n - 1) then Some i else None
-row_place n (slots.Static i) = None
-row_place n (slots.Const i) = None
-row_place n slots.OfClass = if nat_lt 0 n then Some (n - 1) else None
-row_place n slots.Super = None
-row_place n slots.Loader = None
-row_place n slots.Signers = None
-row_place n slots.Domain = None
+-- the index of a slot in a row of so many IDs: an element's is its number, the class stands last, and no row has another
+abbrev pub row_index : ℕ → Slot → Option ℕ
+row_index n (slots.Field i) = None
+row_index n (slots.Element i) = if nat_lt i (n - 1) then Some i else None
+row_index n (slots.Static i) = None
+row_index n (slots.Const i) = None
+row_index n slots.OfClass = if nat_lt 0 n then Some (n - 1) else None
+row_index n slots.Super = None
+row_index n slots.Loader = None
+row_index n slots.Signers = None
+row_index n slots.Domain = None

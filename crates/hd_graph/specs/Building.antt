@@ -1,4 +1,4 @@
--- What the passes over the sub-records come to.
+-- What filling the rows and shapes of objects, sub-record by sub-record, comes to.
 use Rattle.std.specs.Prelude.{◌≡◌, ◌⊎◌, ◌<◌, ◌≤◌, ◌+◌, ◌^◌, ◌≢◌, ℕ, List, length, slice_get, [], ◌∷◌, ◌++◌, map, Option, Some, None, All}
 use Rattle.hd_terms.specs.declared.IdSize.{IdSize}
 use Rattle.hd_terms.specs.declared.errors.Cause.TheVariants as causes

@@ -1,4 +1,4 @@
--- What numbering the objects comes to.
+-- What numbering the objects in file order comes to.
 use Rattle.std.specs.Prelude.{◌≡◌, ◌⊎◌, ◌<◌, ◌==◌, ◌+◌, ◌&&◌, not, if◌then◌else◌, ℕ, Bool, true, false, List, slice_get, [], ◌∷◌, ◌++◌, map, count_by, is_none, Option, Some, All}
 use Rattle.std.specs.Option.{option_map, option_map_or}
 use Rattle.std.specs.List.{list_any, filter_map}
@@ -38,7 +38,7 @@ is_opaque known (PrimArray id element count) = false
 abbrev pub object_fault : KnownBy → IdSize → ℕ × Sub → Option ReadFault
 object_fault known size (id, s) = if id == 0 then fault_if true causes.NullObject s else fault_if (is_size_mismatch known size s.item) causes.InstanceSize s
 
--- the faults of objects, those that stand
+-- the faults of objects, of each ID the first
 abbrev pub object_faults : KnownBy → IdSize → List Sub → List ReadFault
 object_faults known size list = filter_map (object_fault known size) (first_subs list)
 
@@ -47,7 +47,7 @@ abbrev pub IsObjectFaultOrMemory : KnownBy → IdSize → List Sub → ReadFault
 IsObjectFaultOrMemory known size list f = (f ≡ fault causes.OutOfMemory 0) ⊎ (slice_get (object_faults known size list) 0 ≡ Some f)
 
 -- these are the IDs of the objects among sub-records, each once, and the roots, and what is counted of them; no ID is 0,
--- and no instance that stands is a misfit
+-- and no instance has values of another size than its class
 pub record IsNumbered (known : KnownBy) (size : IdSize) (list : List Sub) (ids : List ℕ) (roots : List RootRow) (tally : Tally) : Type 0 where
   pub ids_are : ids ≡ object_ids list
   pub known_ids : (id : ℕ) → list_any (λ k. id == k) ids ≡ list_any (λ k. id == k) (filter_map object_id list)
@@ -68,13 +68,13 @@ pub record NotesObject (known : KnownBy) (size : IdSize) (item : Item) (id : ℕ
   pub fits : is_noted ids id ≡ false → is_size_mismatch known size item ≡ false
   pub opaque : tally'.opaque ≡ tally.opaque + (if not (is_noted ids id) && is_opaque known item then 1 else 0)
 
--- out of memory, or a fault of an object of an ID at a place: its ID is 0, or it is new and doesn't fit
+-- out of memory, or a fault of an object of an ID at an offset: its ID is 0, or it is new and doesn't fit
 pub data IsObjectStop (known : KnownBy) (size : IdSize) (item : Item) (id offset : ℕ) (ids : List ℕ) : ReadFault → Type 0 where
   memory : IsObjectStop known size item id offset ids (fault causes.OutOfMemory 0)
   null : id ≡ 0 → IsObjectStop known size item id offset ids (fault causes.NullObject offset)
   size_mismatch : 0 < id → is_noted ids id ≡ false → is_size_mismatch known size item ≡ true → IsObjectStop known size item id offset ids (fault causes.InstanceSize offset)
 
--- out of memory, or the ID 0 at a place
+-- out of memory, or the ID 0 at an offset
 abbrev pub IsNullIdOrMemory : ℕ → ℕ → ReadFault → Type 0
 IsNullIdOrMemory id offset f = (f ≡ fault causes.OutOfMemory 0) ⊎ ((id ≡ 0) × (f ≡ fault causes.NullObject offset))
 

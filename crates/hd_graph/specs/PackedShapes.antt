@@ -1,4 +1,4 @@
--- How shapes are kept: that of a class by its place among the classes, that of an instance by the number of its class.
+-- How shapes are kept: that of a class by its index among the classes, that of an instance by the number of its class.
 use Rattle.std.specs.Prelude.{ℕ, ◌<◌, ◌≤◌, List, [], map, length, All}
 use Rattle.std.specs.List.{slice_index_or}
 use Rattle.hd_graph.specs.declared.shape.ClassShape.{ClassShape}
@@ -29,22 +29,22 @@ pub record ShapeLists : Type 0 where
   pub objects : List ObjectShape
   pub layouts : List ObjectShape
 
--- the shape at a place
+-- the shape at an index
 abbrev pub shape_at : List ObjectShape → ℕ → ObjectShape
-shape_at shapes place = slice_index_or shapes place (ClassObject 0 [])
+shape_at shapes index = slice_index_or shapes index (ClassObject 0 [])
 
 -- a shape as it is kept, over the classes and the layouts
 abbrev pub kept_shape : List ClassShape → List LayoutShape → PackedShape → ObjectShape
 kept_shape classes layouts (kept.ObjectArray bytes) = ObjectArray bytes
 kept_shape classes layouts (kept.PrimitiveArray element bytes) = PrimitiveArray element bytes
-kept_shape classes layouts (kept.Class place) = shape_at (map class_shape_view classes) place
+kept_shape classes layouts (kept.Class index) = shape_at (map class_shape_view classes) index
 kept_shape classes layouts (kept.Instance class) = shape_at (map layout_view layouts) class
 
--- a class and a layout have their places among so many
+-- a class and a layout have their indexes among so many
 abbrev pub IsPackedOver : ℕ → ℕ → PackedShape → Type 0
 IsPackedOver n m (kept.ObjectArray bytes) = Unit {0}
 IsPackedOver n m (kept.PrimitiveArray element bytes) = Unit {0}
-IsPackedOver n m (kept.Class place) = place < n
+IsPackedOver n m (kept.Class index) = index < n
 IsPackedOver n m (kept.Instance class) = class < m
 
 -- shapes over so many classes, no more than there are shapes, and so many layouts

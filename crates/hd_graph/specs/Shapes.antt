@@ -12,7 +12,7 @@ use Rattle.hd_terms.specs.declared.EdgeKind.{EdgeKind}
 use Rattle.hd_terms.specs.declared.EdgeKind.TheVariants as kinds
 use Rattle.hd_terms.specs.EditedDump.{slot_code, same_slot, is_slot}
 use Rattle.hd_slots.specs.Cuts.{last_from}
-use Rattle.hd_graph.specs.Arrays.{row_slots, row_place}
+use Rattle.hd_graph.specs.Arrays.{row_slots, row_index}
 
 pub data ObjectShape : Type 0 where
   -- an object array, or an instance of a class that isn't known, and its recorded bytes
@@ -58,7 +58,7 @@ shape_slots (PrimitiveArray element bytes) row = row_slots 0 row
 shape_slots (ClassObject bytes names) row = named_slots names row
 shape_slots (Instance bytes names referent kind) row = map (with_kind referent kind) (named_slots names row)
 
--- the name of the slot at a place of an object with so many: the last of an array is its class
+-- the name of the slot at an index of an object with so many: the last of an array is its class
 abbrev pub slot_name : ObjectShape → ℕ → ℕ → Slot
 slot_name (ObjectArray bytes) n i = if i == n - 1 then slots.OfClass else slots.Element i
 slot_name (PrimitiveArray element bytes) n i = if i == n - 1 then slots.OfClass else slots.Element i
@@ -72,7 +72,7 @@ slot_kind (PrimitiveArray element bytes) slot = kinds.Strong
 slot_kind (ClassObject bytes names) slot = kinds.Strong
 slot_kind (Instance bytes names referent kind) slot = referent_kind referent kind slot
 
--- a class object or an instance has a name for a place
+-- a class object or an instance has a name for an index
 abbrev pub IsNamedAt : ObjectShape → ℕ → Type 0
 IsNamedAt (ObjectArray bytes) i = Unit {0}
 IsNamedAt (PrimitiveArray element bytes) i = Unit {0}
@@ -86,12 +86,12 @@ HasFewNames (PrimitiveArray element bytes) = Unit {0}
 HasFewNames (ClassObject bytes names) = length names < 2 ^ 32
 HasFewNames (Instance bytes names referent kind) = length names < 2 ^ 32
 
--- the place of a slot in an object with so many
-abbrev pub shape_place : ObjectShape → ℕ → Slot → Option ℕ
-shape_place (ObjectArray bytes) n slot = row_place n slot
-shape_place (PrimitiveArray element bytes) n slot = row_place n slot
-shape_place (ClassObject bytes names) n slot = position (λ (name : Slot). same_slot name slot) names
-shape_place (Instance bytes names referent kind) n slot = position (λ (name : Slot). same_slot name slot) names
+-- the index of a slot in an object with so many
+abbrev pub shape_index : ObjectShape → ℕ → Slot → Option ℕ
+shape_index (ObjectArray bytes) n slot = row_index n slot
+shape_index (PrimitiveArray element bytes) n slot = row_index n slot
+shape_index (ClassObject bytes names) n slot = position (λ (name : Slot). same_slot name slot) names
+shape_index (Instance bytes names referent kind) n slot = position (λ (name : Slot). same_slot name slot) names
 
 -- the slot that is an object's referent
 abbrev pub shape_referent : ObjectShape → Option Slot

@@ -1,4 +1,4 @@
-//! Counting what a dump has.
+//! Counting the objects, roots, references and repeated records of a dump.
 ghost use Rattle.std.specs.Prelude.{◌≡◌, ◌<◌, ◌≤◌, length, sum_by};
 ghost use Rattle.hd_terms.specs.Counts.{counts_of, unresolved_of};
 ghost use Rattle.hd_terms.specs.Dump.{object_at};

@@ -1,11 +1,11 @@
-//! The graph as it is read: numbers of objects, their slots, the roots.
+//! Looking up the graph: objects by number or ID, their slots, their sizes, and the roots.
 ghost use Rattle.std.specs.Prelude.{◌≡◌, ◌<◌, ◌^◌, ℕ, length, map, position, slice_get, Some, true, ◌≤◌, All};
 ghost use Rattle.hd_terms.specs.Edges.{index_of};
 ghost use Rattle.hd_terms.specs.EditedDump.{same_slot};
 ghost use Rattle.hd_terms.specs.Dump.{SlotEntry, object_at};
 ghost use Rattle.hd_terms.specs.declared.Slot.{Slot};
-ghost use Rattle.hd_graph.specs.Arrays.{row_place};
-ghost use Rattle.hd_graph.specs.Shapes.{shape_bytes, slot_name, slot_kind, shape_place, shape_referent, IsNamedAt, HasFewNames};
+ghost use Rattle.hd_graph.specs.Arrays.{row_index};
+ghost use Rattle.hd_graph.specs.Shapes.{shape_bytes, slot_name, slot_kind, shape_index, shape_referent, IsNamedAt, HasFewNames};
 ghost use Rattle.hd_graph.specs.PackedShapes.{shape_view};
 
 use crate::shape::{Shape, Shapes};
@@ -61,13 +61,13 @@ pub struct RootRead {
     pub object: Option<u32>,
 }
 
-/// The place of a slot in a row of so many IDs, if the row has it: elements first, then the class.
-fn place_in_row(len: u32, slot: Slot) -> Option<u32>
-    ensures { result ≡ row_place len slot }
+/// The index of a slot in a row of so many IDs, if the row has it: elements first, then the class.
+fn index_in_row(len: u32, slot: Slot) -> Option<u32>
+    ensures { result ≡ row_index len slot }
 {
     let class = len.checked_sub(1)?;
     match slot {
-        Slot::Element(place) if place < class => Some(place),
+        Slot::Element(i) if i < class => Some(i),
         Slot::OfClass => Some(class),
         _ => None,
     }
@@ -91,8 +91,8 @@ fn is_same_slot(a: Slot, b: Slot) -> bool
     }
 }
 
-/// The place of a slot among names, if it is there.
-fn place_among(names: &[Slot], slot: Slot) -> Option<u32>
+/// The index of a slot among names, if it is there.
+fn index_among(names: &[Slot], slot: Slot) -> Option<u32>
     requires { length names.now < 2 ^ 32 }
     ensures { result ≡ position (λ (name : Slot). same_slot name slot) names.now }
 {
@@ -104,9 +104,9 @@ fn place_among(names: &[Slot], slot: Slot) -> Option<u32>
     None
 }
 
-/// The name of the slot at a place of an object with so many.
+/// The name of the slot at an index of an object with so many.
 fn slot_at(shape: Shape<'_>, len: u32, i: u32) -> Slot
-    requires place { i < len }
+    requires index { i < len }
     requires named { IsNamedAt (shape_view shape) i }
     ensures { result ≡ slot_name (shape_view shape.entry) len i }
 {
@@ -118,16 +118,16 @@ fn slot_at(shape: Shape<'_>, len: u32, i: u32) -> Slot
     }
 }
 
-/// The place of a slot among those of an object with so many, if it has the slot.
-fn place_in(shape: Shape<'_>, len: u32, slot: Slot) -> Option<u32>
+/// The index of a slot among those of an object with so many, if it has the slot.
+fn index_in(shape: Shape<'_>, len: u32, slot: Slot) -> Option<u32>
     requires { HasFewNames (shape_view shape) }
-    ensures { result ≡ shape_place (shape_view shape.entry) len slot }
+    ensures { result ≡ shape_index (shape_view shape.entry) len slot }
 {
     match shape {
-        Shape::ObjectArray { .. } => place_in_row(len, slot),
-        Shape::PrimitiveArray { .. } => place_in_row(len, slot),
-        Shape::Class(class) => place_among(class.names.as_slice(), slot),
-        Shape::Instance(layout) => place_among(layout.names.as_slice(), slot),
+        Shape::ObjectArray { .. } => index_in_row(len, slot),
+        Shape::PrimitiveArray { .. } => index_in_row(len, slot),
+        Shape::Class(class) => index_among(class.names.as_slice(), slot),
+        Shape::Instance(layout) => index_among(layout.names.as_slice(), slot),
     }
 }
 
@@ -285,12 +285,12 @@ impl Graph {
         self.slot_table.row_len(o)
     }
 
-    /// The slot at a place of an object: of an instance its fields that are references first, its class's own before its
+    /// The slot at an index of an object: of an instance its fields that are references first, its class's own before its
     /// super class's, then its class; of an object array its elements, then its class; of a class its statics and constants
     /// that are references, then its super class, loader, signers and protection domain. A primitive array has none.
     pub fn slots(&self, o: u32, i: u32) -> SlotRead
         requires object { o < length self.now.objects }
-        requires place { i < length (object_at self.now o).slots }
+        requires index { i < length (object_at self.now o).slots }
         ensures entry { slice_get (object_at self.now o).slots i ≡ Some (record { slot = result.slot; kind = result.kind; id = result.id }) }
         ensures target { result.target ≡ index_of self.now.objects result.id }
     {
@@ -305,13 +305,13 @@ impl Graph {
         }
     }
 
-    /// The place of a slot among those of an object, if the object has it.
+    /// The index of a slot among those of an object, if the object has it.
     pub fn place_of(&self, o: u32, slot: Slot) -> Option<u32>
         requires { o < length self.now.objects }
         ensures first { result ≡ position (λ (s : SlotEntry). same_slot s.slot slot) (object_at self.now o).slots }
         ensures only { (i : ℕ) (s : SlotEntry) → slice_get (object_at self.now o).slots i ≡ Some s → same_slot s.slot slot ≡ true → result ≡ Some i }
     {
-        place_in(self.shapes.get(o), self.slot_table.row_len(o), slot)
+        index_in(self.shapes.get(o), self.slot_table.row_len(o), slot)
     }
 
     /// The slot that is a reference object's referent, if the object has one. No array and no class has.

@@ -1,4 +1,4 @@
-//! The shapes of instances: one for each class that is known.
+//! What all instances of a class share: their size and the names of their slots, one for each resolved class.
 ghost use Rattle.std.specs.Prelude.{◌≡◌, ◌<◌, ◌^◌, ℕ, length, map, All, IfOk};
 ghost use Rattle.hd_terms.specs.Classes as classes_of;
 ghost use Rattle.hd_terms.specs.Classes.{layout_len};

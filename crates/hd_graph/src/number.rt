@@ -1,4 +1,4 @@
-//! Numbering objects: each ID gets its number, and what is wrong with an object is found.
+//! Numbering objects in file order, and finding those with ID 0 or with values of the wrong size.
 ghost use Rattle.std.specs.Prelude.{◌≡◌, ◌+◌, ◌<◌, ◌^◌, ℕ, true, not, if◌then◌else◌, length, All, IfOk, IfErr, OnOk};
 ghost use Rattle.hd_terms.specs.Classes as classes_of;
 ghost use Rattle.hd_terms.specs.SubRecords.{Instance};

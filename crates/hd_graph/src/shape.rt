@@ -1,4 +1,4 @@
-//! What is kept of objects beside their references.
+//! What is kept of each object beside its references: its kind, its recorded bytes and the names of its slots.
 ghost use Rattle.std.specs.Prelude.{◌≡◌, ◌<◌, ◌-◌, ◌^◌, [], ◌∷◌, ◌++◌, length, map, slice_get, Some, IfOk, OnOk};
 ghost use Rattle.hd_graph.specs.Shapes.{ObjectArray, PrimitiveArray};
 ghost use Rattle.hd_graph.specs.PackedShapes.{shape_view, class_shape_view, layout_view, shape_at, IsPackedOver, kept_shape};
@@ -26,13 +26,13 @@ pub(crate) enum Shape<'a> {
     Instance(&'a LayoutShape),
 }
 
-/// A shape in eight bytes. Of a class it is its place among the classes, of an instance the number of its class among those
+/// A shape in eight bytes. Of a class it is its index among the classes, of an instance the number of its class among those
 /// that are known.
 #[derive(Clone, Copy, Debug)]
 pub(crate) enum PackedShape {
     ObjectArray { bytes: u32 },
     PrimitiveArray { element: u8, bytes: u32 },
-    Class { place: u32 },
+    Class { index: u32 },
     Instance { class: u32 },
 }
 
@@ -69,7 +69,7 @@ fn shape_of<'a>(
     match kept {
         PackedShape::ObjectArray { bytes } => Shape::ObjectArray { bytes },
         PackedShape::PrimitiveArray { element, bytes } => Shape::PrimitiveArray { element, bytes },
-        PackedShape::Class { place } => Shape::Class(&classes[place as usize]),
+        PackedShape::Class { index } => Shape::Class(&classes[index as usize]),
         PackedShape::Instance { class } => Shape::Instance(&layouts[class as usize]),
     }
 }
@@ -134,10 +134,10 @@ impl Shapes {
         requires { length self.old.objects < 2 ^ 32 - 1 }
         ensures { OnOk result (self.new ≡ record self.old { objects = self.old.objects ++ class_shape_view class ∷ [] }) }
     {
-        let place = self.classes.len() as u32;
+        let index = self.classes.len() as u32;
         self.kept.reserve(1)?;
         self.classes.push(class)?;
-        self.kept.push_reserved(PackedShape::Class { place });
+        self.kept.push_reserved(PackedShape::Class { index });
         Ok(())
     }
 }

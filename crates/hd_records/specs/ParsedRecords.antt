@@ -32,7 +32,7 @@ pub record IsCutOffRecord (rest : List ℕ) : Type 0 where
 abbrev saying : ℕ → List ℕ → Record
 saying tag body = record { tag = tag; time = []; size = []; body = body }
 
--- the text of the record at a place, if it has one
+-- the text of the record at an offset, if it has one
 abbrev pub texts_of : IdSize → ℕ → ℕ → List ℕ → List Text
 texts_of size at tag body = filter_map (text_of size) ((at, saying tag body) ∷ [])
 
@@ -40,6 +40,6 @@ texts_of size at tag body = filter_map (text_of size) ((at, saying tag body) ∷
 abbrev pub loads_of : IdSize → ℕ → List ℕ → List Load
 loads_of size tag body = filter_map (load_of size) (saying tag body ∷ [])
 
--- where the body of the record at a place lies, if it is a segment
+-- where the body of the record at an offset lies, if it is a segment
 abbrev pub spans_of : ℕ → ℕ → List ℕ → List Span
 spans_of at tag body = segment_spans at (saying tag body ∷ [])

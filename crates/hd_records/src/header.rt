@@ -1,4 +1,4 @@
-//! The size of a file and its header.
+//! Reading the header of a file, and the largest file that is read.
 ghost use Rattle.std.specs.Prelude.{◌≡◌, ◌+◌, ◌≤◌, ◌↔◌, length, drop, IsOk, IfOk, IfErr};
 ghost use Rattle.byteorder.specs.Endian.{big_number};
 ghost use Rattle.hd_terms.specs.declared.errors.Cause.TheVariants.{TooLarge};
@@ -36,7 +36,7 @@ pub fn check_size(len: u64) -> Result<(), ReadFault>
     Ok(())
 }
 
-/// The number of four bytes at a place.
+/// The number of four bytes at an offset.
 pub fn number_at(bytes: &[u8], at: usize) -> u32
     requires { at + 4 ≤ length bytes.now }
     ensures { result ≡ big_number 4 (drop at bytes.now) }

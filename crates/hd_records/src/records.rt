@@ -1,4 +1,4 @@
-//! The records, one after another.
+//! Reading the records of a file, one after another.
 ghost use Rattle.std.specs.Prelude.{◌≡◌, ◌≢◌, ◌+◌, ◌≤◌, ◌<◌, ◌^◌, [], ◌++◌, length, IfOk, IfErr, OnOk, MatchOption};
 ghost use Rattle.hd_terms.specs.ReadFaults.{IsStuckRecord};
 ghost use Rattle.hd_terms.specs.Records as records;
@@ -97,7 +97,7 @@ fn read_record(id_size: IdSize, rest: &[u8]) -> Result<ParsedRecord<'_>, Cause>
     Ok(parsed)
 }
 
-/// Notes the text of the record at a place, if it is a UTF8 record.
+/// Notes the text of the record at a file offset, if it is a UTF8 record.
 fn note_text(
     texts: &mut Vec<Text>,
     id_size: IdSize,
@@ -140,7 +140,7 @@ fn note_load(
     Ok(())
 }
 
-/// Notes where the body of the record at a place lies, if it is a segment.
+/// Notes where the body of the record at a file offset lies, if it is a segment.
 fn note_segment(
     spans: &mut Vec<Span>,
     at: usize,

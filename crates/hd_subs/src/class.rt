@@ -1,4 +1,4 @@
-//! What a CLASS DUMP holds.
+//! A class object as its CLASS DUMP has it: IDs, constants, statics and instance fields.
 use hd_terms::Span;
 
 /// A constant of a class's constant pool.

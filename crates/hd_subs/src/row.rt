@@ -1,4 +1,4 @@
-//! How a sub-record is kept in a list.
+//! A sub-record packed into 32 bytes.
 ghost use Rattle.std.specs.Prelude.{◌+◌, ◌<◌, ◌^◌};
 
 use hd_terms::RootKind;

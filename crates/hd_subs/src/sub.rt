@@ -1,4 +1,4 @@
-//! One sub-record, as callers read it.
+//! One sub-record as callers read it: a root, a class, an instance or an array.
 use crate::class::ClassDump;
 use hd_terms::{RootKind, Span};
 

@@ -3,7 +3,7 @@ use Rattle.std.specs.List.{position, slice_get}
 use Rattle.hd_terms.specs.Dump.{Dump, object_at, SlotEntry}
 use Rattle.hd_terms.specs.EditedDump.{same_slot}
 use Rattle.hd_slots.specs.Table.{row_at}
-use Rattle.hd_graph.specs.Shapes.{ObjectShape, HasShape, HasFewNames, shape_place, shape_slots, row_objects}
+use Rattle.hd_graph.specs.Shapes.{ObjectShape, HasShape, HasFewNames, shape_index, shape_slots, row_objects}
 use Rattle.hd_graph.specs.PackedShapes.{shape_view}
 use Rattle.std.proofs.lemmas.Option.{get_or_from_slice_get}
 use Rattle.hd_graph.proofs.ArrayLemmas.{length-row_objects, slots-at, fit-at, any_shape}
@@ -24,8 +24,8 @@ row_len-requires c =
     let few = length-row_objects a.shapes.objects a.slot_table.ids a.slot_table.rows c.self.invariant.columns in
     omega (arith, few, c.self.invariant.columns.rows)
 
-pub place_in-requires : goal.place_in-requires
-place_in-requires c =
+pub index_in-requires : goal.index_in-requires
+index_in-requires c =
     let a = c.self.inside in
     let lt : c.args.o < length (row_objects a.shapes.objects a.slot_table.ids a.slot_table.rows) = rw (← c.self.view_is) at c.requires in
     let few = length-row_objects a.shapes.objects a.slot_table.ids a.slot_table.rows c.self.invariant.columns in
@@ -41,9 +41,9 @@ returns-clause-first c =
     let few = length-row_objects a.shapes.objects a.slot_table.ids a.slot_table.rows c.self.invariant.columns in
     let is : get_or a.shapes.objects c.args.o any_shape ≡ shape_view c.get.result = get_or_from_slice_get a.shapes.objects c.args.o (shape_view c.get.result) any_shape c.get.ensures in
     let fit : HasShape (get_or a.shapes.objects c.args.o any_shape) (row_at a.slot_table c.args.o) = fit-at a.shapes.objects a.slot_table.rows c.self.invariant.columns.fit any_shape c.args.o (omega (arith, few, c.self.invariant.columns.rows)) in
-    c.place_in.ensures
-    ∙ ap (λ (n : ℕ). shape_place (shape_view c.get.result) n c.args.slot) c.row_len.ensures
-    ∙ ap (λ (s : ObjectShape). shape_place s (length (row_at a.slot_table c.args.o)) c.args.slot) (sym is)
+    c.index_in.ensures
+    ∙ ap (λ (n : ℕ). shape_index (shape_view c.get.result) n c.args.slot) c.row_len.ensures
+    ∙ ap (λ (s : ObjectShape). shape_index s (length (row_at a.slot_table c.args.o)) c.args.slot) (sym is)
     ∙ first-place-of (get_or a.shapes.objects c.args.o any_shape) (row_at a.slot_table c.args.o) c.args.slot fit
     ∙ ap (λ (ss : List SlotEntry). position (λ (s : SlotEntry). same_slot s.slot c.args.slot) ss) (sym (slots-at a.shapes.objects a.slot_table.ids a.slot_table.rows c.self.invariant.columns any_shape c.args.o lt))
     ∙ ap (λ (dump : Dump). position (λ (s : SlotEntry). same_slot s.slot c.args.slot) (object_at dump c.args.o).slots) c.self.view_is
@@ -58,7 +58,7 @@ returns-clause-only c = λ i s at same.
     let here : slice_get (shape_slots (get_or a.shapes.objects c.args.o any_shape) (row_at a.slot_table c.args.o)) i ≡ Some s =
     ap (λ (ss : List SlotEntry). slice_get ss i) (sym (slots-at a.shapes.objects a.slot_table.ids a.slot_table.rows c.self.invariant.columns any_shape c.args.o lt))
     ∙ ap (λ (dump : Dump). slice_get (object_at dump c.args.o).slots i) c.self.view_is ∙ at in
-    c.place_in.ensures
-    ∙ ap (λ (n : ℕ). shape_place (shape_view c.get.result) n c.args.slot) c.row_len.ensures
-    ∙ ap (λ (x : ObjectShape). shape_place x (length (row_at a.slot_table c.args.o)) c.args.slot) (sym is)
+    c.index_in.ensures
+    ∙ ap (λ (n : ℕ). shape_index (shape_view c.get.result) n c.args.slot) c.row_len.ensures
+    ∙ ap (λ (x : ObjectShape). shape_index x (length (row_at a.slot_table c.args.o)) c.args.slot) (sym is)
     ∙ place-of (get_or a.shapes.objects c.args.o any_shape) (row_at a.slot_table c.args.o) c.args.slot i s fit here same

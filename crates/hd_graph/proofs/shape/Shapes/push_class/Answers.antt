@@ -8,4 +8,4 @@ pub returns : goal.returns
 returns c =
     rw (c.in_ok-push.ensures.items, c.push_reserved.ensures.items, c.in_ok-reserve.ensures.items, ← c.self.view_is)
     (ap (λ (ss : List ObjectShape). let s : ShapeLists = record { objects = ss; layouts = map layout_view c.self.inside.layouts.items } in s)
-    (class-push c.self.inside.layouts.items c.self.inside.classes.items c.args.class c.self.inside.kept.items _ c.self.invariant.over (c.len-place.ensures ∙ c.self.inside.classes.ok.0)))
+    (class-push c.self.inside.layouts.items c.self.inside.classes.items c.args.class c.self.inside.kept.items _ c.self.invariant.over (c.len-index.ensures ∙ c.self.inside.classes.ok.0)))

@@ -1,4 +1,4 @@
--- What the list of sub-records says of the sub-records of the definition, by their places in the file.
+-- Lemmas on the rows of arrays: they are the slots that the definitions give to object arrays and primitive arrays.
 use Rattle.std.proofs.Common.{◌≡◌, ◌∙◌, ℕ, ◌+◌, ◌*◌, ◌/◌, ◌≤◌, List, [], ◌∷◌, ◌++◌, length, map, drop, Some, None, refl, sym, ap, subst, arith, append_assoc, length-append, mul_comm}
 use Rattle.std.specs.List.{AllByRecursion, concat}
 use Rattle.std.proofs.lemmas.List.{length-drop, drop-drop}

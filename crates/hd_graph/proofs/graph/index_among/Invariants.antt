@@ -3,7 +3,7 @@ use Rattle.std.specs.List.{prefix_len}
 use Rattle.std.specs.Prelude.{not}
 use Rattle.hd_terms.specs.declared.Slot.{Slot}
 use Rattle.hd_terms.specs.EditedDump.{same_slot}
-use Rattle.hd_graph.proofs.graph.place_among.Given as goal
+use Rattle.hd_graph.proofs.graph.index_among.Given as goal
 
 -- the names so far are others
 abbrev pub invariant-loop-i : goal.invariant-loop-i
