@@ -8,7 +8,7 @@ use Rattle.hd_terms.specs.declared.Support.TheVariants as supports
 use Rattle.hd_terms.specs.Ranks.{rank, given_by, weaker_of}
 use Rattle.hd_terms.specs.Paths.{Edge, Standing}
 use Rattle.hd_terms.specs.Settled.{Reached, reached_at, PassesOn, IsSupported, SupportedBy, Settled}
-use Rattle.hd_terms.proofs.RankLemmas.{same_rank, weaker-le_left}
+use Rattle.hd_terms.proofs.RankLemmas.{same_rank, weaker-le_left, least-positive}
 use Rattle.hd_strength.specs.declared.buckets.Offer.{Offer}
 use Rattle.hd_strength.specs.declared.buckets.Buckets.{Buckets}
 use Rattle.hd_strength.specs.Buckets.{bucket, TakesBest}
@@ -177,13 +177,13 @@ module _ (g : Standing) (at : ℕ → ℕ → Option Edge) (rows : AreRows g at)
   rank_here = ap (λ (k : Reached). rank k.strength) here
 
   source_stays : reached_at ks' e.source ≡ reached_at ks e.source
-  source_stays = stays e.source (omega (arith, passes))
+  source_stays = stays e.source (omega (arith, passes, least-positive g.mode))
 
   kept_support : (o : ℕ) (by : Support) → reached_at ks' o ≡ reached_at ks o → IsSupported g ks o by → IsSupported g ks' o by
   kept_support o supports.Nothing same is = rw same is
   kept_support o (supports.Root n) same is = (is.0, rw same is.1)
   kept_support o (supports.Edge source slot) same (f, is) =
-      let there : reached_at ks' source ≡ reached_at ks source = stays source (omega (arith, is.passes_on)) in (
+      let there : reached_at ks' source ≡ reached_at ks source = stays source (omega (arith, is.passes_on, least-positive g.mode)) in (
         f,
         record {
           stands = is.stands;
@@ -245,7 +245,7 @@ module _ (g : Standing) (at : ℕ → ℕ → Option Edge) (rows : AreRows g at)
 
   still_backed : (r : Strength) (y : Offer) → IsBacked g.mode at ks r y → IsBacked g.mode at ks' r y
   still_backed r y b =
-      let there : reached_at ks' y.source ≡ reached_at ks y.source = stays y.source (omega (arith, b.passes_on)) in
+      let there : reached_at ks' y.source ≡ reached_at ks y.source = stays y.source (omega (arith, b.passes_on, least-positive g.mode)) in
       let from : b.edge.source ≡ y.source = rows.source y.source y.place b.edge b.is in
       record {
         edge = b.edge;

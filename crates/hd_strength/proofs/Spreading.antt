@@ -4,6 +4,7 @@ use Rattle.std.proofs.lemmas.List.{get_or_past}
 use Rattle.hd_terms.specs.declared.Event.{Event}
 use Rattle.hd_terms.specs.declared.Strength.{Strength}
 use Rattle.hd_terms.specs.Ranks.{rank, least_passed_on}
+use Rattle.hd_terms.proofs.RankLemmas.{rank-le, least-positive}
 use Rattle.hd_terms.specs.Paths.{Edge}
 use Rattle.hd_terms.specs.Dump.{Dump}
 use Rattle.hd_terms.specs.EditedDump.{standing}
@@ -33,14 +34,14 @@ module _ (dump : Dump) (log : List Event) (ks : List Reached) (held : AreHeld du
   pub one_offers : (b' : Buckets) → 1 ≤ rank_at ks n → AddsOffers (edge_at dump log) ks n (width dump n) (bucket b) (bucket b') → HasOffered dump log ks b' (n + 1)
   one_offers b' reached adds =
       let five : rank_at ks n ≡ 5 = held_rank dump log ks n (held.each n) reached in
-      offered (standing dump log) (edge_at dump log) (rows_of dump log) ks (bucket b) (bucket b') 0 (λ o. o < n) (λ o. o < n + 1) n (width dump n) h adds (wide dump log n) (omega arith)
+      offered (standing dump log) (edge_at dump log) (rows_of dump log) ks (bucket b) (bucket b') 0 (λ o. o < n) (λ o. o < n + 1) n (width dump n) h adds (wide dump log n) (omega (arith, rank-le (least_passed_on dump.mode)))
       (λ p there. let fifth : rank_at ks p ≡ 5 = held_rank dump log ks p (held.each p) there in omega arith)
       (λ p lt. elim (cases_eq p n) [ inl same ↦ inr same | inr other ↦ inl (omega arith) ])
 
   pub none_offers : rank_at ks n ≤ 0 → HasOffered dump log ks b (n + 1)
   none_offers none = weaken (standing dump log) (edge_at dump log) ks (bucket b) 0 (λ o. o < n) (λ o. o < n + 1) h
       (λ p passes lt. elim (cases_eq p n) [
-        | inl same ↦ let r : rank_at ks p ≡ rank_at ks n = ap (rank_at ks) same in absurd (omega (arith, passes))
+        | inl same ↦ let r : rank_at ks p ≡ rank_at ks n = ap (rank_at ks) same in absurd (omega (arith, passes, least-positive dump.mode))
         | inr other ↦ omega arith
       ])
 
@@ -48,7 +49,7 @@ module _ (dump : Dump) (log : List Event) (ks : List Reached) (held : AreHeld du
   all_offered le = weaken (standing dump log) (edge_at dump log) ks (bucket b) 0 (λ o. o < n) Every h
       (λ p passes all. elim (cases_lt p n) [
         | inl lt ↦ lt
-        | inr past ↦ let none : rank_at ks p ≡ 0 = ap (λ (k : Reached). rank k.strength) (get_or_past ks p unreached (omega arith)) in absurd (omega (arith, passes))
+        | inr past ↦ let none : rank_at ks p ≡ 0 = ap (λ (k : Reached). rank k.strength) (get_or_past ks p unreached (omega arith)) in absurd (omega (arith, passes, least-positive dump.mode))
       ])
 
 -- one step: an offer is taken out and let go or taken

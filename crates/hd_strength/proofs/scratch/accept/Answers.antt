@@ -1,5 +1,5 @@
 use Rattle.std.proofs.Common.{◌≡◌, ◌∙◌, ℕ, ◌+◌, ◌<◌, ◌≤◌, ◌⊎◌, inl, inr, List, length, set, Some, None, refl, ap, sym, subst, arith}
-use Rattle.hd_terms.specs.Ranks.{rank}
+use Rattle.hd_terms.specs.Ranks.{rank, least_passed_on}
 use Rattle.hd_terms.proofs.RankLemmas.{least-positive}
 use Rattle.hd_terms.specs.Paths.{Edge}
 use Rattle.hd_terms.specs.Dump.{SlotEntry}
@@ -58,11 +58,12 @@ returns c = λ e is.
     let after : set ks t c.by_edge.result ≡ set ks e.target (kept_by c.args.best.strength e (c.args.count + 1)) =
     ap (λ (k : Reached). set ks t k) stored ∙ ap (λ (o : ℕ). set ks o (kept_by c.args.best.strength e (c.args.count + 1))) (sym target) in
     let takes = is_accepted dump.mode (edge_at dump log) (width dump) ks (set ks t c.by_edge.result) c.args.buckets.now c.if-rank.buckets c.args.best.strength e c.args.count lt (omega arith) gives after in
+    let least : rank c.least_passed_on.result ≡ rank (least_passed_on dump.mode) = ap rank (c.least_passed_on.ensures ∙ ap least_passed_on c.mode.ensures) in
     inr (elim c.if-rank.branch [
       | then-rank+in_ok-relax_edges w ↦ takes
           (λ high. rw w.buckets-is (subst (λ (o : ℕ). AddsOffers (edge_at dump log) (set ks t c.by_edge.result) o (width dump o) (bucket c.args.buckets.now) (bucket w.relax_edges.new.buckets)) (sym target)
           (subst (λ (ks' : List Reached). AddsOffers (edge_at dump log) ks' t (width dump t) (bucket c.args.buckets.now) (bucket w.relax_edges.new.buckets)) w.deref.ensures.value w.in_ok-relax_edges.ensures.adds)))
-          (λ low. absurd (low (omega arith)))
+          (λ low. absurd (low (omega (arith, least))))
           (rw w.buckets-is w.in_ok-relax_edges.ensures.few)
-      | else-rank w ↦ takes (λ high. absurd (omega arith)) (λ low. w.buckets-is) (rw w.buckets-is (omega arith))
+      | else-rank w ↦ takes (λ high. absurd (omega (arith, least))) (λ low. w.buckets-is) (rw w.buckets-is (omega arith))
     ])
