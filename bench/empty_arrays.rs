@@ -1,5 +1,8 @@
 //! Writes the dump of a size that has the most object arrays: those without elements alone, with identifiers of four
-//! bytes, and a root on the first: `empty_arrays FILE BYTES`.
+//! bytes, and a root on the first.
+//!
+//! Build:  rustc --edition 2021 -O bench/empty_arrays.rs -o empty_arrays
+//! Run:    ./empty_arrays FILE BYTES
 //!
 //! The file has as many arrays as fit into so many bytes. It prints on standard error how many bytes and objects it has.
 

@@ -1,7 +1,7 @@
 //! Writes a synthetic heap dump of object arrays, or of instances too, for measuring.
 //!
-//! Build:  rustc --edition 2021 -O generate.rs
-//! Run:    generate PATH BYTES ID_SIZE SEED [absent|present|instances]
+//! Build:  rustc --edition 2021 -O bench/generate.rs -o generate
+//! Run:    ./generate PATH BYTES ID_SIZE SEED [absent|present|instances]
 //!
 //! The file is in the HPROF binary format, format name JAVA PROFILE 1.0.2: a header, HEAP DUMP SEGMENT records with
 //! bodies of at most 1 MiB, and a HEAP DUMP END. The only sub-records are ROOT UNKNOWN and OBJECT ARRAY DUMP, and with

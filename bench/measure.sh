@@ -1,7 +1,7 @@
 #!/usr/bin/env bash
 # Measures how long a program takes to open a heap dump and compute one strength, and how much memory it needs, beside
-# a plain reading of the same file and a plain Rust program that does the same work, in the same run. Prints a Markdown
-# table.
+# a plain reading of the same file and a plain Rust program that opens it and computes the strengths too, in the same
+# run. The plain program also counts references and totals as `hdesk stat` does. Prints a Markdown table.
 #
 #   bench/measure.sh PROGRAM [SIZE..]
 #
@@ -199,9 +199,10 @@ here=$(cd -P "$(dirname "$(readlink -f "${BASH_SOURCE[0]}")")" && pwd)
 room=$(mktemp -d)
 trap 'rm -rf "$room"' EXIT
 trap 'exit 130' INT TERM
-for tool in generate read plain; do
+for tool in generate read; do
     rustc --edition 2021 -O "$here/$tool.rs" -o "$room/$tool"
 done
+rustc --edition 2021 -O "$here/plain/main.rs" -o "$room/plain"
 
 echo '| Dump | Bytes | Objects | `cat`, s | Plain reading, s | Plain program, s | Opening and one strength, s | Ratio to plain reading | Ratio to plain program | Peak memory to file | Plain program'"'"'s peak to file |'
 echo '|---|---|---|---|---|---|---|---|---|---|---|'

@@ -1,7 +1,7 @@
 //! Reads a whole file into memory, as a measure to compare with: what nothing that reads the file can be faster than.
 //!
-//! Build:  rustc --edition 2021 -O read.rs
-//! Run:    read PATH
+//! Build:  rustc --edition 2021 -O bench/read.rs -o read
+//! Run:    ./read PATH
 //!
 //! The bytes go into one `Vec` of exactly the file's length. Then every 4,096th byte is added up, and the sum printed,
 //! so that the reading can't be left out.

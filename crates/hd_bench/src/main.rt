@@ -5,14 +5,15 @@
 //! part took. Without words it does nothing.
 #![tactic(auto)]
 
-ghost use Rattle.std.specs.Prelude.{◌≤◌, IfOk};
+ghost use Rattle.std.specs.Prelude.{IfOk};
+ghost use Rattle.hd_terms.specs.Workers.{IsWorkers};
 
 use anyhow::{Context, Result, anyhow};
 use hd_decode::NoGate;
 use hd_graph::{Graph, open_dump};
 use hd_records::check_size;
 use hd_state::State;
-use hd_terms::{Edit, Event, Slot, What};
+use hd_terms::{MOST_WORKERS, Edit, Event, Slot, What};
 use std::env;
 use std::fs::{self, File};
 use std::io::Read;
@@ -42,10 +43,10 @@ fn id_of(word: &str) -> Result<u64> {
 
 /// The number of workers that decimal digits spell.
 fn workers_of(word: &str) -> Result<u32>
-    ensures { IfOk result (λ workers. (1 ≤ workers) × (workers ≤ 16)) }
+    ensures { IfOk result IsWorkers }
 {
     let workers: u32 = word.parse()?;
-    if workers == 0 || workers > 16 {
+    if workers == 0 || workers > MOST_WORKERS {
         return Err(anyhow!("workers are 1 to 16"));
     }
     Ok(workers)
@@ -118,8 +119,7 @@ fn opened<R: Files<File = File> + Clock + Print + AllocGlobal + Threads + Sync>(
     path: &str,
     workers: u32,
 ) -> Result<State>
-    requires some { 1 ≤ workers }
-    requires few { workers ≤ 16 }
+    requires workers { IsWorkers workers }
 {
     let start = Instant::now(rt)?;
     let bytes = read_file(rt, path)?;

@@ -3,7 +3,7 @@ use Rattle.std.proofs.Common.{◌≡◌, ◌∙◌, ℕ, suc, ◌+◌, ◌≤◌
 use Rattle.std.specs.List.{list_any, filter_map, cons_option, enumerate_from}
 use Rattle.std.proofs.lemmas.List.{append-nil, map-append}
 use Rattle.std.proofs.Math.Seq.{take-append_seam}
-use Rattle.hd_terms.specs.FirstRecords.{standing_one, first_of_each}
+use Rattle.hd_terms.specs.FirstRecords.{first_one, first_of_each}
 use Rattle.hd_classes.specs.Firsts.{firsts_from, firsts}
 
 module _ {X : Type 0} (key : X → ℕ) where
@@ -65,15 +65,15 @@ module _ {X : Type 0} (key : X → ℕ) where
   case-stands true x R S e = e
   case-stands false x R S e = ap (λ (r : List X). x ∷ r) e
 
-  stands-from : (before xs : List X) → filter_map (standing_one key (before ++ xs)) (enumerate_from (length before) xs) ≡ firsts_from key before xs
+  stands-from : (before xs : List X) → filter_map (first_one key (before ++ xs)) (enumerate_from (length before) xs) ≡ firsts_from key before xs
   stands-from before [] = refl
   stands-from before (x ∷ xs) =
       let all = before ++ x ∷ xs in
-      let rest : filter_map (standing_one key all) (enumerate_from (length before + 1) xs) ≡ firsts_from key (before ++ x ∷ []) xs =
-      ap (λ (ys : List X). filter_map (standing_one key ys) (enumerate_from (length before + 1) xs)) (sym (append_assoc before (x ∷ []) xs))
-      ∙ ap (λ (n : ℕ). filter_map (standing_one key ((before ++ x ∷ []) ++ xs)) (enumerate_from n xs)) (sym (length-append before (x ∷ [])))
+      let rest : filter_map (first_one key all) (enumerate_from (length before + 1) xs) ≡ firsts_from key (before ++ x ∷ []) xs =
+      ap (λ (ys : List X). filter_map (first_one key ys) (enumerate_from (length before + 1) xs)) (sym (append_assoc before (x ∷ []) xs))
+      ∙ ap (λ (n : ℕ). filter_map (first_one key ((before ++ x ∷ []) ++ xs)) (enumerate_from n xs)) (sym (length-append before (x ∷ [])))
       ∙ stands-from (before ++ x ∷ []) xs in
-      ap (λ (ys : List X). cons_option (cond (list_any (λ (y : X). eqb (key x) (key y)) ys) None (Some x)) (filter_map (standing_one key all) (enumerate_from (length before + 1) xs))) (take-append_seam before (x ∷ xs))
+      ap (λ (ys : List X). cons_option (cond (list_any (λ (y : X). eqb (key x) (key y)) ys) None (Some x)) (filter_map (first_one key all) (enumerate_from (length before + 1) xs))) (take-append_seam before (x ∷ xs))
       ∙ case-stands (list_any (λ (y : X). eqb (key x) (key y)) before) x _ _ rest
 
   -- the definition's first of each key are these

@@ -19,7 +19,7 @@ use Rattle.hd_terms.specs.declared.errors.ReadFault.{ReadFault}
 use Rattle.hd_terms.specs.declared.Load.{Load}
 use Rattle.hd_terms.specs.ReadFaults.{fault}
 use Rattle.hd_terms.specs.SubRecords.{ClassItem, Sub}
-use Rattle.hd_terms.specs.Classes.{ClassTable, ChainPrefix, LayoutField, ResolvedClass, class_at, longest_prefix, never_ends, chain_of, resolved_class, known_by, layout_of, referent_in, reference_kind, text_of_id, first_classes, class_table}
+use Rattle.hd_terms.specs.Classes.{ClassTable, ChainPrefix, LayoutField, ResolvedClass, class_at, longest_prefix, never_ends, chain_of, resolved_class, resolved_by, layout_of, referent_in, reference_kind, text_of_id, first_classes, class_table}
 use Rattle.hd_terms.specs.HeapFaults.{class_faults}
 use Rattle.hd_records.specs.declared.records.Records.{Records}
 use Rattle.hd_classes.specs.declared.known.ResolvedClass as declared_class
@@ -59,7 +59,7 @@ module _ (t : ClassTable) (id : ℕ) (w : Walk) (some : id ≡ 0 → ⊥) (h : I
   chain-by : (b : Bool) → eqb up.end 0 ≡ b → chain_of t.classes id ≡ cond b (Some up.classes) None
   chain-by b e = ap (λ (x : Bool). cond x None (cond (eqb up.end 0) (Some up.classes) None)) (ne_eqb id 0 some) ∙ ap (λ (x : Bool). cond x (Some up.classes) None) e
 
-  known-walk : known_of_walk t w ≡ known_by t up.classes
+  known-walk : known_of_walk t w ≡ resolved_by t up.classes
   known-walk =
       let of : List ℕ → List LayoutField → ResolvedClass = λ (ids : List ℕ) (fs : List LayoutField). record { chain = ids; layout = fs; referent = referent_in t fs; kind = kind_among t ids } in
       ap (λ (ids : List ℕ). of ids (map field_view w.layout.items)) h.chain
@@ -68,7 +68,7 @@ module _ (t : ClassTable) (id : ℕ) (w : Walk) (some : id ≡ 0 → ⊥) (h : I
 
   pub whole-known : w.end ≡ 0 → resolved_class t id ≡ Some (known_of_walk t w)
   whole-known end =
-      ap (option_map (known_by t)) (chain-by true (eq-eqb up.end 0 (sym h.end ∙ end))) ∙ ap (λ (k : ResolvedClass). Some k) (sym known-walk)
+      ap (option_map (resolved_by t)) (chain-by true (eq-eqb up.end 0 (sym h.end ∙ end))) ∙ ap (λ (k : ResolvedClass). Some k) (sym known-walk)
 
   pub whole-ends : w.end ≡ 0 → never_ends t.classes id ≡ false
   whole-ends end = ap (λ (n : ℕ). is_some (class_at t.classes n)) (sym h.end ∙ end)
@@ -78,7 +78,7 @@ module _ (t : ClassTable) (id end : ℕ) (some : id ≡ 0 → ⊥) (is_end : end
   pub end-unknown : (end ≡ 0 → ⊥) → resolved_class t id ≡ None
   end-unknown other =
       let up : ChainPrefix = longest_prefix t.classes id in
-      ap (option_map (known_by t))
+      ap (option_map (resolved_by t))
       (ap (λ (x : Bool). cond x None (cond (eqb up.end 0) (Some up.classes) None)) (ne_eqb id 0 some)
       ∙ ap (λ (x : Bool). let o : Option (List ClassItem) = cond x (Some up.classes) None in o) (ne_eqb up.end 0 (λ (e : up.end ≡ 0). other (is_end ∙ e))))
 
@@ -199,9 +199,9 @@ absent-chain : (t : ClassTable) (id : ℕ) → class_at t.classes id ≡ None �
 absent-chain t id none (inl (e, zero)) = zero-unknown t id zero
 absent-chain t id none (inr (e, some)) =
     let end : (longest_prefix t.classes id).end ≡ id = chain_prefix-none t.classes (length t.classes) id none in
-    ap (λ (b : Bool). option_map (known_by t) (cond b None (cond (eqb (longest_prefix t.classes id).end 0) (Some (longest_prefix t.classes id).classes) None))) e
-    ∙ ap (λ (n : ℕ). option_map (known_by t) (cond (eqb n 0) (Some (longest_prefix t.classes id).classes) None)) end
-    ∙ ap (λ (b : Bool). option_map (known_by t) (cond b (Some (longest_prefix t.classes id).classes) None)) e
+    ap (λ (b : Bool). option_map (resolved_by t) (cond b None (cond (eqb (longest_prefix t.classes id).end 0) (Some (longest_prefix t.classes id).classes) None))) e
+    ∙ ap (λ (n : ℕ). option_map (resolved_by t) (cond (eqb n 0) (Some (longest_prefix t.classes id).classes) None)) end
+    ∙ ap (λ (b : Bool). option_map (resolved_by t) (cond b (Some (longest_prefix t.classes id).classes) None)) e
 
 length-map : {X Y : Type 0} (f : X → Y) (xs : List X) → length (map f xs) ≡ length xs
 length-map f [] = refl

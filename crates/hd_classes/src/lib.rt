@@ -12,6 +12,3 @@ mod source;
 
 pub use classes::Classes;
 pub use known::{LayoutField, ResolvedClass};
-
-#[cfg(test)]
-mod tests;

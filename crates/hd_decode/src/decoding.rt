@@ -1,5 +1,6 @@
 //! Decoding the segments of a dump on worker threads; the sub-records come in file order.
 ghost use Rattle.std.specs.Prelude.{◌≤◌, ◌<◌, ◌^◌, length, All, IfOk, IfErr, OnOk};
+ghost use Rattle.hd_terms.specs.Workers.{IsWorkers};
 ghost use Rattle.hd_records.specs.Reading.{ReadsRecords};
 ghost use Rattle.hd_subs.specs.Reading.{AppendsSegment, IsSegmentFaultOrMemory};
 ghost use Rattle.hd_terms.specs.Classes.{bytes_of_span};
@@ -74,8 +75,7 @@ pub fn decode<R: Threads + Sync, G: Gate>(
     gate: &G,
 ) -> Result<DumpSubs, ReadFault>
     requires records { ReadsRecords bytes.now records.now.id_size records.now.strings records.now.loads records.now.segments }
-    requires some { 1 ≤ workers }
-    requires few { workers ≤ 16 }
+    requires workers { IsWorkers workers }
     ensures ok { IfOk result (λ list. ReadsBodies records.now.id_size bytes.now records.now.segments list) }
     ensures err { IfErr result (λ f. IsBodiesFaultOrMemory records.now.id_size bytes.now records.now.segments f) }
 {

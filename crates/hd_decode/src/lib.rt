@@ -7,6 +7,3 @@ mod shares;
 
 pub use decoding::decode;
 pub use gate::{Gate, NoGate};
-
-#[cfg(test)]
-mod tests;

@@ -229,7 +229,7 @@ split-here list i s is = sym (take-append-drop (i + 1) list) ∙ ap (λ (xs : Li
 -- a fault of the sub-record at a place is the first of all
 pub lifted : (known : KnownBy) (size : IdSize) (list : List Sub) (i : ℕ) (s : Sub) (ids : List ℕ) (roots : List RootRow) (tally : Tally) (f : ReadFault) → slice_get list i ≡ Some s
     → IsNumbered known size (take i list) ids roots tally → StopsAt known size s ids f → IsObjectFaultOrMemory known size list f
-lifted known size list i s ids roots tally f is h (inl no_memory) = inl no_memory
+lifted known size list i s ids roots tally f is h (inl out_of_memory_reply) = inl out_of_memory_reply
 lifted known size list i s ids roots tally f is h (inr (id, at, stop)) =
     subst (λ (l : List Sub). IsObjectFaultOrMemory known size l f) (sym (split-here list i s is)) (stop-fault known size (take i list) s (drop (i + 1) list) ids roots tally h id at f stop)
 

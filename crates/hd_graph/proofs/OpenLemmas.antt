@@ -20,6 +20,7 @@ use Rattle.hd_terms.specs.HeapFaults.{fault_if, class_faults}
 use Rattle.hd_terms.specs.Roots.{roots_of}
 use Rattle.hd_terms.specs.Dump.{Object, Root, Repeated}
 use Rattle.hd_terms.specs.Objects as objects
+use Rattle.hd_terms.specs.declared.Mode.TheVariants as modes
 use Rattle.hd_terms.specs.Objects.{classes_of, object_of, objects_of, opaque_in, IsDumpOf, repeated_of}
 use Rattle.hd_terms.specs.ReadFaults.{in_records, in_sub_records, in_classes, in_objects, IsSubRecordsFault, IsSegmentFault}
 use Rattle.hd_records.specs.Reading.{ReadsRecords, IsRecordsFaultOrMemory}
@@ -168,7 +169,7 @@ module _ (bytes : List ℕ) (size : IdSize) (strings : List Text) (classes : Lis
 
     -- a class whose chain never ends
     pub class-fault : (f : ReadFault) → IsClassFaultOrMemory table list f → IsReadFaultOrMemory bytes f
-    class-fault f (inl no_memory) = inl no_memory
+    class-fault f (inl out_of_memory_reply) = inl out_of_memory_reply
     class-fault f (inr h) = inr (in_classes size r.records b.segments r.header r.whole dump_bodies (ap (λ (fs : List ReadFault). slice_get fs 0) (sym faults-are) ∙ h))
 
     module _ (k : Known) (h : AreClassesOf table k) (no_cycle : class_faults table list ≡ []) where
@@ -200,7 +201,7 @@ module _ (bytes : List ℕ) (size : IdSize) (strings : List Text) (classes : Lis
 
       -- an object with ID 0, or one that doesn't fit
       pub object-fault : (f : ReadFault) → IsObjectFaultOrMemory known size list f → IsReadFaultOrMemory bytes f
-      object-fault f (inl no_memory) = inl no_memory
+      object-fault f (inl out_of_memory_reply) = inl out_of_memory_reply
       object-fault f (inr e) = inr (in_objects size r.records b.segments r.header r.whole dump_bodies no-cycle (ap (λ (fs : List ReadFault). slice_get fs 0) (sym object-faults-are) ∙ e))
 
       module _ (ids : List ℕ) (roots : List RootRow) (tally : Tally) (n : IsNumbered known size list ids roots tally) where
@@ -276,7 +277,7 @@ module _ (bytes : List ℕ) (size : IdSize) (strings : List Text) (classes : Lis
                 ∙ ap (λ (m : ℕ). record { objects = repeats (λ (x : Object). x.id) (filter_map (object_of real size) (all_of real bytes size b.segments)); strings = repeats (λ (x : Text). x.id) (texts size r.records); loads = m })
                 (loads_are ∙ ap (repeats (λ (x : Load). x.class)) r.loads_are)
 
-            pub opened : IsDumpOf bytes (record { objects = row_objects c.shapes t.ids t.rows; roots = map root_of_row roots; repeated = again; opaque = tally.opaque })
+            pub opened : IsDumpOf bytes (record { mode = modes.Direct; objects = row_objects c.shapes t.ids t.rows; roots = map root_of_row roots; repeated = again; opaque = tally.opaque })
             opened = record {
               size = size;
               records = r.records;
@@ -288,10 +289,10 @@ module _ (bytes : List ℕ) (size : IdSize) (strings : List Text) (classes : Lis
                 classes = no-cycle;
                 objects = sym object-faults-are ∙ n.no_fault;
               };
-              is = ap (λ (xs : List Object). record { objects = xs; roots = map root_of_row roots; repeated = again; opaque = tally.opaque }) objects_are
-                  ∙ ap (λ (xs : List Root). record { objects = objects_of real size (all_of real bytes size b.segments); roots = xs; repeated = again; opaque = tally.opaque }) roots_are
-                  ∙ ap (λ (x : Repeated). record { objects = objects_of real size (all_of real bytes size b.segments); roots = roots_of size (all_of real bytes size b.segments); repeated = x; opaque = tally.opaque }) again_is
-                  ∙ ap (λ (m : ℕ). record { objects = objects_of real size (all_of real bytes size b.segments); roots = roots_of size (all_of real bytes size b.segments); repeated = repeated_of real size r.records (all_of real bytes size b.segments); opaque = m }) opaque_are;
+              is = ap (λ (xs : List Object). record { mode = modes.Direct; objects = xs; roots = map root_of_row roots; repeated = again; opaque = tally.opaque }) objects_are
+                  ∙ ap (λ (xs : List Root). record { mode = modes.Direct; objects = objects_of real size (all_of real bytes size b.segments); roots = xs; repeated = again; opaque = tally.opaque }) roots_are
+                  ∙ ap (λ (x : Repeated). record { mode = modes.Direct; objects = objects_of real size (all_of real bytes size b.segments); roots = roots_of size (all_of real bytes size b.segments); repeated = x; opaque = tally.opaque }) again_is
+                  ∙ ap (λ (m : ℕ). record { mode = modes.Direct; objects = objects_of real size (all_of real bytes size b.segments); roots = roots_of size (all_of real bytes size b.segments); repeated = repeated_of real size r.records (all_of real bytes size b.segments); opaque = m }) opaque_are;
             }
 
 pub records-fault : (bytes : List ℕ) (f : ReadFault) → IsRecordsFaultOrMemory bytes f → IsReadFaultOrMemory bytes f

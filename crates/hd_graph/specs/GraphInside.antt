@@ -14,9 +14,10 @@ root_of_row r = record { kind = r.kind; id = r.id }
 abbrev pub repeated_in : Repeats → Repeated
 repeated_in r = record { objects = r.objects; strings = r.strings; loads = r.loads }
 
--- a row and a shape for each object, the roots, what is repeated, and how many instances are opaque
+-- how phantom references are followed; a row and a shape for each object, the roots, what is repeated, and how many instances are opaque
 abbrev pub dump_of_graph : Inside → Dump
 dump_of_graph a = record {
+  mode = a.mode;
   objects = row_objects a.shapes.objects a.slot_table.ids a.slot_table.rows;
   roots = map root_of_row a.roots.items;
   repeated = repeated_in a.repeats;

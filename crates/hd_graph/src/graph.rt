@@ -10,7 +10,7 @@ ghost use Rattle.hd_graph.specs.PackedShapes.{shape_view};
 
 use crate::shape::{Shape, Shapes};
 use hd_slots::SlotTable;
-use hd_terms::{EdgeKind, Group, RootKind, Slot};
+use hd_terms::{EdgeKind, Group, Mode, RootKind, Slot};
 use std::marker::Model;
 
 /// The objects, references and roots of a dump. Objects are numbered from 0 in file order.
@@ -21,6 +21,7 @@ pub struct Graph {
     roots: Vec<RootRow>,
     repeats: Repeats,
     opaque: u64,
+    mode: Mode,
 }
 
 /// How many sub-records of objects and records have the ID of an earlier one.
@@ -181,20 +182,21 @@ impl Graph {
     ghost use Rattle.hd_graph.specs.Shapes.{IsSmall, AreColumns, row_objects};
     ghost use Rattle.hd_graph.specs.GraphInside.{root_of_row, repeated_in};
 
-    /// The graph of references and shapes, a row and a shape for each object, and roots, what was repeated, and how many
-    /// instances are opaque.
+    /// The graph of references and shapes, a row and a shape for each object, and roots, what was repeated, how many
+    /// instances are opaque, and how phantom references are followed.
     pub(crate) fn new(
         slot_table: SlotTable,
         shapes: Shapes,
         roots: Vec<RootRow>,
         repeats: Repeats,
         opaque: u64,
+        mode: Mode,
     ) -> Graph
         requires columns { AreColumns shapes.objects slot_table.ids slot_table.rows }
         requires small { All IsSmall shapes.objects }
         requires few { length slot_table.ids < 2 ^ 31 }
         requires few_roots { length roots.items < 2 ^ 32 }
-        ensures { result ≡ record { objects = row_objects shapes.objects slot_table.ids slot_table.rows; roots = map root_of_row roots.items; repeated = repeated_in repeats; opaque = opaque } }
+        ensures { result ≡ record { mode = mode; objects = row_objects shapes.objects slot_table.ids slot_table.rows; roots = map root_of_row roots.items; repeated = repeated_in repeats; opaque = opaque } }
     {
         Graph {
             slot_table,
@@ -202,6 +204,7 @@ impl Graph {
             roots,
             repeats,
             opaque,
+            mode,
         }
     }
 
@@ -217,6 +220,13 @@ impl Graph {
         ensures { result ≡ self.now.opaque }
     {
         self.opaque
+    }
+
+    /// How phantom references are followed in this dump.
+    pub fn mode(&self) -> Mode
+        ensures { result ≡ self.now.mode }
+    {
+        self.mode
     }
 
     /// How many objects the dump has.

@@ -1,6 +1,7 @@
 //! Opening a heap dump: the passes over its records and sub-records that make its graph.
 ghost use Rattle.std.specs.Prelude.{◌≡◌, ◌≤◌, [], IfOk, IfErr};
 ghost use Rattle.std.specs.Arc.{arc_value};
+ghost use Rattle.hd_terms.specs.Workers.{IsWorkers};
 ghost use Rattle.hd_terms.specs.Objects.{IsDumpOf};
 ghost use Rattle.hd_terms.specs.Classes.{class_table};
 ghost use Rattle.hd_terms.specs.HeapFaults.{class_faults};
@@ -17,7 +18,7 @@ use hd_classes::Classes;
 use hd_decode::{Gate, decode};
 use hd_records::{Records, read_records};
 use hd_subs::DumpSubs;
-use hd_terms::ReadFault;
+use hd_terms::{Mode, ReadFault};
 use std::alloc::Global;
 use std::sync::Arc;
 use std::thread::Threads;
@@ -55,7 +56,14 @@ impl Graph {
             strings,
             loads,
         };
-        Ok(Graph::new(slot_table, shapes, roots, repeats, tally.opaque))
+        Ok(Graph::new(
+            slot_table,
+            shapes,
+            roots,
+            repeats,
+            tally.opaque,
+            Mode::Direct,
+        ))
     }
 }
 
@@ -74,8 +82,7 @@ pub fn open_dump<R: Threads + Sync, G: Gate>(
     workers: u32,
     gate: &G,
 ) -> Result<Arc<Graph>, ReadFault>
-    requires some { 1 ≤ workers }
-    requires few { workers ≤ 16 }
+    requires workers { IsWorkers workers }
     ensures ok { IfOk result (λ graph. IsDumpOf bytes.now (arc_value graph)) }
     ensures err { IfErr result (λ f. IsReadFaultOrMemory bytes.now f) }
 {

@@ -4,9 +4,11 @@ ghost use Rattle.std.specs.List.{list_any};
 ghost use Rattle.hd_terms.specs.declared.Event.{Event};
 ghost use Rattle.hd_terms.specs.declared.What.TheVariants as whats;
 ghost use Rattle.hd_terms.specs.Log.{IsEvent, full_fault, last_live, live_flags, log_fault, own_live, undo_fault, undoes_what};
+ghost use Rattle.hd_terms.specs.EditedDump.{adds_root, is_root, live_edit_at};
+ghost use Rattle.hd_terms.specs.Appending.{append_refusal, root_refusal};
 ghost use Rattle.hd_log.specs.Flags.{are_edits, is_edit};
 
-use hd_terms::{Event, LogFault, NoMemory, What};
+use hd_terms::{Edit, Event, LogFault, NoMemory, Refusal, What};
 use std::alloc::Global;
 
 /// The most events of a log.
@@ -80,6 +82,55 @@ pub fn log_fault(events: &[Event], event: Event) -> Option<LogFault>
         }
     }
     full_fault(events)
+}
+
+/// Whether event k is live and adds a root.
+fn adds_root(events: &[Event], k: u32) -> bool
+    requires { k < length events.now }
+    ensures { result ≡ adds_root (live_edit_at events.now k) }
+{
+    let event = events[k as usize];
+    matches!(event.what, What::Do(Edit::Add(_))) && !is_taken_back(events, k)
+}
+
+/// Whether a root has this number: one of the dump's, of which there are so many, or that of a live event that adds one.
+fn is_root(events: &[Event], roots: u64, r: u64) -> bool
+    requires { length events.now < 2 ^ 32 }
+    ensures { result ≡ is_root roots events.now r }
+{
+    if r < roots {
+        return true;
+    }
+    let k = r - roots;
+    k < events.len() as u64 && adds_root(events, k as u32)
+}
+
+/// Why an edit can't be done to the roots, if there is a reason.
+fn root_refusal(events: &[Event], roots: u64, edit: Edit) -> Option<Refusal>
+    requires { length events.now < 2 ^ 32 }
+    ensures { result ≡ root_refusal roots events.now edit }
+{
+    match edit {
+        Edit::Drop(r) if !is_root(events, roots, r) => Some(Refusal::NoSuchRoot),
+        Edit::Cut(_, _) | Edit::Clear(_) | Edit::Drop(_) | Edit::Add(_) => None,
+    }
+}
+
+/// Why a log doesn't take an event over a dump of so many roots, the first reason, if there is one.
+pub fn append_refusal(events: &[Event], roots: u64, event: Event) -> Option<Refusal>
+    requires { length events.now < 2 ^ 32 }
+    ensures { result ≡ append_refusal roots events.now event }
+{
+    if let What::Do(edit) = event.what {
+        let refusal = root_refusal(events, roots, edit);
+        if refusal.is_some() {
+            return refusal;
+        }
+    }
+    match log_fault(events, event) {
+        Some(fault) => Some(Refusal::Log(fault)),
+        None => None,
+    }
 }
 
 /// Of each event, whether it is an edit.

@@ -2,9 +2,10 @@
 ghost use Rattle.std.specs.Prelude.{◌≡◌, ◌⊎◌, ◌↔◌, ◌<◌, ◌≤◌, ◌++◌, ◌∷◌, [], None, Some, length, slice_get, IfErr, IfOk, IsNone};
 ghost use Rattle.hd_terms.specs.declared.errors.LogFault.TheVariants.{OutOfMemory};
 ghost use Rattle.hd_terms.specs.Log.{IsLawful, largest_log, last_live, live_flags, log_fault};
+ghost use Rattle.hd_terms.specs.Appending.{append_refusal};
 
 use crate::events;
-use hd_terms::{Event, LogFault, NoMemory};
+use hd_terms::{Event, LogFault, NoMemory, Refusal, lawful_logs};
 use std::alloc::Global;
 use std::marker::Model;
 
@@ -59,6 +60,16 @@ impl Front {
         ensures lawful { IsNone result ↔ IsLawful (self.now ++ event.now ∷ []) }
     {
         events::log_fault(&self.events, *event)
+    }
+
+    /// Why an event can't be appended over a dump of so many roots, the first reason, or `None` where it can: what an undo
+    /// names, the root that a drop names, and last that the log is full. It takes no memory.
+    pub fn append_refusal(&self, roots: u64, event: &Event) -> Option<Refusal>
+        ensures refusal { result ≡ append_refusal roots self.now event.now }
+        ensures lawful { IsNone result → log_fault self.now event.now ≡ None }
+    {
+        lawful_logs();
+        events::append_refusal(&self.events, roots, *event)
     }
 
     /// The log with one more event, or why there is none: the log's own reason, or else that memory ran out.

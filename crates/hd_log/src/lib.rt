@@ -3,7 +3,5 @@
 
 mod events;
 mod front;
-#[cfg(test)]
-mod tests;
 
 pub use front::Front;

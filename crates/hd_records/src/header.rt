@@ -1,8 +1,8 @@
 //! Reading the header of a file, and the largest file that is read.
-ghost use Rattle.std.specs.Prelude.{◌≡◌, ◌+◌, ◌≤◌, ◌↔◌, length, take, drop, IsTrue, IsOk, IfOk, IfErr};
+ghost use Rattle.std.specs.Prelude.{◌≡◌, ◌+◌, ◌≤◌, ◌↔◌, length, drop, IsOk, IfOk, IfErr};
 ghost use Rattle.byteorder.specs.Endian.{big_number};
 ghost use Rattle.hd_terms.specs.declared.errors.Cause.TheVariants.{TooLarge};
-ghost use Rattle.hd_terms.specs.Records.{magic, largest_file, HasHeader};
+ghost use Rattle.hd_terms.specs.Records.{has_magic, largest_file, HasHeader};
 ghost use Rattle.hd_terms.specs.ReadFaults.{fault, IsRecordsFault};
 
 use byteorder::{BigEndian, ByteOrder};
@@ -47,7 +47,7 @@ pub fn number_at(bytes: &[u8], at: usize) -> u32
 /// Whether the bytes begin with the text that a file begins with.
 fn has_magic(bytes: &[u8]) -> bool
     requires { 19 ≤ length bytes.now }
-    ensures { IsTrue result ↔ (take 19 bytes.now ≡ magic) }
+    ensures { result ≡ has_magic bytes.now }
 {
     &bytes[..MAGIC.len()] == MAGIC.as_slice()
 }

@@ -12,6 +12,3 @@ mod records;
 pub use header::check_size;
 pub use record_list::{Loads, RecordList, Segments, Texts};
 pub use records::{Records, read_records};
-
-#[cfg(test)]
-mod tests;

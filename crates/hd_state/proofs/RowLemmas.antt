@@ -8,7 +8,7 @@ use Rattle.hd_terms.specs.declared.SlotRow.{SlotRow}
 use Rattle.hd_terms.specs.declared.SlotMode.TheVariants as modes
 use Rattle.hd_terms.specs.Dump.{SlotEntry, Object, Dump}
 use Rattle.hd_terms.specs.Edges.{index_of}
-use Rattle.hd_terms.specs.EditedDump.{slot_stands}
+use Rattle.hd_terms.specs.EditedDump.{is_untouched}
 use Rattle.hd_terms.specs.SlotRows.{slot_row, mode_of}
 use Rattle.hd_graph.specs.declared.graph.SlotRead.{SlotRead}
 use Rattle.hd_state.specs.Shown.{shown}
@@ -19,10 +19,11 @@ not_not false = refl
 
 -- what is read of a slot is shown as the slot is under the log
 pub shown-slot : (dump : Dump) (log : List Event) (x : Object) (read : SlotRead) (removed : Bool)
-    → read.target ≡ index_of dump.objects read.id → removed ≡ not (slot_stands log x read.slot)
+    → read.target ≡ index_of dump.objects read.id → removed ≡ not (is_untouched log x (record { slot = read.slot; kind = read.kind; id = read.id }))
     → shown read removed ≡ slot_row dump log x (record { slot = read.slot; kind = read.kind; id = read.id })
 shown-slot dump log x read removed target is =
-    let stands : not removed ≡ slot_stands log x read.slot = ap not is ∙ not_not (slot_stands log x read.slot) in
+    let s : SlotEntry = record { slot = read.slot; kind = read.kind; id = read.id } in
+    let stands : not removed ≡ is_untouched log x s = ap not is ∙ not_not (is_untouched log x s) in
     ap (λ t. record { slot = read.slot; kind = read.kind; id = read.id; mode = cond (eqb read.id 0) modes.Null (mode_of t (not removed)) }) target
     ∙ ap (λ (b : Bool). record { slot = read.slot; kind = read.kind; id = read.id; mode = cond (eqb read.id 0) modes.Null (mode_of (index_of dump.objects read.id) b) }) stands
 

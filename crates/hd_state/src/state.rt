@@ -58,9 +58,10 @@ impl State {
     ///
     /// # Errors
     ///
-    /// Want of memory.
+    /// Memory ran out.
     pub fn open(alloc: Global, graph: Arc<Graph>) -> Result<State, NoMemory>
-        ensures { IfOk result (λ s. s ≡ record { dump = arc_value graph; log = [] }) }
+        ensures dump { IfOk result (λ s. s.dump ≡ arc_value graph) }
+        ensures log { IfOk result (λ s. s.log ≡ []) }
     {
         let front = Front::empty(alloc)?;
         let strengths = from_scratch(alloc, &graph, &front)?;
@@ -75,10 +76,11 @@ impl State {
     ///
     /// # Errors
     ///
-    /// Want of memory.
+    /// Memory ran out.
     pub fn step(&self, alloc: Global, event: Event) -> Result<(State, Done), NoMemory>
         requires { log_fault self.now.log event ≡ None }
-        ensures state { IfOk result (λ r. r.0 ≡ record { dump = self.now.dump; log = self.now.log ++ event ∷ [] }) }
+        ensures dump { IfOk result (λ r. r.0.dump ≡ self.now.dump) }
+        ensures log { IfOk result (λ r. r.0.log ≡ self.now.log ++ event ∷ []) }
         ensures done { IfOk result (λ r. IsDone self.now.dump self.now.log (self.now.log ++ event ∷ []) r.1) }
     {
         settled_supports_give_strengths();
@@ -137,7 +139,7 @@ impl State {
     ///
     /// # Errors
     ///
-    /// Want of memory.
+    /// Memory ran out.
     pub fn slots(&self, alloc: Global, o: u32) -> Result<Vec<SlotRow>, NoMemory>
         requires { o < length self.now.dump.objects }
         ensures { IfOk result (λ v. v.items ≡ slot_rows self.now.dump self.now.log (object_at self.now.dump o)) }

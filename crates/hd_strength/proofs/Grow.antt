@@ -102,7 +102,7 @@ decline g at ks old new count s x e h t is reached = record {
 
 -- only objects that pass their strength on have offers
 pub weaken : (g : Standing) (at : ℕ → ℕ → Option Edge) (ks : List Reached) (offers : Strength → List Offer) (count : ℕ) (D D' : ℕ → Type 0)
-    → IsGrowing g at ks offers count D → ((o : ℕ) → PassesOn (reached_at ks o) → D' o → D o) → IsGrowing g at ks offers count D'
+    → IsGrowing g at ks offers count D → ((o : ℕ) → PassesOn g.mode (reached_at ks o) → D' o → D o) → IsGrowing g at ks offers count D'
 weaken g at ks offers count D D' h part = record {
   supported = h.supported;
   by_roots = h.by_roots;
@@ -115,7 +115,7 @@ weaken g at ks offers count D D' h part = record {
 -- one more object offers what it gives
 module _ (g : Standing) (at : ℕ → ℕ → Option Edge) (rows : AreRows g at) (ks : List Reached) (old new : Strength → List Offer) (count : ℕ) (D D' : ℕ → Type 0) (o n : ℕ)
     (h : IsGrowing g at ks old count D) (adds : AddsOffers at ks o n old new) (wide : (i : ℕ) (e : Edge) → at o i ≡ Some e → i < n)
-    (passes : PassesOn (reached_at ks o)) (floor : (p : ℕ) → 1 ≤ rank_at ks p → rank_at ks o ≤ rank_at ks p) (part : (p : ℕ) → D' p → D p ⊎ (p ≡ o)) where
+    (passes : PassesOn g.mode (reached_at ks o)) (floor : (p : ℕ) → 1 ≤ rank_at ks p → rank_at ks o ≤ rank_at ks p) (part : (p : ℕ) → D' p → D p ⊎ (p ≡ o)) where
   gives-le : (i : ℕ) (e : Edge) → at o i ≡ Some e → rank (offered_strength ks e) ≤ rank_at ks o
   gives-le i e is = let same : rank_at ks e.source ≡ rank_at ks o = ap (rank_at ks) (rows.source o i e is) in omega (arith, offered_strength-le ks e)
 
@@ -142,7 +142,7 @@ module _ (g : Standing) (at : ℕ → ℕ → Option Edge) (rows : AreRows g at)
       | inr made ↦ record {
         edge = made.1;
         is = subst (λ (p : ℕ). at p y.place ≡ Some made.1) (sym made.0) made.2;
-        passes_on = subst (λ (p : ℕ). PassesOn (reached_at ks p)) (sym made.0) passes;
+        passes_on = subst (λ (p : ℕ). PassesOn g.mode (reached_at ks p)) (sym made.0) passes;
         gives = made.3;
       }
     ];
@@ -157,14 +157,14 @@ module _ (g : Standing) (at : ℕ → ℕ → Option Edge) (rows : AreRows g at)
     (h : IsGrowing g at ks old count Every) (t : Takes old new s x) (is : at x.source x.place ≡ Some e) (low : rank_at ks e.target ≡ 0)
     (here : reached_at ks' e.target ≡ record { strength = s; support = supports.Edge e.source e.slot; stamp = count + 1 })
     (others : (o : ℕ) → o ≢ e.target → reached_at ks' o ≡ reached_at ks o) where
-  back : IsBacked at ks s x
+  back : IsBacked g.mode at ks s x
   back = h.backed s x t.offer.made
 
   source : e.source ≡ x.source
   source = rows.source x.source x.place e is
 
-  passes : PassesOn (reached_at ks e.source)
-  passes = subst (λ (o : ℕ). PassesOn (reached_at ks o)) (sym source) back.passes_on
+  passes : PassesOn g.mode (reached_at ks e.source)
+  passes = subst (λ (o : ℕ). PassesOn g.mode (reached_at ks o)) (sym source) back.passes_on
 
   gives : s ≡ offered_strength ks e
   gives = back.gives ∙ ap (offered_strength ks) (edge_at_offer at x e is x.source x.place back.edge refl back.is)
@@ -243,7 +243,7 @@ module _ (g : Standing) (at : ℕ → ℕ → Option Edge) (rows : AreRows g at)
   same_offered_strength : (f : Edge) → reached_at ks' f.source ≡ reached_at ks f.source → offered_strength ks' f ≡ offered_strength ks f
   same_offered_strength f same = ap (λ (k : Reached). weaker_of k.strength (given_by f.kind)) same
 
-  still_backed : (r : Strength) (y : Offer) → IsBacked at ks r y → IsBacked at ks' r y
+  still_backed : (r : Strength) (y : Offer) → IsBacked g.mode at ks r y → IsBacked g.mode at ks' r y
   still_backed r y b =
       let there : reached_at ks' y.source ≡ reached_at ks y.source = stays y.source (omega (arith, b.passes_on)) in
       let from : b.edge.source ≡ y.source = rows.source y.source y.place b.edge b.is in
@@ -254,7 +254,7 @@ module _ (g : Standing) (at : ℕ → ℕ → Option Edge) (rows : AreRows g at)
         gives = b.gives ∙ sym (same_offered_strength b.edge (subst (λ (o : ℕ). reached_at ks' o ≡ reached_at ks o) (sym from) there));
       }
 
-  still_done : (o i : ℕ) (f : Edge) → o ≢ e.target → at o i ≡ Some f → PassesOn (reached_at ks' o) → (rank (offered_strength ks' f) ≤ rank_at ks' f.target) ⊎ Contains (new (offered_strength ks' f)) (offer_at o i)
+  still_done : (o i : ℕ) (f : Edge) → o ≢ e.target → at o i ≡ Some f → PassesOn g.mode (reached_at ks' o) → (rank (offered_strength ks' f) ≤ rank_at ks' f.target) ⊎ Contains (new (offered_strength ks' f)) (offer_at o i)
   still_done o i f other there p =
       let same : reached_at ks' o ≡ reached_at ks o = others o other in
       let offered_strengths : offered_strength ks' f ≡ offered_strength ks f = same_offered_strength f (subst (λ (o : ℕ). reached_at ks' o ≡ reached_at ks o) (sym (rows.source o i f there)) same) in

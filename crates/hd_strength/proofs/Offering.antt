@@ -5,6 +5,7 @@ use Rattle.std.proofs.lemmas.Bool.Decides.{nat_tests}
 use Rattle.std.proofs.lemmas.List.{get_or-set_same, get_or-set_other, length-set}
 use Rattle.std.proofs.lemmas.List.Sums.{sum_by-set, sum_by-le}
 use Rattle.hd_terms.specs.declared.Event.{Event}
+use Rattle.hd_terms.specs.declared.Mode.{Mode}
 use Rattle.hd_terms.specs.declared.Strength.{Strength}
 use Rattle.hd_terms.specs.declared.Strength.TheVariants as strengths
 use Rattle.hd_terms.specs.declared.Support.TheVariants as supports
@@ -95,13 +96,13 @@ abbrev pub kept_by : Strength → Edge → ℕ → Reached
 kept_by s e stamp = record { strength = s; support = supports.Edge e.source e.slot; stamp = stamp }
 
 -- the target of an offer takes it
-module _ (at : ℕ → ℕ → Option Edge) (width : ℕ → ℕ) (ks ks' : List Reached) (b b' : Buckets) (s : Strength) (e : Edge) (count : ℕ)
+module _ (mode : Mode) (at : ℕ → ℕ → Option Edge) (width : ℕ → ℕ) (ks ks' : List Reached) (b b' : Buckets) (s : Strength) (e : Edge) (count : ℕ)
     (lt : e.target < length ks) (low : rank_at ks e.target ≡ 0) (some : 1 ≤ rank s) (same : ks' ≡ set ks e.target (kept_by s e (count + 1))) where
   fewer : unreached_count ks' + 1 ≡ unreached_count ks
   fewer = omega (arith, ap unreached_count same, sum_by-set weight ks e.target (kept_by s e (count + 1)) unreached lt, weight-none (reached_at ks e.target) low, weight-some (kept_by s e (count + 1)) some)
 
-  pub is_removed : (IsPassedOn s → AddsOffers at ks' e.target (width e.target) (bucket b) (bucket b')) → ((IsPassedOn s → ⊥) → b' ≡ b) → pending b' < pending b + 2 ^ 32 → IsAccepted at width ks ks' b b' s e count (count + 1)
-  is_removed adds adds_none few = record {
+  pub is_accepted : (IsPassedOn mode s → AddsOffers at ks' e.target (width e.target) (bucket b) (bucket b')) → ((IsPassedOn mode s → ⊥) → b' ≡ b) → pending b' < pending b + 2 ^ 32 → IsAccepted mode at width ks ks' b b' s e count (count + 1)
+  is_accepted adds adds_none few = record {
     was_unreached = low;
     here = ap (λ (ks : List Reached). reached_at ks e.target) same ∙ get_or-set_same ks e.target (kept_by s e (count + 1)) unreached lt;
     others = λ o ne. ap (λ (ks : List Reached). reached_at ks o) same ∙ get_or-set_other ks e.target o (kept_by s e (count + 1)) unreached ne;

@@ -108,12 +108,12 @@ key-same : (i j : ℕ) (k l : ℕ) → k ≡ l → i ≡ j → j < 4294967296 �
 key-same i j k l keys same small = rw (lt-ltb i 4294967296 (omega arith), eq-eqb k l keys) refl
 
 -- what an edit takes away
-module _ (dump : Dump) (edit : Edit) (p : Option (ℕ × ℕ)) (only : IsOnlyPlace dump (λ x slot. takes_away x slot edit) p) (o i : ℕ) (s : SlotEntry)
+module _ (dump : Dump) (edit : Edit) (p : Option (ℕ × ℕ)) (only : IsOnlyPlace dump (λ x s. takes_away x s edit) p) (o i : ℕ) (s : SlotEntry)
     (lt : o < length dump.objects) (at : slice_get (object_at dump o).slots i ≡ Some s) where
-  pub place_removed : (x j : ℕ) → p ≡ Some (x, j) → j < 4294967296 → (keys keys' : List ℕ) → keys' ≡ insert_key nat_eq keys (place_key x j) → has_place keys' o i ≡ (has_place keys o i || takes_away (object_at dump o) s.slot edit)
+  pub place_removed : (x j : ℕ) → p ≡ Some (x, j) → j < 4294967296 → (keys keys' : List ℕ) → keys' ≡ insert_key nat_eq keys (place_key x j) → has_place keys' o i ≡ (has_place keys o i || takes_away (object_at dump o) s edit)
   place_removed x j is small keys keys' new =
-      let test : (nat_lt i 4294967296 && nat_eq (place_key o i) (place_key x j)) ≡ takes_away (object_at dump o) s.slot edit =
-      same_test (nat_lt i 4294967296 && nat_eq (place_key o i) (place_key x j)) (takes_away (object_at dump o) s.slot edit)
+      let test : (nat_lt i 4294967296 && nat_eq (place_key o i) (place_key x j)) ≡ takes_away (object_at dump o) s edit =
+      same_test (nat_lt i 4294967296 && nat_eq (place_key o i) (place_key x j)) (takes_away (object_at dump o) s edit)
       (λ h. let both = key-cases (nat_lt i 4294967296) o i x j refl small h in
       only.passes o i s (is ∙ ap (λ (n : ℕ). Some (n, j)) (sym both.0) ∙ ap (λ (n : ℕ). Some (o, n)) (sym both.1)) at)
       (λ h. let same : some_of x j ≡ some_of o i = sym is ∙ only.only o i s lt at h in
@@ -125,21 +125,21 @@ module _ (dump : Dump) (edit : Edit) (p : Option (ℕ × ℕ)) (only : IsOnlyPla
 
 -- an edit of a slot of the object with an ID, by the object
 module _ (dump : Dump) (edit : Edit) (id : ℕ) (name : Object → Option Slot) (m : Option ℕ)
-    (form : (x : Object) (slot : Slot) → takes_away x slot edit ≡ ((x.id == id) && is_slot slot (name x)))
+    (form : (x : Object) (s : SlotEntry) → takes_away x s edit ≡ ((x.id == id) && is_slot s.slot (name x)))
     (distinct : (o : ℕ) → o < length dump.objects → (object_at dump o).id ≡ id → m ≡ Some o) where
-  parts : (x : Object) (slot : Slot) → takes_away x slot edit ≡ true → (x.id ≡ id) × (is_slot slot (name x) ≡ true)
-  parts x slot t = let both = and_parts (x.id == id) (is_slot slot (name x)) (sym (form x slot) ∙ t) in (eqb-true x.id id both.0, both.1)
+  parts : (x : Object) (s : SlotEntry) → takes_away x s edit ≡ true → (x.id ≡ id) × (is_slot s.slot (name x) ≡ true)
+  parts x s t = let both = and_parts (x.id == id) (is_slot s.slot (name x)) (sym (form x s) ∙ t) in (eqb-true x.id id both.0, both.1)
 
-  pub object_place : (o : ℕ) (p : Option (ℕ × ℕ)) → m ≡ Some o → m ≡ index_of dump.objects id → IsNamedPlace (object_at dump o).slots (name (object_at dump o)) o p → IsOnlyPlace dump (λ x slot. takes_away x slot edit) p
+  pub object_place : (o : ℕ) (p : Option (ℕ × ℕ)) → m ≡ Some o → m ≡ index_of dump.objects id → IsNamedPlace (object_at dump o).slots (name (object_at dump o)) o p → IsOnlyPlace dump (λ x s. takes_away x s edit) p
   object_place o p is first named = record {
     passes = λ x i s at there.
         let object : x ≡ o = named.object x i at in
         let same : object_at dump x ≡ object_at dump o = ap (object_at dump) object in
         let has_id : (object_at dump o).id ≡ id = id-found dump id o (sym first ∙ is) in
         let slot : is_slot s.slot (name (object_at dump o)) ≡ true = named.named x i s at (ap (λ (y : Object). slice_get y.slots i) (sym same) ∙ there) in
-        ap (λ (y : Object). takes_away y s.slot edit) same ∙ form (object_at dump o) s.slot ∙ both-true ((object_at dump o).id == id) (is_slot s.slot (name (object_at dump o))) (eq-eqb (object_at dump o).id id has_id) slot;
+        ap (λ (y : Object). takes_away y s edit) same ∙ form (object_at dump o) s ∙ both-true ((object_at dump o).id == id) (is_slot s.slot (name (object_at dump o))) (eq-eqb (object_at dump o).id id has_id) slot;
     only = λ x i s lt at t.
-        let here = parts (object_at dump x) s.slot t in
+        let here = parts (object_at dump x) s t in
         let found : Some x ≡ Some o = sym (distinct x lt here.0) ∙ is in
         let object : x ≡ o = cc in
         let same : object_at dump x ≡ object_at dump o = ap (object_at dump) object in
@@ -179,10 +179,10 @@ module _ (log : List Event) (k : ℕ) (r : Option Edit) (lt : k < length log) (i
   any-more p edit some = ap (list_any p) (edits_by ∙ ap (λ (o : Option Edit). edits_before log k ++ cons_option o []) some) ∙ list_any-append p (edits_before log k) (edit ∷ []) ∙ ap (λ (b : Bool). list_any p (edits_before log k) || b) (or-false_right (p edit))
 
   pub more_places : (dump : Dump) (edit : Edit) (keys keys' : List ℕ) → r ≡ Some edit → ArePlaces dump (edits_before log k) keys
-      → ((o i : ℕ) (s : SlotEntry) → o < length dump.objects → slice_get (object_at dump o).slots i ≡ Some s → has_place keys' o i ≡ (has_place keys o i || takes_away (object_at dump o) s.slot edit))
+      → ((o i : ℕ) (s : SlotEntry) → o < length dump.objects → slice_get (object_at dump o).slots i ≡ Some s → has_place keys' o i ≡ (has_place keys o i || takes_away (object_at dump o) s edit))
       → ArePlaces dump (edits_before log (k + 1)) keys'
   more_places dump edit keys keys' some so_far new o i s o_lt at =
-      new o i s o_lt at ∙ ap (λ (b : Bool). b || takes_away (object_at dump o) s.slot edit) (so_far o i s o_lt at) ∙ sym (any-more (takes_away (object_at dump o) s.slot) edit some)
+      new o i s o_lt at ∙ ap (λ (b : Bool). b || takes_away (object_at dump o) s edit) (so_far o i s o_lt at) ∙ sym (any-more (takes_away (object_at dump o) s) edit some)
 
   pub more_roots : (edit : Edit) (numbers numbers' : List ℕ) → r ≡ Some edit → AreRoots (edits_before log k) numbers → ((n : ℕ) → has_root numbers' n ≡ (has_root numbers n || drops n edit)) → AreRoots (edits_before log (k + 1)) numbers'
   more_roots edit numbers numbers' some so_far new n = new n ∙ ap (λ (b : Bool). b || drops n edit) (so_far n) ∙ sym (any-more (drops n) edit some)
@@ -201,7 +201,7 @@ pub is_removed_by : (dump : Dump) (log : List Event) (k : ℕ) (places roots : L
 is_removed_by dump log k places roots end p r =
     let all : edits_before log k ≡ live_edits log = ap (λ (es : List Event). filter_map (live_edit log) (enumerate_from 0 es)) (take_all k log (omega arith)) in
     record {
-      slots = λ o i s lt at. p o i s lt at ∙ ap (list_any (takes_away (object_at dump o) s.slot)) all ∙ sym (not-not (list_any (takes_away (object_at dump o) s.slot) (live_edits log)));
+      slots = λ o i s lt at. p o i s lt at ∙ ap (list_any (takes_away (object_at dump o) s)) all ∙ sym (not-not (list_any (takes_away (object_at dump o) s) (live_edits log)));
       roots = λ n. r n ∙ ap (list_any (drops n)) all;
     }
 

@@ -1,6 +1,6 @@
 use Rattle.std.proofs.Common.{◌≡◌, ◌∙◌, ℕ, suc, nat_lt, ◌<◌, inl, inr, List, [], ◌∷◌, Contains, length, cond, not, Bool, false, ◌+◌, ◌-◌, ◌≤◌, get_or, Option, None, Some, slice_get, true, refl, sym, ap, subst, arith}
-use Rattle.std.specs.Prelude.{◌==◌}
-use Rattle.std.specs.Option.{option_map}
+use Rattle.std.specs.Prelude.{◌==◌, ◌&&◌, ◌||◌, map}
+use Rattle.std.specs.Option.{option_map, option_and_then}
 use Rattle.std.specs.List.{filter, filter_map, enumerate_from}
 use Rattle.std.proofs.lemmas.Bool.{cases_lt, lt-ltb, lt-leb}
 use Rattle.std.proofs.lemmas.List.Elements.{Contains-append_left, Contains-append_right, Contains-append_cases}
@@ -11,14 +11,16 @@ use Rattle.hd_terms.specs.declared.Edit.{Edit}
 use Rattle.hd_terms.specs.declared.Edit.TheVariants as edits
 use Rattle.hd_terms.specs.declared.RootKind.TheVariants as kinds
 use Rattle.hd_terms.specs.declared.Event.{Event}
+use Rattle.hd_terms.specs.declared.What.{What}
+use Rattle.hd_terms.specs.declared.What.TheVariants as whats
 use Rattle.hd_log.proofs.LastLemmas.{by_event}
 use Rattle.hd_terms.specs.Paths.{Edge, RootEntry}
 use Rattle.hd_terms.specs.Dump.{SlotEntry, Object, Root, Dump, no_object, object_at}
-use Rattle.hd_terms.specs.Edges.{index_of, edge_of, edges_from, edges}
-use Rattle.hd_terms.specs.EditedDump.{standing, slot_stands, edge_stands, source_stands, is_dropped, standing_root, dump_root, added_by, added_root}
-use Rattle.hd_terms.specs.Log.{live_edit}
-use Rattle.hd_strength.specs.Rows.{width, edge_by, edge_at, added_id, root_by, root_by_event, root_count, root_at}
-use Rattle.hd_strength.proofs.Lists.{Contains-nil, Contains-cons_cases, Contains-slice_get, flat_map_contains, flat_map_only, filter_map_contains, filter_map_only, filter_contains, filter_only, enumerate_contains, enumerate_only}
+use Rattle.hd_terms.specs.Edges.{index_of, edge_of}
+use Rattle.hd_terms.specs.EditedDump.{RootOn, standing, standing_from, is_untouched, is_dropped, is_root, adds_root, live_edit_at, root_stands, root_entries, dump_root, root_added, added_root, held_by}
+use Rattle.hd_terms.specs.Log.{live_edit, edit_of, stays}
+use Rattle.hd_strength.specs.Rows.{width, edge_by, edge_at, added_id, root_by, root_by_event, root_count, root_at, standing_root, standing_dump_root, standing_added_root, added_by}
+use Rattle.hd_strength.proofs.Lists.{Contains-nil, Contains-head, Contains-tail, Contains-cons_cases, Contains-slice_get, flat_map_contains, flat_map_only, filter_map_contains, filter_map_only, filter_contains, filter_only, enumerate_contains, enumerate_only}
 
 -- the edge of a slot to the object of a number
 abbrev pub edge_to : ℕ → SlotEntry → ℕ → Edge
@@ -53,22 +55,22 @@ edge-by false edge e h = absurd cc
 
 -- a place of an object's slots, with what stands there
 module _ (dump : Dump) (log : List Event) (o i : ℕ) (s : SlotEntry) (entry : slice_get (object_at dump o).slots i ≡ Some s) where
-  at_place : edge_at dump log o i ≡ cond (slot_stands log (object_at dump o) s.slot) (edge_of dump.objects o s) None
+  at_place : edge_at dump log o i ≡ cond (is_untouched log (object_at dump o) s) (edge_of dump.objects o s) None
   unfolding edge_at
   at_place = ap (edge_by dump log o) entry
 
-  at_parts : (e : Edge) → edge_at dump log o i ≡ Some e → (slot_stands log (object_at dump o) s.slot ≡ true) × (edge_of dump.objects o s ≡ Some e)
-  at_parts e is = edge-by (slot_stands log (object_at dump o) s.slot) (edge_of dump.objects o s) e (sym at_place ∙ is)
+  at_parts : (e : Edge) → edge_at dump log o i ≡ Some e → (is_untouched log (object_at dump o) s ≡ true) × (edge_of dump.objects o s ≡ Some e)
+  at_parts e is = edge-by (is_untouched log (object_at dump o) s) (edge_of dump.objects o s) e (sym at_place ∙ is)
 
   pub at_none : index_of dump.objects s.id ≡ None → (e : Edge) → edge_at dump log o i ≡ Some e → ⊥
   at_none none e is =
       let other : edge_of dump.objects o s ≡ None = ap (option_map (λ (target : ℕ). edge_to o s target)) none in
       let same : None ≡ Some e = sym other ∙ (at_parts e is).1 in absurd (cc)
 
-  pub at_cut : slot_stands log (object_at dump o) s.slot ≡ false → (e : Edge) → edge_at dump log o i ≡ Some e → ⊥
+  pub at_cut : is_untouched log (object_at dump o) s ≡ false → (e : Edge) → edge_at dump log o i ≡ Some e → ⊥
   at_cut cut e is = let same : false ≡ true = sym cut ∙ (at_parts e is).0 in absurd (cc)
 
-  pub at_some : (t : ℕ) → index_of dump.objects s.id ≡ Some t → slot_stands log (object_at dump o) s.slot ≡ true → edge_at dump log o i ≡ Some (edge_to o s t)
+  pub at_some : (t : ℕ) → index_of dump.objects s.id ≡ Some t → is_untouched log (object_at dump o) s ≡ true → edge_at dump log o i ≡ Some (edge_to o s t)
   at_some t some stands =
       at_place ∙ ap (λ (b : Bool). cond b (edge_of dump.objects o s) None) stands ∙ ap (option_map (λ (target : ℕ). edge_to o s target)) some
 
@@ -84,7 +86,7 @@ module _ (dump : Dump) (log : List Event) (o i : ℕ) (s : SlotEntry) (entry : s
       let target : t ≡ e.target = cc in
       ap (edge_to o s) target ∙ sym found.1
 
-  pub at_stands : (e : Edge) → edge_at dump log o i ≡ Some e → slot_stands log (object_at dump o) s.slot ≡ true
+  pub at_stands : (e : Edge) → edge_at dump log o i ≡ Some e → is_untouched log (object_at dump o) s ≡ true
   at_stands e is = (at_parts e is).0
 
 -- what is known of an edge at a place
@@ -96,7 +98,7 @@ pub record IsAt (dump : Dump) (log : List Event) (o i : ℕ) (e : Edge) : Type 0
   pub there : slice_get (object_at dump o).slots i ≡ Some entry
   pub is : e ≡ edge_to o entry e.target
   pub index : index_of dump.objects entry.id ≡ Some e.target
-  pub stands : slot_stands log (object_at dump o) entry.slot ≡ true
+  pub stands : is_untouched log (object_at dump o) entry ≡ true
 
 -- where there is no slot there is no edge
 none_past : (dump : Dump) (log : List Event) (o i : ℕ) (e : Edge) → edge_at dump log o i ≡ Some e → slice_get (object_at dump o).slots i ≡ None → ⊥
@@ -132,27 +134,16 @@ is_at dump log o i e is =
 pub at_source : (dump : Dump) (log : List Event) (o i : ℕ) (e : Edge) → edge_at dump log o i ≡ Some e → e.source ≡ o
 at_source dump log o i e is = ap (λ (x : Edge). x.source) (is_at dump log o i e is).is
 
--- an edge at a place is an edge of the dump
-edge_of_dump : (dump : Dump) (log : List Event) (o i : ℕ) (e : Edge) → edge_at dump log o i ≡ Some e → Contains (edges dump) e
-edge_of_dump dump log o i e is =
-    let at : IsAt dump log o i e = is_at dump log o i e is in
-    let x : Object = object_at dump o in
-    flat_map_contains (edges_from dump.objects) (enumerate_from 0 dump.objects) (o, x) e
-    (enumerate_contains dump.objects o x (slice_get-get_or dump.objects o no_object at.object))
-    (filter_map_contains (edge_of dump.objects o) x.slots at.entry e (Contains-slice_get x.slots i at.entry at.place at.there)
-    (ap (option_map (λ (target : ℕ). edge_to o at.entry target)) at.index ∙ ap (λ (y : Edge). Some y) (sym at.is)))
-
 -- an edge at a place stands
 pub edge_stands_at : (dump : Dump) (log : List Event) (o i : ℕ) (e : Edge) → edge_at dump log o i ≡ Some e → Contains (standing dump log).edges e
 edge_stands_at dump log o i e is =
     let at : IsAt dump log o i e = is_at dump log o i e is in
-    let source : e.source ≡ o = at_source dump log o i e is in
-    let slot : e.slot ≡ at.entry.slot = ap (λ (x : Edge). x.slot) at.is in
-    filter_contains (edge_stands dump log) (edges dump) e (edge_of_dump dump log o i e is)
-    (ap (λ (n : ℕ). source_stands log e.slot (slice_get dump.objects n)) source
-    ∙ ap (source_stands log e.slot) (slice_get-get_or dump.objects o no_object at.object)
-    ∙ ap (slot_stands log (object_at dump o)) slot
-    ∙ at.stands)
+    let x : Object = object_at dump o in
+    flat_map_contains (standing_from dump log) (enumerate_from 0 dump.objects) (o, x) e
+    (enumerate_contains dump.objects o x (slice_get-get_or dump.objects o no_object at.object))
+    (filter_map_contains (edge_of dump.objects o) (filter (is_untouched log x) x.slots) at.entry e
+    (filter_contains (is_untouched log x) x.slots at.entry (Contains-slice_get x.slots i at.entry at.place at.there) at.stands)
+    (ap (option_map (λ (target : ℕ). edge_to o at.entry target)) at.index ∙ ap (λ (y : Edge). Some y) (sym at.is)))
 
 -- what is in the filtered list passes
 passes-cases : {X : Type 0} (p : X → Bool) (b : Bool) (z : X) (zs : List X) (x : X) → p z ≡ b → ((Contains (filter p zs) x) → p x ≡ true) → Contains (cond b (z ∷ filter p zs) (filter p zs)) x → p x ≡ true
@@ -167,32 +158,29 @@ filter_passes p (z ∷ zs) x c = passes-cases p (p z) z zs x refl (filter_passes
 pub edge_has_place : (dump : Dump) (log : List Event) (e : Edge) → Contains (standing dump log).edges e → (i : ℕ) × (edge_at dump log e.source i ≡ Some e)
 unfolding edge_at
 edge_has_place dump log e c =
-    let (n, numbered, from) = flat_map_only (edges_from dump.objects) (enumerate_from 0 dump.objects) e (filter_only (edge_stands dump log) (edges dump) e c) in
-    let (s, (i, lt, is), gives) = filter_map_only (edge_of dump.objects n.0) n.1.slots e from in
+    let (n, numbered, from) = flat_map_only (standing_from dump log) (enumerate_from 0 dump.objects) e c in
+    let (s, kept, gives) = filter_map_only (edge_of dump.objects n.0) (filter (is_untouched log n.1) n.1.slots) e from in
+    let (i, lt, is) = filter_only (is_untouched log n.1) n.1.slots s kept in
     let edge : e ≡ edge_to n.0 s e.target = (by_target n.0 s (index_of dump.objects s.id) e gives).1 in
     let source : e.source ≡ n.0 = ap (λ (x : Edge). x.source) edge in
     let there : slice_get dump.objects n.0 ≡ Some n.1 = enumerate_only dump.objects n numbered in
     let object : object_at dump n.0 ≡ n.1 = get_or_from_slice_get dump.objects n.0 n.1 no_object there in
     let slot : slice_get (object_at dump n.0).slots i ≡ Some s = ap (λ (x : Object). slice_get x.slots i) object ∙ slice_get-get_or n.1.slots i s lt ∙ ap (λ (y : SlotEntry). Some y) is in
-    let stands : slot_stands log (object_at dump n.0) s.slot ≡ true =
-    ap (λ (x : Object). slot_stands log x s.slot) object
-    ∙ ap (slot_stands log n.1) (sym (ap (λ (x : Edge). x.slot) edge))
-    ∙ ap (source_stands log e.slot) (sym there)
-    ∙ ap (λ (m : ℕ). source_stands log e.slot (slice_get dump.objects m)) (sym source)
-    ∙ filter_passes (edge_stands dump log) (edges dump) e c in
+    let stands : is_untouched log (object_at dump n.0) s ≡ true =
+    ap (λ (x : Object). is_untouched log x s) object ∙ filter_passes (is_untouched log n.1) n.1.slots s kept in
     (i, subst (λ (m : ℕ). edge_at dump log m i ≡ Some e) (sym source) (ap (edge_by dump log n.0) slot ∙ ap (λ (b : Bool). cond b (edge_of dump.objects n.0 s) None) stands ∙ gives))
 
 not-below : (a b : ℕ) → b ≤ a → nat_lt a b ≡ false
 not-below a b le = lt-leb (suc a) b (omega arith)
 
 -- the root of a number, by where it comes from
-pub root_of_dump : (dump : Dump) (log : List Event) (r : ℕ) (root : Root) → slice_get dump.roots r ≡ Some root → root_at dump log r ≡ dump_root dump log (r, root)
+pub root_of_dump : (dump : Dump) (log : List Event) (r : ℕ) (root : Root) → slice_get dump.roots r ≡ Some root → root_at dump log r ≡ standing_dump_root dump log (r, root)
 unfolding root_at
 root_of_dump dump log r root at =
     let lt : r < length dump.roots = slice_get_within dump.roots r root at in
     rw (lt-ltb r (length dump.roots) lt) (ap (root_by dump log r) at)
 
-pub root_of_event : (dump : Dump) (log : List Event) (k : ℕ) (event : Event) → slice_get log k ≡ Some event → root_at dump log (length dump.roots + k) ≡ added_root dump log (k, event)
+pub root_of_event : (dump : Dump) (log : List Event) (k : ℕ) (event : Event) → slice_get log k ≡ Some event → root_at dump log (length dump.roots + k) ≡ standing_added_root dump log (k, event)
 unfolding root_at
 root_of_event dump log k event at =
     let number : (length dump.roots + k) - length dump.roots ≡ k = omega arith in
@@ -322,18 +310,101 @@ module _ (dump : Dump) (log : List Event) (k : ℕ) (r : Option Edit) (lt : k < 
   pub added_held : (edit : Edit) (id : ℕ) → r ≡ Some edit → added_id edit ≡ Some id → is_dropped log (length dump.roots + k) ≡ false → index_of dump.objects id ≡ held_at dump log (length dump.roots + k)
   added_held edit id some adds stays = sym (standing-held dump log (length dump.roots + k) id stays) ∙ sym (addition dump log k edit id adds) ∙ added-held edit some
 
+-- a root that holds an object isn't dropped
+standing-parts : (dropped : Bool) (held : Option RootEntry) (x : RootEntry) → cond dropped None held ≡ Some x → (dropped ≡ false) × (held ≡ Some x)
+standing-parts true held x is = absurd cc
+standing-parts false held x is = (refl, is)
+
+-- an edit that adds a root, and the entry of the root
+adding : (r : ℕ) (what : What) (id : ℕ) → edit_of what ≡ Some (edits.Add id) → root_added r what ≡ Some (record { number = r; kind = None; id = id })
+adding r (whats.Do (edits.Cut i slot)) id is = absurd cc
+adding r (whats.Do (edits.Clear i)) id is = absurd cc
+adding r (whats.Do (edits.Drop s)) id is = absurd cc
+adding r (whats.Do (edits.Add i)) id is = let same : i ≡ id = cc in ap (λ (n : ℕ). let root : RootOn = record { number = r; kind = None; id = n } in Some root) same
+adding r (whats.Undo k) id is = absurd cc
+
+added-only : (r : ℕ) (what : What) (root : RootOn) → root_added r what ≡ Some root → (r ≡ root.number) × (edit_of what ≡ Some (edits.Add root.id))
+added-only r (whats.Do (edits.Cut i slot)) root is = absurd cc
+added-only r (whats.Do (edits.Clear i)) root is = absurd cc
+added-only r (whats.Do (edits.Drop s)) root is = absurd cc
+added-only r (whats.Do (edits.Add i)) root is =
+    let entry : RootOn = record { number = r; kind = None; id = i } in
+    let same : entry ≡ root = cc in
+    (ap (λ (x : RootOn). x.number) same, ap (λ (x : RootOn). Some (edits.Add x.id)) same)
+added-only r (whats.Undo k) root is = absurd cc
+
+-- a live edit of an event is what the event does
+live-does : (b : Bool) (what : What) (edit : Edit) → cond b (edit_of what) None ≡ Some edit → edit_of what ≡ Some edit
+live-does true what edit is = is
+live-does false what edit is = absurd cc
+
+-- an event that adds a root, where its edit is live
+live-adds : (b : Bool) (what : What) (id : ℕ) → edit_of what ≡ Some (edits.Add id) → adds_root (cond b (edit_of what) None) ≡ true → cond b (edit_of what) None ≡ Some (edits.Add id)
+live-adds true what id is adds = is
+live-adds false what id is adds = absurd cc
+
+-- the entry of a root that stands is among those that stand
+among : (dump : Dump) (log : List Event) (root : RootOn) (x : RootEntry) → Contains (root_entries dump log) root → root_stands (length dump.roots) log root.number ≡ true → held_by dump root ≡ Some x → Contains (standing dump log).roots x
+among dump log root x c stands holds =
+    filter_map_contains (held_by dump) (filter (λ (r : RootOn). root_stands (length dump.roots) log r.number) (root_entries dump log)) root x
+    (filter_contains (λ (r : RootOn). root_stands (length dump.roots) log r.number) (root_entries dump log) root c stands) holds
+
+-- what a list has a mapped list has
+map_contains : {X Y : Type 0} (f : X → Y) (xs : List X) (x : X) → Contains xs x → Contains (map f xs) (f x)
+map_contains f [] x c = absurd (Contains-nil x c)
+map_contains f (z ∷ zs) x c = elim (Contains-cons_cases z zs x c) [
+  | inl same ↦ (0, omega arith, ap f same)
+  | inr later ↦ Contains-tail (f z) (map f zs) (f x) (map_contains f zs x later)
+]
+
+-- what a mapped list has is made of an element
+map_only : {X Y : Type 0} (f : X → Y) (xs : List X) (y : Y) → Contains (map f xs) y → (x : X) × Contains xs x × (f x ≡ y)
+map_only f [] y c = absurd (Contains-nil y c)
+map_only f (z ∷ zs) y c = elim (Contains-cons_cases (f z) (map f zs) y c) [
+  | inl same ↦ (z, Contains-head z zs, same)
+  | inr later ↦ let r : (x : _) × Contains zs x × (f x ≡ y) = map_only f zs y later in (r.0, Contains-tail z zs r.0 r.1, r.2)
+]
+
+-- the numbers of roots that are there
+number_of_dump : (dump : Dump) (log : List Event) (r : ℕ) → r < length dump.roots → is_dropped log r ≡ false → root_stands (length dump.roots) log r ≡ true
+number_of_dump dump log r lt stays = rw (lt-ltb r (length dump.roots) lt, stays) refl
+
+number_of_event : (dump : Dump) (log : List Event) (k : ℕ) (event : Event) → slice_get log k ≡ Some event → is_root (length dump.roots) log (length dump.roots + k) ≡ adds_root (live_edit log (k, event))
+number_of_event dump log k event at =
+    let number : (length dump.roots + k) - length dump.roots ≡ k = omega arith in
+    ap (λ (b : Bool). b || adds_root (live_edit_at log ((length dump.roots + k) - length dump.roots))) (not-below (length dump.roots + k) (length dump.roots) (omega arith))
+    ∙ ap (λ (n : ℕ). adds_root (live_edit_at log n)) number
+    ∙ ap (λ (e : Option Event). adds_root (option_and_then (λ (x : Event). live_edit log (k, x)) e)) at
+
 -- the entry of a root stands
 stands-in_dump : (dump : Dump) (log : List Event) (r : ℕ) (x : RootEntry) (at : Option Root) → slice_get dump.roots r ≡ at → root_by dump log r at ≡ Some x → Contains (standing dump log).roots x
 stands-in_dump dump log r x None at is = absurd cc
 stands-in_dump dump log r x (Some root) at is =
-    Contains-append_left (filter_map (dump_root dump log) (enumerate_from 0 dump.roots)) (filter_map (added_root dump log) (enumerate_from 0 log)) x
-    (filter_map_contains (dump_root dump log) (enumerate_from 0 dump.roots) (r, root) x (enumerate_contains dump.roots r root at) is)
+    let lt : r < length dump.roots = slice_get_within dump.roots r root at in
+    let parts = standing-parts (is_dropped log r) (held_by dump (dump_root (r, root))) x is in
+    among dump log (dump_root (r, root)) x
+    (Contains-append_left (map dump_root (enumerate_from 0 dump.roots)) (filter_map (added_root (length dump.roots)) (enumerate_from 0 log)) (dump_root (r, root))
+    (map_contains dump_root (enumerate_from 0 dump.roots) (r, root) (enumerate_contains dump.roots r root at)))
+    (number_of_dump dump log r lt parts.0) parts.1
+
+stands-by : (dump : Dump) (log : List Event) (k : ℕ) (x : RootEntry) (event : Event) (edit : Option Edit) → slice_get log k ≡ Some event → live_edit log (k, event) ≡ edit → added_by dump log k edit ≡ Some x → Contains (standing dump log).roots x
+stands-by dump log k x event None at live is = absurd cc
+stands-by dump log k x event (Some (edits.Cut id slot)) at live is = absurd cc
+stands-by dump log k x event (Some (edits.Clear id)) at live is = absurd cc
+stands-by dump log k x event (Some (edits.Drop r)) at live is = absurd cc
+stands-by dump log k x event (Some (edits.Add id)) at live is =
+    let root : RootOn = record { number = length dump.roots + k; kind = None; id = id } in
+    let parts = standing-parts (is_dropped log (length dump.roots + k)) (held_by dump root) x is in
+    let does : edit_of event.what ≡ Some (edits.Add id) = live-does (stays log k) event.what (edits.Add id) live in
+    let there : is_root (length dump.roots) log (length dump.roots + k) ≡ true = number_of_event dump log k event at ∙ ap adds_root live in
+    among dump log root x
+    (Contains-append_right (map dump_root (enumerate_from 0 dump.roots)) (filter_map (added_root (length dump.roots)) (enumerate_from 0 log)) root
+    (filter_map_contains (added_root (length dump.roots)) (enumerate_from 0 log) (k, event) root (enumerate_contains log k event at) (adding (length dump.roots + k) event.what id does)))
+    (rw (there, parts.0) refl) parts.1
 
 stands-added : (dump : Dump) (log : List Event) (k : ℕ) (x : RootEntry) (at : Option Event) → slice_get log k ≡ at → root_by_event dump log k at ≡ Some x → Contains (standing dump log).roots x
 stands-added dump log k x None at is = absurd cc
-stands-added dump log k x (Some event) at is =
-    Contains-append_right (filter_map (dump_root dump log) (enumerate_from 0 dump.roots)) (filter_map (added_root dump log) (enumerate_from 0 log)) x
-    (filter_map_contains (added_root dump log) (enumerate_from 0 log) (k, event) x (enumerate_contains log k event at) is)
+stands-added dump log k x (Some event) at is = stands-by dump log k x event (live_edit log (k, event)) at refl is
 
 pub root_stands_at : (dump : Dump) (log : List Event) (r : ℕ) (x : RootEntry) → root_at dump log r ≡ Some x → Contains (standing dump log).roots x
 unfolding root_at
@@ -342,19 +413,42 @@ root_stands_at dump log r x is = elim (cases_lt r (length dump.roots)) [
   | inr le ↦ stands-added dump log (r - length dump.roots) x (slice_get log (r - length dump.roots)) refl (rw (not-below r (length dump.roots) le) at is)
 ]
 
+-- both parts of what stands
+both-parts : (a b : Bool) → (a && not b) ≡ true → (a ≡ true) × (b ≡ false)
+both-parts true false h = (refl, refl)
+both-parts true true h = absurd cc
+both-parts false b h = absurd cc
+
 -- each entry that stands is that of a root
 pub root_has_number : (dump : Dump) (log : List Event) (x : RootEntry) → Contains (standing dump log).roots x → (r : ℕ) × (r < root_count dump log) × (root_at dump log r ≡ Some x)
-root_has_number dump log x c = elim (Contains-append_cases (filter_map (dump_root dump log) (enumerate_from 0 dump.roots)) (filter_map (added_root dump log) (enumerate_from 0 log)) x c) [
-  | inl first ↦
-      let found : (n : ℕ × Root) × Contains (enumerate_from 0 dump.roots) n × (dump_root dump log n ≡ Some x) = filter_map_only (dump_root dump log) (enumerate_from 0 dump.roots) x first in
-      let n = found.0 in
-      let entry : slice_get dump.roots n.0 ≡ Some n.1 = enumerate_only dump.roots n found.1 in
-      let lt : n.0 < length dump.roots = slice_get_within dump.roots n.0 n.1 entry in
-      (n.0, omega arith, root_of_dump dump log n.0 n.1 entry ∙ found.2)
-  | inr later ↦
-      let found : (n : ℕ × Event) × Contains (enumerate_from 0 log) n × (added_root dump log n ≡ Some x) = filter_map_only (added_root dump log) (enumerate_from 0 log) x later in
-      let n = found.0 in
-      let entry : slice_get log n.0 ≡ Some n.1 = enumerate_only log n found.1 in
-      let lt : n.0 < length log = slice_get_within log n.0 n.1 entry in
-      (length dump.roots + n.0, omega arith, root_of_event dump log n.0 n.1 entry ∙ found.2)
-]
+root_has_number dump log x c =
+    let n_roots = length dump.roots in
+    let stands : RootOn → Bool = λ r. root_stands n_roots log r.number in
+    let found : (root : RootOn) × Contains (filter stands (root_entries dump log)) root × (held_by dump root ≡ Some x) = filter_map_only (held_by dump) (filter stands (root_entries dump log)) x c in
+    let root = found.0 in
+    let passes = both-parts (is_root n_roots log root.number) (is_dropped log root.number) (filter_passes stands (root_entries dump log) root found.1) in
+    elim (Contains-append_cases (map dump_root (enumerate_from 0 dump.roots)) (filter_map (added_root n_roots) (enumerate_from 0 log)) root (filter_only stands (root_entries dump log) root found.1)) [
+      | inl first ↦
+          let made : (n : ℕ × Root) × Contains (enumerate_from 0 dump.roots) n × (dump_root n ≡ root) = map_only dump_root (enumerate_from 0 dump.roots) root first in
+          let n = made.0 in
+          let entry : slice_get dump.roots n.0 ≡ Some n.1 = enumerate_only dump.roots n made.1 in
+          let lt : n.0 < length dump.roots = slice_get_within dump.roots n.0 n.1 entry in
+          let stays : is_dropped log n.0 ≡ false = ap (λ (y : RootOn). is_dropped log y.number) made.2 ∙ passes.1 in
+          let holds : held_by dump (dump_root n) ≡ Some x = ap (held_by dump) made.2 ∙ found.2 in
+          (n.0, omega arith, root_of_dump dump log n.0 n.1 entry ∙ ap (λ (b : Bool). cond b None (held_by dump (dump_root n))) stays ∙ holds)
+      | inr later ↦
+          let made : (n : ℕ × Event) × Contains (enumerate_from 0 log) n × (added_root n_roots n ≡ Some root) = filter_map_only (added_root n_roots) (enumerate_from 0 log) root later in
+          let n = made.0 in
+          let entry : slice_get log n.0 ≡ Some n.1 = enumerate_only log n made.1 in
+          let lt : n.0 < length log = slice_get_within log n.0 n.1 entry in
+          let adds = added-only (length dump.roots + n.0) n.1.what root made.2 in
+          let there : adds_root (live_edit log n) ≡ true = sym (number_of_event dump log n.0 n.1 entry) ∙ ap (is_root n_roots log) adds.0 ∙ passes.0 in
+          let live : live_edit log n ≡ Some (edits.Add root.id) = live-adds (stays log n.0) n.1.what root.id adds.1 there in
+          let undropped : is_dropped log (length dump.roots + n.0) ≡ false = ap (is_dropped log) adds.0 ∙ passes.1 in
+          let entry_of : ℕ → Option RootEntry = λ m. option_map (λ (target : ℕ). entry_to m target) (index_of dump.objects root.id) in
+          let holds : entry_of (length dump.roots + n.0) ≡ Some x = ap entry_of adds.0 ∙ found.2 in (
+            length dump.roots + n.0,
+            omega arith,
+            root_of_event dump log n.0 n.1 entry ∙ ap (added_by dump log n.0) live ∙ ap (λ (b : Bool). cond b None (entry_of (length dump.roots + n.0))) undropped ∙ holds,
+          )
+    ]

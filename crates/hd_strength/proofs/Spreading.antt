@@ -56,7 +56,7 @@ module _ (dump : Dump) (log : List Event) (ks : List Reached) (b b1 : Buckets) (
   out : Takes (bucket b) (bucket b1) s x
   out = takes b b1 s x best
 
-  pub backing : IsBacked (edge_at dump log) ks s x
+  pub backing : IsBacked dump.mode (edge_at dump log) ks s x
   backing = h.backed s x out.offer.made
 
   pub at_offer : IsAt dump log x.source x.place backing.edge
@@ -66,14 +66,14 @@ module _ (dump : Dump) (log : List Event) (ks : List Reached) (b b1 : Buckets) (
     declined : IsDeclined ks ks' b1 b2 e n n' → IsGrowing (standing dump log) (edge_at dump log) ks' (bucket b2) n' Every
     declined d = rw (d.same_kept, d.same_offers, d.same_count) (decline (standing dump log) (edge_at dump log) ks (bucket b) (bucket b1) n s x e h out is d.reached)
 
-    removed : IsAccepted (edge_at dump log) (width dump) ks ks' b1 b2 s e n n' → IsGrowing (standing dump log) (edge_at dump log) ks' (bucket b2) n' Every
-    removed d =
+    accepted : IsAccepted dump.mode (edge_at dump log) (width dump) ks ks' b1 b2 s e n n' → IsGrowing (standing dump log) (edge_at dump log) ks' (bucket b2) n' Every
+    accepted d =
         let g = standing dump log in
         let at = edge_at dump log in
         let grown : IsGrowing g at ks' (bucket b1) (n + 1) (λ o. o ≢ e.target) = take g at (rows_of dump log) ks ks' (bucket b) (bucket b1) n s x e h out is d.was_unreached d.here d.others in
         let least : (p : ℕ) → 1 ≤ rank_at ks' p → rank s ≤ rank_at ks' p = floor g at (rows_of dump log) ks ks' (bucket b) (bucket b1) n s x e h out is d.was_unreached d.here d.others in
         let here : rank_at ks' e.target ≡ rank s = ap (λ (k : Reached). rank k.strength) d.here in
-        rw d.counted (elim (cases_lt (rank s) (rank least_passed_on)) [
+        rw d.counted (elim (cases_lt (rank s) (rank (least_passed_on dump.mode))) [
           | inl low ↦ rw (d.adds_none (λ high. omega arith)) (weaken g at ks' (bucket b1) (n + 1) (λ o. o ≢ e.target) Every grown
               (λ p passes all same. let r : rank_at ks' p ≡ rank_at ks' e.target = ap (rank_at ks') same in absurd (omega (arith, passes))))
           | inr high ↦ offered g at (rows_of dump log) ks' (bucket b1) (bucket b2) (n + 1) (λ o. o ≢ e.target) Every e.target (width dump e.target) grown (d.adds high) (wide dump log e.target) (omega arith)
@@ -81,18 +81,18 @@ module _ (dump : Dump) (log : List Event) (ks : List Reached) (b b1 : Buckets) (
               (λ p all. elim (cases_eq p e.target) [ inl same ↦ inr same | inr other ↦ inl other ])
         ])
 
-    pub grows : IsDeclined ks ks' b1 b2 e n n' ⊎ IsAccepted (edge_at dump log) (width dump) ks ks' b1 b2 s e n n' → IsGrowing (standing dump log) (edge_at dump log) ks' (bucket b2) n' Every
+    pub grows : IsDeclined ks ks' b1 b2 e n n' ⊎ IsAccepted dump.mode (edge_at dump log) (width dump) ks ks' b1 b2 s e n n' → IsGrowing (standing dump log) (edge_at dump log) ks' (bucket b2) n' Every
     grows (inl d) = declined d
-    grows (inr d) = removed d
+    grows (inr d) = accepted d
 
-    pub same_length : IsDeclined ks ks' b1 b2 e n n' ⊎ IsAccepted (edge_at dump log) (width dump) ks ks' b1 b2 s e n n' → length ks' ≡ length ks
+    pub same_length : IsDeclined ks ks' b1 b2 e n n' ⊎ IsAccepted dump.mode (edge_at dump log) (width dump) ks ks' b1 b2 s e n n' → length ks' ≡ length ks
     same_length (inl d) = ap length d.same_kept
     same_length (inr d) = d.same_length
 
-    pub still_few : IsDeclined ks ks' b1 b2 e n n' ⊎ IsAccepted (edge_at dump log) (width dump) ks ks' b1 b2 s e n n' → n' + unreached_count ks' ≤ n + unreached_count ks
+    pub still_few : IsDeclined ks ks' b1 b2 e n n' ⊎ IsAccepted dump.mode (edge_at dump log) (width dump) ks ks' b1 b2 s e n n' → n' + unreached_count ks' ≤ n + unreached_count ks
     still_few (inl d) = omega (arith, d.same_count, ap unreached_count d.same_kept)
     still_few (inr d) = omega (arith, d.counted, d.fewer)
 
-    pub less_to_do : IsDeclined ks ks' b1 b2 e n n' ⊎ IsAccepted (edge_at dump log) (width dump) ks ks' b1 b2 s e n n' → unreached_count ks' * 2 ^ 32 + pending b2 < unreached_count ks * 2 ^ 32 + pending b
+    pub less_to_do : IsDeclined ks ks' b1 b2 e n n' ⊎ IsAccepted dump.mode (edge_at dump log) (width dump) ks ks' b1 b2 s e n n' → unreached_count ks' * 2 ^ 32 + pending b2 < unreached_count ks * 2 ^ 32 + pending b
     less_to_do (inl d) = omega (arith, ap unreached_count d.same_kept, ap pending d.same_offers, best.count)
     less_to_do (inr d) = omega (arith, d.fewer, d.few, best.count)

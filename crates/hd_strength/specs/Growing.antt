@@ -2,6 +2,7 @@
 -- Source: this project.
 use Rattle.std.specs.Prelude.{◌≡◌, ◌≢◌, ℕ, ◌+◌, ◌^◌, ◌≤◌, ◌<◌, ◌⊎◌, List, length, Contains, sum_by, nat_eq, if◌then◌else◌, Option, Some}
 use Rattle.hd_terms.specs.declared.Event.{Event}
+use Rattle.hd_terms.specs.declared.Mode.{Mode}
 use Rattle.hd_terms.specs.declared.Strength.{Strength}
 use Rattle.hd_terms.specs.declared.Strength.TheVariants as strengths
 use Rattle.hd_terms.specs.declared.Support.TheVariants as supports
@@ -37,10 +38,10 @@ pub record AreHeld (dump : Dump) (log : List Event) (ks : List Reached) (n : ℕ
   pub by_roots : (r : ℕ) → r < n → (x : RootEntry) → root_at dump log r ≡ Some x → (reached_at ks x.target).strength ≡ strengths.Strong
 
 -- an edge from an object that passes its strength on gives this strength
-pub record IsBacked (at : ℕ → ℕ → Option Edge) (ks : List Reached) (s : Strength) (x : Offer) : Type 0 where
+pub record IsBacked (mode : Mode) (at : ℕ → ℕ → Option Edge) (ks : List Reached) (s : Strength) (x : Offer) : Type 0 where
   pub edge : Edge
   pub is : at x.source x.place ≡ Some edge
-  pub passes_on : PassesOn (reached_at ks x.source)
+  pub passes_on : PassesOn mode (reached_at ks x.source)
   pub gives : s ≡ offered_strength ks edge
 
 -- what is reached is supported; what an object that is done gives is had or offered; each offer is backed and gives
@@ -49,8 +50,8 @@ pub record IsGrowing (g : Standing) (at : ℕ → ℕ → Option Edge) (ks : Lis
   pub supported : (o : ℕ) → IsSupported g ks o (reached_at ks o).support
   pub by_roots : (r : RootEntry) → Contains g.roots r → (reached_at ks r.target).strength ≡ strengths.Strong
   pub stamps : (o : ℕ) → (reached_at ks o).stamp ≤ count
-  pub by_edges : (o i : ℕ) (e : Edge) → IsDone o → at o i ≡ Some e → PassesOn (reached_at ks o) → (rank (offered_strength ks e) ≤ rank_at ks e.target) ⊎ Contains (offers (offered_strength ks e)) (offer_at o i)
-  pub backed : (s : Strength) (x : Offer) → Contains (offers s) x → IsBacked at ks s x
+  pub by_edges : (o i : ℕ) (e : Edge) → IsDone o → at o i ≡ Some e → PassesOn g.mode (reached_at ks o) → (rank (offered_strength ks e) ≤ rank_at ks e.target) ⊎ Contains (offers (offered_strength ks e)) (offer_at o i)
+  pub backed : (s : Strength) (x : Offer) → Contains (offers s) x → IsBacked g.mode at ks s x
   pub least : (s : Strength) (x : Offer) → Contains (offers s) x → (o : ℕ) → 1 ≤ rank_at ks o → rank s ≤ rank_at ks o
 
 -- every object is done
@@ -75,13 +76,13 @@ pub record IsDeclined (ks ks' : List Reached) (b b' : Buckets) (e : Edge) (count
   pub same_count : count' ≡ count
 
 -- the target of an offer is reached by it, and offers what it passes on
-pub record IsAccepted (at : ℕ → ℕ → Option Edge) (width : ℕ → ℕ) (ks ks' : List Reached) (b b' : Buckets) (s : Strength) (e : Edge) (count count' : ℕ) : Type 0 where
+pub record IsAccepted (mode : Mode) (at : ℕ → ℕ → Option Edge) (width : ℕ → ℕ) (ks ks' : List Reached) (b b' : Buckets) (s : Strength) (e : Edge) (count count' : ℕ) : Type 0 where
   pub was_unreached : rank_at ks e.target ≡ 0
   pub here : reached_at ks' e.target ≡ record { strength = s; support = supports.Edge e.source e.slot; stamp = count + 1 }
   pub others : (o : ℕ) → o ≢ e.target → reached_at ks' o ≡ reached_at ks o
   pub same_length : length ks' ≡ length ks
-  pub adds : IsPassedOn s → AddsOffers at ks' e.target (width e.target) (bucket b) (bucket b')
-  pub adds_none : (IsPassedOn s → ⊥) → b' ≡ b
+  pub adds : IsPassedOn mode s → AddsOffers at ks' e.target (width e.target) (bucket b) (bucket b')
+  pub adds_none : (IsPassedOn mode s → ⊥) → b' ≡ b
   pub few : pending b' < pending b + 2 ^ 32
   pub fewer : unreached_count ks' + 1 ≡ unreached_count ks
   pub counted : count' ≡ count + 1

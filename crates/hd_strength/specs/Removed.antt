@@ -7,7 +7,7 @@ use Rattle.hd_terms.specs.declared.Slot.{Slot}
 use Rattle.hd_terms.specs.declared.Edit.{Edit}
 use Rattle.hd_terms.specs.declared.Event.{Event}
 use Rattle.hd_terms.specs.Dump.{SlotEntry, Object, Dump, object_at}
-use Rattle.hd_terms.specs.EditedDump.{takes_away, slot_stands, is_slot, drops, is_dropped}
+use Rattle.hd_terms.specs.EditedDump.{takes_away, is_untouched, is_slot, drops, is_dropped}
 
 -- the key of a place of an object's slots
 abbrev pub place_key : ℕ → ℕ → ℕ
@@ -36,21 +36,21 @@ is_root_removed t r = has_root t.roots r
 
 -- what is taken away is what the live edits of a log take away
 pub record IsRemovedBy (dump : Dump) (log : List Event) (t : Removals) : Type 0 where
-  pub slots : (o i : ℕ) (s : SlotEntry) → o < length dump.objects → slice_get (object_at dump o).slots i ≡ Some s → is_removed t o i ≡ not (slot_stands log (object_at dump o) s.slot)
+  pub slots : (o i : ℕ) (s : SlotEntry) → o < length dump.objects → slice_get (object_at dump o).slots i ≡ Some s → is_removed t o i ≡ not (is_untouched log (object_at dump o) s)
   pub roots : (r : ℕ) → is_root_removed t r ≡ is_dropped log r
 
 -- the places from which some edits take the references
 abbrev pub ArePlaces : Dump → List Edit → List ℕ → Type 0
-ArePlaces dump es keys = (o i : ℕ) (s : SlotEntry) → o < length dump.objects → slice_get (object_at dump o).slots i ≡ Some s → has_place keys o i ≡ list_any (takes_away (object_at dump o) s.slot) es
+ArePlaces dump es keys = (o i : ℕ) (s : SlotEntry) → o < length dump.objects → slice_get (object_at dump o).slots i ≡ Some s → has_place keys o i ≡ list_any (takes_away (object_at dump o) s) es
 
 -- the roots that some edits drop
 abbrev pub AreRoots : List Edit → List ℕ → Type 0
 AreRoots es numbers = (r : ℕ) → has_root numbers r ≡ list_any (drops r) es
 
--- the one place of a dump whose object and slot pass a test, if there is one
-pub record IsOnlyPlace (dump : Dump) (test : Object → Slot → Bool) (p : Option (ℕ × ℕ)) : Type 0 where
-  pub passes : (o i : ℕ) (s : SlotEntry) → p ≡ Some (o, i) → slice_get (object_at dump o).slots i ≡ Some s → test (object_at dump o) s.slot ≡ true
-  pub only : (o i : ℕ) (s : SlotEntry) → o < length dump.objects → slice_get (object_at dump o).slots i ≡ Some s → test (object_at dump o) s.slot ≡ true → p ≡ Some (o, i)
+-- the one place of a dump whose object and slot entry pass a test, if there is one
+pub record IsOnlyPlace (dump : Dump) (test : Object → SlotEntry → Bool) (p : Option (ℕ × ℕ)) : Type 0 where
+  pub passes : (o i : ℕ) (s : SlotEntry) → p ≡ Some (o, i) → slice_get (object_at dump o).slots i ≡ Some s → test (object_at dump o) s ≡ true
+  pub only : (o i : ℕ) (s : SlotEntry) → o < length dump.objects → slice_get (object_at dump o).slots i ≡ Some s → test (object_at dump o) s ≡ true → p ≡ Some (o, i)
 
 -- the one place of an object's slots that has a name, if there is one
 pub record IsNamedPlace (slots : List SlotEntry) (name : Option Slot) (o : ℕ) (p : Option (ℕ × ℕ)) : Type 0 where

@@ -63,7 +63,7 @@ fn named_place(graph: &Graph, o: u32, name: Option<Slot>) -> Option<(u32, u32)>
 
 /// The place from which an edit takes the reference, if there is one: the object, and the place of the slot.
 fn edit_place(graph: &Graph, edit: Edit) -> Option<(u32, u32)>
-    ensures { IsOnlyPlace graph.now (λ x slot. takes_away x slot edit) result }
+    ensures { IsOnlyPlace graph.now (λ x s. takes_away x s edit) result }
 {
     match edit {
         Edit::Cut(id, slot) => {
@@ -81,7 +81,7 @@ fn edit_place(graph: &Graph, edit: Edit) -> Option<(u32, u32)>
 /// Adds the place from which an edit takes the reference.
 fn take_place(places: &mut IndexSet<u64>, graph: &Graph, edit: Edit) -> Result<(), NoMemory>
     ensures { OnOk result ((o i : ℕ) (s : SlotEntry) → o < length graph.now.objects → slice_get (object_at graph.now o).slots i ≡ Some s
-        → has_place places.new.keys o i ≡ (has_place places.old.keys o i || takes_away (object_at graph.now o) s.slot edit)) }
+        → has_place places.new.keys o i ≡ (has_place places.old.keys o i || takes_away (object_at graph.now o) s edit)) }
 {
     if let Some((o, place)) = edit_place(graph, edit) {
         places.insert(place_key(o, place))?;

@@ -1,4 +1,7 @@
-//! Strengths from scratch: offers are taken by falling rank.
+//! Strengths from scratch: Dijkstra's widest path with a bucket for each rank.
+//!
+//! Offers are taken by falling rank, and each object takes the first that reaches it. What is settled in the end is the
+//! certificate of the search.
 ghost use Rattle.std.specs.Prelude.{◌≡◌, ℕ, ◌+◌, ◌^◌, ◌<◌, ◌≤◌, ◌⊎◌, Some, length, IfNone, IfOk, IfSome, OnOk};
 ghost use Rattle.hd_terms.specs.Ranks.{rank};
 ghost use Rattle.std.specs.Option.{option_map};
@@ -190,11 +193,11 @@ fn accept(
     requires object { best.offer.source < length edited.graph.now.objects }
     requires place { best.offer.place < width edited.graph.now best.offer.source }
     requires count { length kept.old.items ≡ length edited.graph.now.objects }
-    requires backed { IsBacked (edge_at edited.graph.now edited.front.now) kept.old.items best.strength best.offer }
+    requires backed { IsBacked edited.graph.now.mode (edge_at edited.graph.now edited.front.now) kept.old.items best.strength best.offer }
     requires room { count < 2 ^ 32 }
     ensures { IfOk result (λ n. (e : Edge) → edge_at edited.entry.graph.now edited.entry.front.now best.offer.source best.offer.place ≡ Some e →
         (IsDeclined kept.old.items kept.new.items buckets.old buckets.new e count n
-        ⊎ IsAccepted (edge_at edited.entry.graph.now edited.entry.front.now) (width edited.entry.graph.now) kept.old.items kept.new.items buckets.old buckets.new best.strength e count n)) }
+        ⊎ IsAccepted edited.entry.graph.now.mode (edge_at edited.entry.graph.now edited.entry.front.now) (width edited.entry.graph.now) kept.old.items kept.new.items buckets.old buckets.new best.strength e count n)) }
 {
     let read = edited.graph.slots(best.offer.source, best.offer.place);
     let Some(target) = read.target else {
@@ -209,7 +212,7 @@ fn accept(
         read.slot,
         count + 1,
     );
-    if best.strength.rank() >= Strength::Final.rank() {
+    if best.strength.rank() >= edited.graph.mode().least_passed_on().rank() {
         relax_edges(edited, kept, target, buckets)?;
     }
     Ok(count + 1)

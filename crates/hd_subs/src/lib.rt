@@ -17,6 +17,3 @@ pub use layout::{array_class_offset, class_offset};
 pub use reading::{read_segment, read_segment_into};
 pub use sub::{Item, Sub};
 pub use subs::Subs;
-
-#[cfg(test)]
-mod tests;

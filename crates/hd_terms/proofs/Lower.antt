@@ -2,6 +2,7 @@ use Rattle.std.proofs.Common.{◌≡◌, ◌≢◌, ◌∙◌, ℕ, zero, suc, �
 use Rattle.std.specs.List.{AllByRecursion}
 use Rattle.std.proofs.lemmas.List.Elements.{Contains-push_cases}
 use Rattle.std.proofs.lemmas.List.{map-append}
+use Rattle.hd_terms.specs.declared.Mode.{Mode}
 use Rattle.hd_terms.specs.declared.Strength.{Strength}
 use Rattle.hd_terms.specs.declared.Strength.TheVariants as strengths
 use Rattle.hd_terms.specs.declared.Slot.{Slot}
@@ -11,7 +12,7 @@ use Rattle.hd_terms.specs.Ranks.{rank, given_by, weaker_of, IsPassedOn}
 use Rattle.hd_terms.specs.Paths.{Edge, RootEntry, Standing, Lead, PassOn, path_strength, IsPath, objects_on}
 use Rattle.hd_terms.specs.Chains.{NoneTwice, IsChain}
 use Rattle.hd_terms.specs.Settled.{Reached, Settled, IsStoredChain, reached_at, PassesOn, IsBefore, SupportedBy, IsSupported}
-use Rattle.hd_terms.proofs.RankLemmas.{weaker-le_left, weaker-le_right, rank-le, reached_rank, weaker_comm, weaker_assoc}
+use Rattle.hd_terms.proofs.RankLemmas.{weaker-le_left, weaker-le_right, rank-le, reached_rank, weaker_comm, weaker_assoc, least-positive}
 
 -- one more edge at the end
 
@@ -19,12 +20,12 @@ Lead-push : (g : Standing) (e : Edge) (es : List Edge) (a b : ℕ) → Lead g a 
 Lead-push g e [] a b lead stands from = (stands, from ∙ sym lead, refl)
 Lead-push g e (f ∷ es) a b lead stands from = (lead.0, lead.1, Lead-push g e es f.target b lead.2 stands from)
 
-PassOn-push : (e : Edge) (es : List Edge) → IsPassedOn (path_strength es) → PassOn (es ++ e ∷ [])
-PassOn-push e [] h = tt
-PassOn-push e (f ∷ []) h = (omega (arith, weaker-le_left (given_by f.kind) (path_strength [])), tt)
-PassOn-push e (f ∷ f' ∷ es) h = (
+PassOn-push : (mode : Mode) (e : Edge) (es : List Edge) → IsPassedOn mode (path_strength es) → PassOn mode (es ++ e ∷ [])
+PassOn-push mode e [] h = tt
+PassOn-push mode e (f ∷ []) h = (omega (arith, weaker-le_left (given_by f.kind) (path_strength [])), tt)
+PassOn-push mode e (f ∷ f' ∷ es) h = (
   omega (arith, weaker-le_left (given_by f.kind) (path_strength (f' ∷ es))),
-  PassOn-push e (f' ∷ es) (omega (arith, weaker-le_right (given_by f.kind) (path_strength (f' ∷ es)))),
+  PassOn-push mode e (f' ∷ es) (omega (arith, weaker-le_right (given_by f.kind) (path_strength (f' ∷ es)))),
 )
 
 path_strength-push : (e : Edge) (es : List Edge) → path_strength (es ++ e ∷ []) ≡ weaker_of (path_strength es) (given_by e.kind)
@@ -96,7 +97,7 @@ module _ (g : Standing) (ks : List Reached) where
         path = record {
           root = f.path.root;
           edges = subst (λ (x : ℕ). Lead g f.root.target (f.edges ++ e ∷ []) x) s.to_object (Lead-push g e f.edges f.root.target b f.path.edges s.stands s.from_source);
-          passed_on = PassOn-push e f.edges (rw f.strength s.passes_on);
+          passed_on = PassOn-push g.mode e f.edges (rw f.strength s.passes_on);
         };
         strength = path_strength-push e f.edges ∙ ap (λ (x : Strength). weaker_of x (given_by e.kind)) f.strength ∙ sym s.strength;
         simple = subst NoneTwice (sym objects) (NoneTwice-push o (objects_on f.root f.edges) f.simple new);
@@ -134,7 +135,7 @@ stamp_at ks o = (reached_at ks o).stamp
 
 module _ (g : Standing) (ks : List Reached) (settled : Settled g ks) where
   -- where each object that comes before o and passes on has a chain, o has one
-  one_more : (o : ℕ) (s : Support) → (reached_at ks o).support ≡ s → IsSupported g ks o s → 1 ≤ rank_at ks o → ((b : ℕ) → IsBefore (reached_at ks b) (reached_at ks o) → PassesOn (reached_at ks b) → Found g ks b) → Found g ks o
+  one_more : (o : ℕ) (s : Support) → (reached_at ks o).support ≡ s → IsSupported g ks o s → 1 ≤ rank_at ks o → ((b : ℕ) → IsBefore (reached_at ks b) (reached_at ks o) → PassesOn g.mode (reached_at ks b) → Found g ks b) → Found g ks o
   one_more o supports.Nothing is h reached earlier = let none : rank_at ks o ≡ 0 = ap rank h in absurd (omega arith)
   one_more o (supports.Root n) is h reached earlier = at_root g ks o n h.0 h.1 is
   one_more o (supports.Edge source slot) is (e, h) reached earlier = extend g ks source o slot e (earlier source h.earlier h.passes_on) is h
@@ -145,8 +146,8 @@ module _ (g : Standing) (ks : List Reached) (settled : Settled g ks) where
   by_stamp d higher (suc t) o near lt reached =
       one_more o (reached_at ks o).support refl (settled.supported o) reached (λ b earlier passes.
       elim earlier [
-        | inl above ↦ higher b (omega arith) (omega arith)
-        | inr same ↦ by_stamp d higher t b (omega arith) (omega arith) (omega arith)
+        | inl above ↦ higher b (omega arith) (omega (arith, least-positive g.mode))
+        | inr same ↦ by_stamp d higher t b (omega arith) (omega arith) (omega (arith, least-positive g.mode))
       ])
 
   -- by the ranks

@@ -7,7 +7,7 @@ use Rattle.hd_terms.specs.declared.IdSize.TheVariants as sizes
 use Rattle.hd_terms.specs.declared.Span.{Span}
 use Rattle.hd_terms.specs.declared.errors.Cause.{Cause}
 use Rattle.hd_terms.specs.declared.errors.ReadFault.{ReadFault}
-use Rattle.hd_terms.specs.Records.{id_len, id_size_of, header_len, Record, IsFramed, least_body, IsRecord, record_text, HasHeader, AreRecords, segment_spans}
+use Rattle.hd_terms.specs.Records.{has_magic, id_len, id_size_of, header_len, Record, IsFramed, least_body, IsRecord, record_text, HasHeader, AreRecords, segment_spans}
 use Rattle.hd_terms.specs.declared.RootKind.{RootKind}
 use Rattle.hd_terms.specs.declared.RootKind.TheVariants as roots
 use Rattle.hd_terms.specs.Types.{is_element_type, is_type}
@@ -67,6 +67,10 @@ same_record_fault size bytes f g h k =
 at_size : (a b : IdSize) (bytes : List ℕ) (f : ReadFault) → a ≡ b → IsRecordFault a bytes f → IsRecordFault b bytes f
 at_size a b bytes f size h = subst (λ (x : IdSize). IsRecordFault x bytes f) size h
 
+-- a test doesn't pass and fail
+not_both : (b : Bool) → b ≡ true → b ≡ false → ⊥
+not_both b passes fails = let both : true ≡ false = sym passes ∙ fails in absurd cc
+
 -- an identifier size is 4 or 8
 one_of_two : (size : IdSize) (n : ℕ) → n ≡ id_len size → n ≢ 4 → n ≢ 8 → ⊥
 one_of_two sizes.Four n is four eight = four is
@@ -76,7 +80,7 @@ one_of_two sizes.Eight n is four eight = eight is
 no_records_fault : (bytes : List ℕ) (size : IdSize) (rs : List Record) (f : ReadFault) → HasHeader size bytes → AreRecords size bytes rs → IsRecordsFault bytes f → ⊥
 no_records_fault bytes size rs f header whole (too_large more) = let fits = header.fits in omega arith
 no_records_fault bytes size rs f header whole (no_header less) = let long = header.long in omega arith
-no_records_fault bytes size rs f header whole (other_text fits long other) = other header.magic
+no_records_fault bytes size rs f header whole (other_text fits long other) = not_both (has_magic bytes) header.magic other
 no_records_fault bytes size rs f header whole (other_id_size fits long text four eight) = one_of_two size (id_size_of bytes) header.id_size four eight
 no_records_fault bytes size rs f header whole (in_a_record size' header' h) = no_record_fault size bytes rs f whole (at_size size' size bytes f (same_size size' size bytes header' header) h)
 
@@ -95,16 +99,16 @@ same_records_fault bytes f g (no_header less) (in_a_record size header h) = let 
 same_records_fault bytes f g (other_text fits long other) (too_large more) = absurd (omega arith)
 same_records_fault bytes f g (other_text fits long other) (no_header less) = absurd (omega arith)
 same_records_fault bytes f g (other_text fits long other) (other_text fits' long' other') = refl
-same_records_fault bytes f g (other_text fits long other) (other_id_size fits' long' text four eight) = absurd (other text)
-same_records_fault bytes f g (other_text fits long other) (in_a_record size header h) = absurd (other header.magic)
+same_records_fault bytes f g (other_text fits long other) (other_id_size fits' long' text four eight) = absurd (not_both (has_magic bytes) text other)
+same_records_fault bytes f g (other_text fits long other) (in_a_record size header h) = absurd (not_both (has_magic bytes) header.magic other)
 same_records_fault bytes f g (other_id_size fits long text four eight) (too_large more) = absurd (omega arith)
 same_records_fault bytes f g (other_id_size fits long text four eight) (no_header less) = absurd (omega arith)
-same_records_fault bytes f g (other_id_size fits long text four eight) (other_text fits' long' other) = absurd (other text)
+same_records_fault bytes f g (other_id_size fits long text four eight) (other_text fits' long' other) = absurd (not_both (has_magic bytes) text other)
 same_records_fault bytes f g (other_id_size fits long text four eight) (other_id_size fits' long' text' four' eight') = refl
 same_records_fault bytes f g (other_id_size fits long text four eight) (in_a_record size header h) = absurd (one_of_two size (id_size_of bytes) header.id_size four eight)
 same_records_fault bytes f g (in_a_record size header h) (too_large more) = let fits = header.fits in absurd (omega arith)
 same_records_fault bytes f g (in_a_record size header h) (no_header less) = let long = header.long in absurd (omega arith)
-same_records_fault bytes f g (in_a_record size header h) (other_text fits long other) = absurd (other header.magic)
+same_records_fault bytes f g (in_a_record size header h) (other_text fits long other) = absurd (not_both (has_magic bytes) header.magic other)
 same_records_fault bytes f g (in_a_record size header h) (other_id_size fits long text four eight) = absurd (one_of_two size (id_size_of bytes) header.id_size four eight)
 same_records_fault bytes f g (in_a_record size header h) (in_a_record size' header' k) =
     same_record_fault size' bytes f g (at_size size size' bytes f (same_size size size' bytes header header') h) k

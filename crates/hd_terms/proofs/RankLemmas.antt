@@ -4,7 +4,9 @@ use Rattle.hd_terms.specs.declared.Strength.{Strength}
 use Rattle.hd_terms.specs.declared.Strength.TheVariants as strengths
 use Rattle.hd_terms.specs.declared.EdgeKind.{EdgeKind}
 use Rattle.hd_terms.specs.declared.EdgeKind.TheVariants as kinds
-use Rattle.hd_terms.specs.Ranks.{rank, given_by, weaker_of}
+use Rattle.hd_terms.specs.declared.Mode.{Mode}
+use Rattle.hd_terms.specs.declared.Mode.TheVariants as modes
+use Rattle.hd_terms.specs.Ranks.{rank, given_by, weaker_of, least_passed_on}
 
 -- the strength of a rank
 abbrev of_rank : ℕ → Strength
@@ -69,3 +71,8 @@ reached_rank strengths.Final h = omega arith
 reached_rank strengths.Weak h = omega arith
 reached_rank strengths.Soft h = omega arith
 reached_rank strengths.Strong h = omega arith
+
+-- nothing is passed on of what is unreachable
+pub least-positive : (mode : Mode) → 1 ≤ rank (least_passed_on mode)
+least-positive modes.Direct = omega arith
+least-positive modes.Closure = omega arith

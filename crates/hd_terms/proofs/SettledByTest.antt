@@ -11,7 +11,8 @@ use Rattle.hd_terms.specs.declared.Slot.{Slot}
 use Rattle.hd_terms.specs.declared.Slot.TheVariants as slots
 use Rattle.hd_terms.specs.declared.Support.{Support}
 use Rattle.hd_terms.specs.declared.Support.TheVariants as supports
-use Rattle.hd_terms.specs.Ranks.{rank, given_by, weaker_of}
+use Rattle.hd_terms.specs.declared.Mode.{Mode}
+use Rattle.hd_terms.specs.Ranks.{rank, given_by, weaker_of, least_passed_on}
 use Rattle.hd_terms.specs.Paths.{Edge, RootEntry, Standing}
 use Rattle.hd_terms.specs.Strengths.{HasStrength}
 use Rattle.hd_terms.specs.EditedDump.{slot_code, same_slot}
@@ -56,6 +57,10 @@ same_slot-true a b h =
 abbrev rank_at : List Reached → ℕ → ℕ
 rank_at ks o = rank (reached_at ks o).strength
 
+-- the least rank that is passed on
+abbrev least : Mode → ℕ
+least mode = rank (least_passed_on mode)
+
 -- what an edge gives its target
 abbrev gives : List Reached → Edge → Strength
 gives ks e = weaker_of (reached_at ks e.source).strength (given_by e.kind)
@@ -68,14 +73,14 @@ is_before a b = nat_lt (rank b.strength) (rank a.strength) || ((rank b.strength 
 abbrev is_the_edge : ℕ → ℕ → Slot → Edge → Bool
 is_the_edge o source slot e = (e.source == source) && (same_slot e.slot slot && (e.target == o))
 
-abbrev gives_enough : List Reached → Edge → Bool
-gives_enough ks e = nat_le 2 (rank_at ks e.source) && ((rank_at ks e.target == rank (gives ks e)) && is_before (reached_at ks e.source) (reached_at ks e.target))
+abbrev gives_enough : Mode → List Reached → Edge → Bool
+gives_enough mode ks e = nat_le (least mode) (rank_at ks e.source) && ((rank_at ks e.target == rank (gives ks e)) && is_before (reached_at ks e.source) (reached_at ks e.target))
 
 -- `IsSupported` as a test
 abbrev is_supported : Standing → List Reached → ℕ → Support → Bool
 is_supported g ks o supports.Nothing = rank_at ks o == 0
 is_supported g ks o (supports.Root n) = list_any (λ (r : RootEntry). (r.number == n) && (r.target == o)) g.roots && (rank_at ks o == 5)
-is_supported g ks o (supports.Edge source slot) = list_any (λ (e : Edge). is_the_edge o source slot e && gives_enough ks e) g.edges
+is_supported g ks o (supports.Edge source slot) = list_any (λ (e : Edge). is_the_edge o source slot e && gives_enough g.mode ks e) g.edges
 
 -- the same of all objects from a number on
 abbrev are_supported : Standing → List Reached → ℕ → List Reached → Bool
@@ -87,12 +92,12 @@ abbrev is_strong : List Reached → RootEntry → Bool
 is_strong ks r = rank_at ks r.target == 5
 
 -- an edge gives no more than its target has
-abbrev is_enough : List Reached → Edge → Bool
-is_enough ks e = nat_lt (rank_at ks e.source) 2 || nat_le (rank (gives ks e)) (rank_at ks e.target)
+abbrev is_enough : Mode → List Reached → Edge → Bool
+is_enough mode ks e = nat_lt (rank_at ks e.source) (least mode) || nat_le (rank (gives ks e)) (rank_at ks e.target)
 
 -- `Settled` as a test
 abbrev pub is_settled : Standing → List Reached → Bool
-is_settled g ks = are_supported g ks 0 ks && (list_all (is_strong ks) g.roots && list_all (is_enough ks) g.edges)
+is_settled g ks = are_supported g ks 0 ks && (list_all (is_strong ks) g.roots && list_all (is_enough g.mode ks) g.edges)
 
 -- one of two tests passes
 or_parts : (x y : Bool) → (x || y) ≡ true → (x ≡ true) ⊎ (y ≡ true)
@@ -112,16 +117,16 @@ is_before-true a b h =
     ]
 
 -- an edge that gives its target enough supports it
-supports_its_target : (g : Standing) (ks : List Reached) (e : Edge) → Contains g.edges e → gives_enough ks e ≡ true → SupportedBy g ks e.target e.source e.slot e
+supports_its_target : (g : Standing) (ks : List Reached) (e : Edge) → Contains g.edges e → gives_enough g.mode ks e ≡ true → SupportedBy g ks e.target e.source e.slot e
 supports_its_target g ks e stands h =
-    let a = and_parts (nat_le 2 (rank_at ks e.source)) ((rank_at ks e.target == rank (gives ks e)) && is_before (reached_at ks e.source) (reached_at ks e.target)) h in
+    let a = and_parts (nat_le (least g.mode) (rank_at ks e.source)) ((rank_at ks e.target == rank (gives ks e)) && is_before (reached_at ks e.source) (reached_at ks e.target)) h in
     let b = and_parts (rank_at ks e.target == rank (gives ks e)) (is_before (reached_at ks e.source) (reached_at ks e.target)) a.1 in
     record {
       stands = stands;
       from_source = refl;
       from_slot = refl;
       to_object = refl;
-      passes_on = leb-true 2 (rank_at ks e.source) a.0;
+      passes_on = leb-true (least g.mode) (rank_at ks e.source) a.0;
       strength = same_rank (reached_at ks e.target).strength (gives ks e) (eqb-true (rank_at ks e.target) (rank (gives ks e)) b.0);
       earlier = is_before-true (reached_at ks e.source) (reached_at ks e.target) b.1;
     }
@@ -138,9 +143,9 @@ is_supported-true g ks o (supports.Root n) h =
     ∙ ap (λ (m : ℕ). let entry : RootEntry = record { number = n; target = m } in entry) (eqb-true r.target o same.1) in
     (subst (λ (x : RootEntry). Contains g.roots x) is (any.0, any.2, any.3), same_rank (reached_at ks o).strength strengths.Strong (eqb-true (rank_at ks o) 5 parts.1))
 is_supported-true g ks o (supports.Edge source slot) h =
-    let any = Any-from_list_any (λ (e : Edge). is_the_edge o source slot e && gives_enough ks e) g.edges h in
+    let any = Any-from_list_any (λ (e : Edge). is_the_edge o source slot e && gives_enough g.mode ks e) g.edges h in
     let e : Edge = any.1 in
-    let parts = and_parts (is_the_edge o source slot e) (gives_enough ks e) any.4 in
+    let parts = and_parts (is_the_edge o source slot e) (gives_enough g.mode ks e) any.4 in
     let a = and_parts (e.source == source) (same_slot e.slot slot && (e.target == o)) parts.0 in
     let b = and_parts (same_slot e.slot slot) (e.target == o) a.1 in
     let own : SupportedBy g ks e.target e.source e.slot e = supports_its_target g ks e (any.0, any.2, any.3) parts.1 in
@@ -167,16 +172,16 @@ beyond g ks o k is same = subst (λ (x : Reached). IsSupported g ks o x.support)
 -- what passes the test is settled
 settled : (g : Standing) (ks : List Reached) → is_settled g ks ≡ true → Settled g ks
 settled g ks h =
-    let a = and_parts (are_supported g ks 0 ks) (list_all (is_strong ks) g.roots && list_all (is_enough ks) g.edges) h in
-    let b = and_parts (list_all (is_strong ks) g.roots) (list_all (is_enough ks) g.edges) a.1 in
+    let a = and_parts (are_supported g ks 0 ks) (list_all (is_strong ks) g.roots && list_all (is_enough g.mode ks) g.edges) h in
+    let b = and_parts (list_all (is_strong ks) g.roots) (list_all (is_enough g.mode ks) g.edges) a.1 in
     record {
       supported = λ o. elim (cases_lt o (length ks)) [
         | inl within ↦ (let same : 0 + o ≡ o = omega arith in subst (λ (x : ℕ). IsSupported g ks x (reached_at ks o).support) same (are_supported-true g ks 0 ks a.0 o within))
         | inr past ↦ (let is : reached_at ks o ≡ unreached = get_or_past ks o unreached past in beyond g ks o (reached_at ks o) is is)
       ];
       by_roots = λ r c. same_rank (reached_at ks r.target).strength strengths.Strong (eqb-true (rank_at ks r.target) 5 (all_contains (is_strong ks) g.roots r b.0 c));
-      by_edges = λ e c passes. elim (or_parts (nat_lt (rank_at ks e.source) 2) (nat_le (rank (gives ks e)) (rank_at ks e.target)) (all_contains (is_enough ks) g.edges e b.1 c)) [
-        | inl low ↦ absurd (omega (arith, ltb-true (rank_at ks e.source) 2 low))
+      by_edges = λ e c passes. elim (or_parts (nat_lt (rank_at ks e.source) (least g.mode)) (nat_le (rank (gives ks e)) (rank_at ks e.target)) (all_contains (is_enough g.mode ks) g.edges e b.1 c)) [
+        | inl low ↦ absurd (omega (arith, ltb-true (rank_at ks e.source) (least g.mode) low))
         | inr enough ↦ leb-true (rank (gives ks e)) (rank_at ks e.target) enough
       ];
     }

@@ -11,7 +11,7 @@ module _ (g : Standing) (ks : List Reached) (settled : Settled g ks) where
 
   -- the least rank that is passed on
   abbrev least : ℕ
-  least = rank least_passed_on
+  least = rank (least_passed_on g.mode)
 
   -- one edge from a passes on what both a and the edge have
   along : (a n : ℕ) (e : Edge) → Contains g.edges e → e.source ≡ a → least ≤ at a → n ≤ at a → n ≤ rank (given_by e.kind) → n ≤ at e.target
@@ -22,7 +22,7 @@ module _ (g : Standing) (ks : List Reached) (settled : Settled g ks) where
       omega (arith, weaker-greatest n (reached_at ks e.source).strength (given_by e.kind) here.1 given)
 
   -- what a and the edges of a path from a to b have, b has
-  carried : (es : List Edge) (a b n : ℕ) → Lead g a es b → PassOn es → least ≤ at a → n ≤ at a → n ≤ rank (path_strength es) → n ≤ at b
+  carried : (es : List Edge) (a b n : ℕ) → Lead g a es b → PassOn g.mode es → least ≤ at a → n ≤ at a → n ≤ rank (path_strength es) → n ≤ at b
   carried [] a b n lead last passes low strength = let P : ℕ → Type 0 = λ x. n ≤ at x in subst P lead low
   carried (e ∷ []) a b n lead last passes low strength =
       let P : ℕ → Type 0 = λ x. n ≤ at x in
@@ -37,4 +37,4 @@ module _ (g : Standing) (ks : List Reached) (settled : Settled g ks) where
   pub greatest : (o : ℕ) (r : RootEntry) (es : List Edge) → IsPath g r es o → rank (path_strength es) ≤ at o
   greatest o r es path =
       let strong : 5 ≤ at r.target = rw (settled.by_roots r path.root) (omega arith) in
-      carried es r.target o (rank (path_strength es)) path.edges path.passed_on (omega arith) (omega (arith, rank-le (path_strength es))) (omega arith)
+      carried es r.target o (rank (path_strength es)) path.edges path.passed_on (omega (arith, rank-le (least_passed_on g.mode))) (omega (arith, rank-le (path_strength es))) (omega arith)

@@ -1,16 +1,14 @@
 -- Why a log doesn't take what an analyst appends to it.
 -- Source: this project. The order is: what an undo names, what a drop names, and last that the log is full.
 use Rattle.std.specs.Prelude.{ℕ, if◌then◌else◌, List, Option, Some, None}
-use Rattle.std.specs.Option.{option_map, option_or}
+use Rattle.std.specs.Option.{option_map, option_and_then, option_or}
 use Rattle.hd_terms.specs.declared.Edit.{Edit}
 use Rattle.hd_terms.specs.declared.Edit.TheVariants as edits
 use Rattle.hd_terms.specs.declared.Event.{Event}
-use Rattle.hd_terms.specs.declared.What.{What}
-use Rattle.hd_terms.specs.declared.What.TheVariants as whats
 use Rattle.hd_terms.specs.declared.errors.LogFault.{LogFault}
 use Rattle.hd_terms.specs.declared.errors.Refusal.{Refusal}
 use Rattle.hd_terms.specs.declared.errors.Refusal.TheVariants as refusals
-use Rattle.hd_terms.specs.Log.{full_fault, log_fault_of}
+use Rattle.hd_terms.specs.Log.{edit_of, log_fault}
 use Rattle.hd_terms.specs.EditedDump.{is_root}
 
 -- why an edit can't be done to the roots of a dump that has so many and those that a log adds: there is no root to drop
@@ -24,11 +22,7 @@ root_refusal roots log (edits.Add id) = None
 abbrev pub by_log : Option LogFault → Option Refusal
 by_log fault = option_map (λ (f : LogFault). refusals.Log f) fault
 
--- why a log doesn't take what an analyst does over a dump of so many roots, the first reason
-abbrev pub append_refusal_of : (roots : ℕ) → List Event → ℕ → What → Option Refusal
-append_refusal_of roots log who (whats.Do edit) = option_or (root_refusal roots log edit) (by_log (full_fault log))
-append_refusal_of roots log who (whats.Undo k) = by_log (log_fault_of log who (whats.Undo k))
-
--- why a log doesn't take an event over a dump of so many roots, the first reason, if there is one
+-- why a log doesn't take an event over a dump of so many roots, the first reason, if there is one: there is no root to drop,
+-- or the log's own reason
 abbrev pub append_refusal : (roots : ℕ) → List Event → Event → Option Refusal
-append_refusal roots log event = append_refusal_of roots log event.who event.what
+append_refusal roots log event = option_or (option_and_then (root_refusal roots log) (edit_of event.what)) (by_log (log_fault log event))

@@ -90,7 +90,7 @@ pub record ChainPrefix : Type 0 where
   pub classes : List ClassItem
   pub end : ℕ
 
--- a chain_prefix that ends at an ID, unless this is a class's; then it goes on
+-- the first classes of a chain that ends at an ID, unless this is a class's; then it goes on
 abbrev pub prefix_on : ℕ → Option ClassItem → (ClassItem → ChainPrefix) → ChainPrefix
 prefix_on id None more = record { classes = []; end = id }
 prefix_on id (Some c) more = record { classes = c ∷ (more c).classes; end = (more c).end }
@@ -163,8 +163,8 @@ pub record ResolvedClass : Type 0 where
   pub referent : Option ℕ
   pub kind : EdgeKind
 
-abbrev pub known_by : ClassTable → List ClassItem → ResolvedClass
-known_by t chain = record {
+abbrev pub resolved_by : ClassTable → List ClassItem → ResolvedClass
+resolved_by t chain = record {
   chain = map (λ (c : ClassItem). c.id) chain;
   layout = layout_of chain;
   referent = referent_in t (layout_of chain);
@@ -173,7 +173,7 @@ known_by t chain = record {
 
 -- what is known of the class of an ID; of ID 0, of an ID that is no class's, and where the chain meets one, nothing
 abbrev pub resolved_class : ClassTable → ℕ → Option ResolvedClass
-resolved_class t id = option_map (known_by t) (chain_of t.classes id)
+resolved_class t id = option_map (resolved_by t) (chain_of t.classes id)
 
 -- the class by whose layout so many bytes of values are read: the one of the ID, if it is known and they fit its layout. An
 -- instance whose values don't fit is a fault where it stands; where it repeats an ID, it is no object

@@ -7,6 +7,7 @@ use Rattle.hd_terms.specs.declared.EdgeKind.{EdgeKind}
 use Rattle.hd_terms.specs.declared.Group.{Group}
 use Rattle.hd_terms.specs.declared.Group.TheVariants as groups
 use Rattle.hd_terms.specs.declared.RootKind.{RootKind}
+use Rattle.hd_terms.specs.declared.Mode.{Mode}
 
 -- a slot of an object: its name, what a reference in it goes through, and the ID in it, 0 for null
 pub record SlotEntry : Type 0 where
@@ -33,9 +34,10 @@ pub record Repeated : Type 0 where
   pub strings : ℕ
   pub loads : ℕ
 
--- objects in file order, the first of each ID, and roots in file order; what was repeated, and how many instances have
--- a class chain that isn't whole
+-- how phantom references are followed; objects in file order, the first of each ID, and roots in file order; what was
+-- repeated, and how many instances have a class chain that isn't whole
 pub record Dump : Type 0 where
+  pub mode : Mode
   pub objects : List Object
   pub roots : List Root
   pub repeated : Repeated

@@ -1,16 +1,19 @@
 -- The edited dump: which edges and roots stand under a log.
 -- Source: this project. Edits are what-if: they are never written to the dump, and one that names nothing has no effect.
-use Rattle.std.specs.Prelude.{ℕ, ◌+◌, ◌-◌, ◌==◌, nat_lt, Bool, true, false, ◌&&◌, ◌||◌, not, if◌then◌else◌, List, ◌++◌, length, Option, Some, None, slice_get}
-use Rattle.std.specs.Option.{option_map, option_and_then}
-use Rattle.std.specs.List.{filter, filter_map, list_any, enumerate_from}
+use Rattle.std.specs.Prelude.{ℕ, ◌+◌, ◌-◌, ◌==◌, nat_lt, Bool, true, false, ◌&&◌, ◌||◌, not, List, ◌++◌, length, map, Option, Some, None, is_some, slice_get}
+use Rattle.std.specs.Option.{option_map, option_map_or, option_and_then}
+use Rattle.std.specs.List.{filter, filter_map, flat_map, list_any, enumerate_from}
 use Rattle.hd_terms.specs.declared.Slot.{Slot}
 use Rattle.hd_terms.specs.declared.Slot.TheVariants as slots
+use Rattle.hd_terms.specs.declared.RootKind.{RootKind}
 use Rattle.hd_terms.specs.declared.Edit.{Edit}
 use Rattle.hd_terms.specs.declared.Edit.TheVariants as edits
 use Rattle.hd_terms.specs.declared.Event.{Event}
+use Rattle.hd_terms.specs.declared.What.{What}
+use Rattle.hd_terms.specs.declared.What.TheVariants as whats
 use Rattle.hd_terms.specs.Paths.{Edge, RootEntry, Standing}
-use Rattle.hd_terms.specs.Dump.{Object, Root, Dump}
-use Rattle.hd_terms.specs.Edges.{index_of, edges}
+use Rattle.hd_terms.specs.Dump.{SlotEntry, Object, Root, Dump, object_at}
+use Rattle.hd_terms.specs.Edges.{index_of, edge_of}
 use Rattle.hd_terms.specs.Log.{live_edit, live_edits}
 
 -- a slot as a number of its kind and its own number
@@ -35,23 +38,31 @@ is_slot slot None = false
 is_slot slot (Some named) = same_slot slot named
 
 -- an edit takes away the reference in a slot of an object: it cuts the slot, or clears the object whose referent the slot is
-abbrev pub takes_away : Object → Slot → Edit → Bool
-takes_away x slot (edits.Cut id cut) = (x.id == id) && same_slot slot cut
-takes_away x slot (edits.Clear id) = (x.id == id) && is_slot slot x.referent
-takes_away x slot (edits.Drop r) = false
-takes_away x slot (edits.Add id) = false
+abbrev pub takes_away : Object → SlotEntry → Edit → Bool
+takes_away x s (edits.Cut id cut) = (x.id == id) && same_slot s.slot cut
+takes_away x s (edits.Clear id) = (x.id == id) && is_slot s.slot x.referent
+takes_away x s (edits.Drop r) = false
+takes_away x s (edits.Add id) = false
 
--- a slot of an object stands where no live edit takes its reference away
-abbrev pub slot_stands : List Event → Object → Slot → Bool
-slot_stands log x slot = not (list_any (takes_away x slot) (live_edits log))
+-- no live edit takes away what is in a slot of an object
+abbrev pub is_untouched : List Event → Object → SlotEntry → Bool
+is_untouched log x s = not (list_any (takes_away x s) (live_edits log))
 
--- an edge stands where its slot does
-abbrev pub source_stands : List Event → Slot → Option Object → Bool
-source_stands log slot None = false
-source_stands log slot (Some x) = slot_stands log x slot
+-- a slot of an object is an edge that stands: its ID is an object's, and no live edit takes it away
+abbrev pub is_standing_edge : Dump → List Event → Object → SlotEntry → Bool
+is_standing_edge dump log x s = is_some (index_of dump.objects s.id) && is_untouched log x s
 
-abbrev pub edge_stands : Dump → List Event → Edge → Bool
-edge_stands dump log e = source_stands log e.slot (slice_get dump.objects e.source)
+-- the slot at a place of the object of a number is an edge that stands; no slot is none
+abbrev pub edge_stands : Dump → List Event → (o i : ℕ) → Bool
+edge_stands dump log o i = option_map_or (is_standing_edge dump log (object_at dump o)) (slice_get (object_at dump o).slots i) false
+
+-- the edges of one object's slots that stand, in their order
+abbrev pub standing_from : Dump → List Event → ℕ × Object → List Edge
+standing_from dump log (o, x) = filter_map (edge_of dump.objects o) (filter (is_untouched log x) x.slots)
+
+-- the edges that stand: those of each object, joined
+abbrev pub standing_edges : Dump → List Event → List Edge
+standing_edges dump log = flat_map (standing_from dump log) (enumerate_from 0 dump.objects)
 
 -- an edit drops the root of a number
 abbrev pub drops : ℕ → Edit → Bool
@@ -80,30 +91,44 @@ live_edit_at log k = option_and_then (λ (e : Event). live_edit log (k, e)) (sli
 abbrev pub is_root : (roots : ℕ) → List Event → ℕ → Bool
 is_root roots log r = nat_lt r roots || adds_root (live_edit_at log (r - roots))
 
--- a root of a number on an ID, where no live edit drops it and the ID is an object's
-abbrev pub standing_root : Dump → List Event → ℕ → ℕ → Option RootEntry
-standing_root dump log r id =
-    if is_dropped log r then None
-    else option_map (λ (target : ℕ). record { number = r; target = target }) (index_of dump.objects id)
+-- a root stands: there is a root of its number, and no live edit drops it
+abbrev pub root_stands : (roots : ℕ) → List Event → ℕ → Bool
+root_stands roots log r = is_root roots log r && not (is_dropped log r)
 
--- the root that event k adds to a dump of n roots, where it is live: its number is n + k
-abbrev pub added_by : Dump → List Event → ℕ → Option Edit → Option RootEntry
-added_by dump log k None = None
-added_by dump log k (Some (edits.Cut id slot)) = None
-added_by dump log k (Some (edits.Clear id)) = None
-added_by dump log k (Some (edits.Drop r)) = None
-added_by dump log k (Some (edits.Add id)) = standing_root dump log (length dump.roots + k) id
+-- a root by its number, its kind, none where an event added it, and the ID that it is on
+pub record RootOn : Type 0 where
+  pub number : ℕ
+  pub kind : Option RootKind
+  pub id : ℕ
 
-abbrev pub added_root : Dump → List Event → ℕ × Event → Option RootEntry
-added_root dump log (k, event) = added_by dump log k (live_edit log (k, event))
+-- a root of the dump, by its place among them
+abbrev pub dump_root : ℕ × Root → RootOn
+dump_root (r, root) = record { number = r; kind = Some root.kind; id = root.id }
 
--- the dump's roots that stand
-abbrev pub dump_root : Dump → List Event → ℕ × Root → Option RootEntry
-dump_root dump log (r, root) = standing_root dump log r root.id
+-- the root of a number that an event adds, if it adds one
+abbrev pub root_added : ℕ → What → Option RootOn
+root_added r (whats.Do (edits.Cut id slot)) = None
+root_added r (whats.Do (edits.Clear id)) = None
+root_added r (whats.Do (edits.Drop s)) = None
+root_added r (whats.Do (edits.Add id)) = Some (record { number = r; kind = None; id = id })
+root_added r (whats.Undo k) = None
 
--- the edited dump: the roots of the dump and those that were added, and the edges, so far as they stand
+-- event k adds root n + k to a dump of n roots
+abbrev pub added_root : (roots : ℕ) → ℕ × Event → Option RootOn
+added_root roots (k, event) = root_added (roots + k) event.what
+
+-- the entries of roots: those of the dump, and then those that events add, live or not
+abbrev pub root_entries : Dump → List Event → List RootOn
+root_entries dump log = map dump_root (enumerate_from 0 dump.roots) ++ filter_map (added_root (length dump.roots)) (enumerate_from 0 log)
+
+-- what a root holds: the object of its ID, if there is one
+abbrev pub held_by : Dump → RootOn → Option RootEntry
+held_by dump root = option_map (λ (target : ℕ). record { number = root.number; target = target }) (index_of dump.objects root.id)
+
+-- the roots that stand and hold an object
+abbrev pub standing_roots : Dump → List Event → List RootEntry
+standing_roots dump log = filter_map (held_by dump) (filter (λ (root : RootOn). root_stands (length dump.roots) log root.number) (root_entries dump log))
+
+-- the edited dump: its roots and its edges, so far as they stand
 abbrev pub standing : Dump → List Event → Standing
-standing dump log = record {
-  roots = filter_map (dump_root dump log) (enumerate_from 0 dump.roots) ++ filter_map (added_root dump log) (enumerate_from 0 log);
-  edges = filter (edge_stands dump log) (edges dump);
-}
+standing dump log = record { mode = dump.mode; roots = standing_roots dump log; edges = standing_edges dump log }

@@ -14,9 +14,11 @@ use Rattle.hd_terms.specs.declared.Edit.TheVariants as edits
 use Rattle.hd_terms.specs.declared.Event.{Event}
 use Rattle.hd_terms.specs.declared.What.TheVariants as whats
 use Rattle.hd_terms.specs.declared.SlotMode.{SlotMode}
+use Rattle.hd_terms.specs.declared.Mode.TheVariants as modes
 use Rattle.hd_terms.specs.declared.SlotRow.{SlotRow}
 use Rattle.hd_terms.specs.Paths.{Edge, RootEntry}
 use Rattle.hd_terms.specs.Dump.{SlotEntry, Object, Root, Repeated, Dump}
+use Rattle.hd_terms.specs.EditedDump.{RootOn}
 
 -- files
 
@@ -232,7 +234,7 @@ size_mismatch_file = head_of 4 ++ segment_of (instance_of narrow 0x20 0x11 (0x00
 abbrev pub size_mismatch_before_unknown_file : List ℕ
 size_mismatch_before_unknown_file = head_of 4 ++ segment_of (instance_of narrow 0x20 0x11 (0x00 ∷ []) ++ class_of narrow 0x11 0 [] ++ 0x09 ∷ [])
 
--- a misfit that repeats the ID of an instance that fits its class
+-- an instance of the wrong size that repeats the ID of an instance that fits its class
 abbrev pub repeated_size_mismatch_file : List ℕ
 repeated_size_mismatch_file = head_of 4 ++ segment_of (class_of narrow 0x11 0 ((0x107, 2) ∷ []) ++ instance_of narrow 2 0x11 (four 5) ++ instance_of narrow 2 0x11 (0x00 ∷ []))
 
@@ -360,15 +362,16 @@ none_repeated = record { objects = 0; strings = 0; loads = 0 }
 
 -- nothing
 abbrev pub empty_dump : Dump
-empty_dump = record { objects = []; roots = []; repeated = none_repeated; opaque = 0 }
+empty_dump = record { mode = modes.Direct; objects = []; roots = []; repeated = none_repeated; opaque = 0 }
 
 -- nothing, but a text and a load are repeated
 abbrev pub repeated_strings_and_loads : Dump
-repeated_strings_and_loads = record { objects = []; roots = []; repeated = record { objects = 0; strings = 1; loads = 1 }; opaque = 0 }
+repeated_strings_and_loads = record { mode = modes.Direct; objects = []; roots = []; repeated = record { objects = 0; strings = 1; loads = 1 }; opaque = 0 }
 
 -- a root of each kind, on IDs that are no object's
 abbrev pub root_kinds : Dump
 root_kinds = record {
+  mode = modes.Direct;
   objects = [];
   roots =
       (record { kind = roots.Unknown; id = 1 })
@@ -388,6 +391,7 @@ root_kinds = record {
 -- an array of two ints
 abbrev pub primitive_array : Dump
 primitive_array = record {
+  mode = modes.Direct;
   objects = (record { id = 6; group = groups.Prim 10; bytes = 8; slots = []; referent = None }) ∷ [];
   roots = [];
   repeated = none_repeated;
@@ -397,6 +401,7 @@ primitive_array = record {
 -- a class with its slots, the arrays 2, 3 and 5, and an array of two ints
 abbrev pub class_object_and_primitive_array : Dump
 class_object_and_primitive_array = record {
+  mode = modes.Direct;
   objects =
       (record {
         id = 0x11;
@@ -420,6 +425,7 @@ class_object_and_primitive_array = record {
 -- root 1  [1: 2 0 9]  [2:]
 abbrev pub two_arrays : Dump
 two_arrays = record {
+  mode = modes.Direct;
   objects =
       (record {
         id = 1;
@@ -437,15 +443,16 @@ two_arrays = record {
 
 -- [1: 2]  [2:]
 abbrev pub repeated_id : Dump
-repeated_id = record { objects = array 1 (2 ∷ []) ∷ array 2 [] ∷ []; roots = []; repeated = record { objects = 1; strings = 0; loads = 0 }; opaque = 0 }
+repeated_id = record { mode = modes.Direct; objects = array 1 (2 ∷ []) ∷ array 2 [] ∷ []; roots = []; repeated = record { objects = 1; strings = 0; loads = 0 }; opaque = 0 }
 
 -- <1: 2>  <2: 9>
 abbrev pub absent_super : Dump
-absent_super = record { objects = class_object 1 2 ∷ class_object 2 9 ∷ []; roots = []; repeated = none_repeated; opaque = 0 }
+absent_super = record { mode = modes.Direct; objects = class_object 1 2 ∷ class_object 2 9 ∷ []; roots = []; repeated = none_repeated; opaque = 0 }
 
 -- <11: 0>  (2 of 11: 5)
 abbrev pub repeated_size_mismatch : Dump
 repeated_size_mismatch = record {
+  mode = modes.Direct;
   objects = class_object 0x11 0 ∷ instance 2 0x11 4 (strong (slots.Field 0) 5 ∷ []) ∷ [];
   roots = [];
   repeated = record { objects = 1; strings = 0; loads = 0 };
@@ -455,6 +462,7 @@ repeated_size_mismatch = record {
 -- root 20  (20 of 12: 5 6)  <11: 0>  <12: 11>  [5:]  [6:]
 abbrev pub wide_instance : Dump
 wide_instance = record {
+  mode = modes.Direct;
   objects =
       instance 0x20 0x12 17 (strong (slots.Field 0) 5 ∷ strong (slots.Field 2) 6 ∷ []) ∷ class_object 0x11 0 ∷ class_object 0x12 0x11 ∷ array 5 [] ∷ array 6 [] ∷ [];
   roots = root 0x20 ∷ [];
@@ -465,6 +473,7 @@ wide_instance = record {
 -- root 1  [1 of 99: 2 3]  <11: 0>  (2 of 11:)  (3 of 98:)
 abbrev pub opaque_and_repeated : Dump
 opaque_and_repeated = record {
+  mode = modes.Direct;
   objects =
       (record {
         id = 1;
@@ -485,6 +494,7 @@ opaque_and_repeated = record {
 -- <11: 0>  <13: 11>  (21 of 13: weak 5)  [5:]
 abbrev pub weak_reference : Dump
 weak_reference = record {
+  mode = modes.Direct;
   objects = class_object 0x11 0 ∷ class_object 0x13 0x11 ∷ reference 0x21 0x13 kinds.Weak 5 ∷ array 5 [] ∷ [];
   roots = [];
   repeated = none_repeated;
@@ -494,6 +504,7 @@ weak_reference = record {
 -- <11: 0>  <13: 11>  (21 of 13: 5)  [5:]
 abbrev pub other_name_first : Dump
 other_name_first = record {
+  mode = modes.Direct;
   objects = class_object 0x11 0 ∷ class_object 0x13 0x11 ∷ reference 0x21 0x13 kinds.Strong 5 ∷ array 5 [] ∷ [];
   roots = [];
   repeated = record { objects = 0; strings = 0; loads = 1 };
@@ -503,6 +514,7 @@ other_name_first = record {
 -- <11: 0>  <13: 11>  <14: 13>  (22 of 14: 6 weak 5)  [5:]  [6:]
 abbrev pub two_referents : Dump
 two_referents = record {
+  mode = modes.Direct;
   objects =
       class_object 0x11 0
       ∷ class_object 0x13 0x11
@@ -525,6 +537,7 @@ two_referents = record {
 -- refs  root 1  [1: 21 31]  (21 of 13: weak 5)  (31 of 16: final 5)  [5:]
 abbrev pub weak_and_final_referents : Dump
 weak_and_final_referents = record {
+  mode = modes.Direct;
   objects = refs ++ array 1 (0x21 ∷ 0x31 ∷ []) ∷ reference 0x21 0x13 kinds.Weak 5 ∷ reference 0x31 0x16 kinds.Final 5 ∷ array 5 [] ∷ [];
   roots = root 1 ∷ [];
   repeated = none_repeated;
@@ -534,6 +547,7 @@ weak_and_final_referents = record {
 -- refs  root 1  [1: 21 23]  (21 of 12: soft 22)  (22 of 13: weak 3)  [3: 4]  (23 of 12: soft 5)  [5: 4]  [4:]
 abbrev pub soft_then_weak : Dump
 soft_then_weak = record {
+  mode = modes.Direct;
   objects =
       refs ++ array 1 (0x21 ∷ 0x23 ∷ []) ∷ reference 0x21 0x12 kinds.Soft 0x22 ∷ reference 0x22 0x13 kinds.Weak 3 ∷ array 3 (4 ∷ [])
       ∷ reference 0x23 0x12 kinds.Soft 5 ∷ array 5 (4 ∷ []) ∷ array 4 [] ∷ [];
@@ -545,6 +559,7 @@ soft_then_weak = record {
 -- root 1  [1: 2]  [2: 3]  [3: 2 4]  [4: 5]  [5: 4]
 abbrev pub cycle_behind_one_edge : Dump
 cycle_behind_one_edge = record {
+  mode = modes.Direct;
   objects = array 1 (2 ∷ []) ∷ array 2 (3 ∷ []) ∷ array 3 (2 ∷ 4 ∷ []) ∷ array 4 (5 ∷ []) ∷ array 5 (4 ∷ []) ∷ [];
   roots = root 1 ∷ [];
   repeated = none_repeated;
@@ -554,6 +569,7 @@ cycle_behind_one_edge = record {
 -- refs  root 1  [1: 21]  (21 of 15: phantom 6)  [6: 7]  [7:]  (22 of 15: phantom 22)
 abbrev pub phantom_referent : Dump
 phantom_referent = record {
+  mode = modes.Direct;
   objects =
       refs ++ array 1 (0x21 ∷ []) ∷ reference 0x21 0x15 kinds.Phantom 6 ∷ array 6 (7 ∷ []) ∷ array 7 []
       ∷ reference 0x22 0x15 kinds.Phantom 0x22 ∷ [];
@@ -562,9 +578,23 @@ phantom_referent = record {
   opaque = 0;
 }
 
+-- (21 of 13: weak 0)  (22 of 13: weak 9)
+abbrev pub empty_referents : Dump
+empty_referents = record {
+  mode = modes.Direct;
+  objects = reference 0x21 0x13 kinds.Weak 0 ∷ reference 0x22 0x13 kinds.Weak 9 ∷ [];
+  roots = [];
+  repeated = none_repeated;
+  opaque = 0;
+}
+
+-- `phantom_referent`, with phantom references followed to all that they lead to
+abbrev pub phantom_closure : Dump
+phantom_closure = record phantom_referent { mode = modes.Closure }
+
 -- root 1  root 2  [1:]  [2:]  [7:]
 abbrev pub added_and_dropped_roots : Dump
-added_and_dropped_roots = record { objects = array 1 [] ∷ array 2 [] ∷ array 7 [] ∷ []; roots = root 1 ∷ root 2 ∷ []; repeated = none_repeated; opaque = 0 }
+added_and_dropped_roots = record { mode = modes.Direct; objects = array 1 [] ∷ array 2 [] ∷ array 7 [] ∷ []; roots = root 1 ∷ root 2 ∷ []; repeated = none_repeated; opaque = 0 }
 
 -- logs
 
@@ -604,6 +634,13 @@ add_and_drop = does 0 (edits.Add 7) ∷ does 0 (edits.Drop 2) ∷ undoes 0 0 ∷
 abbrev pub drop_and_add : List Event
 drop_and_add = does 0 (edits.Drop 3) ∷ does 0 (edits.Add 7) ∷ []
 
+-- a root of the dump by its number and the ID that it is on, and one that an event added
+abbrev pub dump_root_on : ℕ → ℕ → RootOn
+dump_root_on number id = record { number = number; kind = Some roots.Unknown; id = id }
+
+abbrev pub added_root_on : ℕ → ℕ → RootOn
+added_root_on number id = record { number = number; kind = None; id = id }
+
 -- a standing root by its number and the number of its object
 abbrev pub root_on : ℕ → ℕ → RootEntry
 root_on number target = record { number = number; target = target }
@@ -615,6 +652,14 @@ strong_edge source slot target = record { source = source; slot = slot; target =
 -- a log of as many events as a log can have
 abbrev pub full_log : List Event
 full_log = replicate 4096 (does 0 (edits.Add 1))
+
+-- a slot of kind weak as it is shown
+abbrev pub weakly_shown : Slot → ℕ → SlotMode → SlotRow
+weakly_shown slot id mode = record { slot = slot; kind = kinds.Weak; id = id; mode = mode }
+
+-- a cut and a clear of one slot; then the cut is taken back
+abbrev pub cut_and_clear : List Event
+cut_and_clear = does 0 (edits.Cut 0x21 (slots.Field 0)) ∷ does 0 (edits.Clear 0x21) ∷ undoes 0 0 ∷ []
 
 -- a slot of kind strong as it is shown
 abbrev pub shown : Slot → ℕ → SlotMode → SlotRow

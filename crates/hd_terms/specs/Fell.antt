@@ -16,7 +16,7 @@ IsUnreachable dump log o = HasStrength (standing dump log) o strengths.Unreachab
 abbrev pub Falls : Dump → (before after : List Event) → ℕ → Type 0
 Falls dump before after o = IsUnreachable dump after o × (IsUnreachable dump before o → ⊥)
 
--- so many objects fall: those of which a test says so that decides it
+-- the number of the objects that fall; `falls` is a test that decides which do
 pub record FellCount (dump : Dump) (before after : List Event) (n : ℕ) : Type 0 where
   pub falls : ℕ → Bool
   pub decides : (o : ℕ) → o < length dump.objects → (falls o ≡ true) ↔ Falls dump before after o

@@ -7,13 +7,13 @@ use Rattle.std.specs.List.{filter_map, list_any, enumerate_from}
 use Rattle.hd_terms.specs.SubRecords.{ClassItem, Item, Instance, ObjArray, PrimArray, Sub}
 use Rattle.hd_terms.specs.SubRecords as subs
 
--- the element at a place stands: none before it has its key
-abbrev pub standing_one : {X : Type 0} → (X → ℕ) → List X → ℕ × X → Option X
-standing_one key all (i, x) = if list_any (λ y. key x == key y) (take i all) then None else Some x
+-- the element at a place is the first of its key: none before it has it
+abbrev pub first_one : {X : Type 0} → (X → ℕ) → List X → ℕ × X → Option X
+first_one key all (i, x) = if list_any (λ y. key x == key y) (take i all) then None else Some x
 
 -- the first element of each key
 abbrev pub first_of_each : {X : Type 0} → (X → ℕ) → List X → List X
-first_of_each key all = filter_map (standing_one key all) (enumerate_from 0 all)
+first_of_each key all = filter_map (first_one key all) (enumerate_from 0 all)
 
 -- the element at a place has the key of an earlier one
 abbrev pub is_repeat : {X : Type 0} → (X → ℕ) → List X → ℕ × X → Bool
@@ -35,6 +35,6 @@ id_of_item (PrimArray id element count) = Some id
 abbrev pub object_sub : Sub → Option (ℕ × Sub)
 object_sub s = option_map (λ (id : ℕ). (id, s)) (id_of_item s.item)
 
--- the sub-records of objects that stand: the first of each ID
+-- the sub-records of objects that count: the first of each ID
 abbrev pub first_subs : List Sub → List (ℕ × Sub)
 first_subs list = first_of_each (λ (p : ℕ × Sub). p.0) (filter_map object_sub list)

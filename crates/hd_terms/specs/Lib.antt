@@ -29,4 +29,5 @@ pub mod Sessions
 pub mod Counts
 pub mod Totals
 pub mod Stat
+pub mod Workers
 pub mod Examples

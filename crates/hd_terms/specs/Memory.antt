@@ -9,9 +9,10 @@ pub record Memory : Type 0 where
   pub marks : List (List Event)
   pub home : Option (List Event)
 
--- a session begins with a log: it is mark 0, and nothing is private
-abbrev pub beginning : List Event → Memory
-beginning log = record { log = log; marks = log ∷ []; home = None }
+-- a session begins with the log that its desk has seen; mark 0 is the log of the desk's state, which may be shorter; and
+-- nothing is private
+abbrev pub beginning : (seen front : List Event) → Memory
+beginning seen front = record { log = seen; marks = front ∷ []; home = None }
 
 -- the same but for the log
 abbrev pub at_log : Memory → List Event → Memory

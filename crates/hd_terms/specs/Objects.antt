@@ -6,6 +6,7 @@ use Rattle.std.specs.List.{flat_map, filter_map}
 use Rattle.byteorder.specs.Endian.{big_number}
 use Rattle.hd_terms.specs.declared.IdSize.{IdSize}
 use Rattle.hd_terms.specs.declared.Slot.TheVariants as slots
+use Rattle.hd_terms.specs.declared.Mode.TheVariants as modes
 use Rattle.hd_terms.specs.declared.Text.{Text}
 use Rattle.hd_terms.specs.declared.Load.{Load}
 use Rattle.hd_terms.specs.Records.{id_len, Record, HasHeader, AreRecords, header_len, segment_spans, texts, loads}
@@ -82,6 +83,7 @@ classes_of bytes size records segments = class_table bytes (texts size records) 
 -- the dump of a file, by its records and the sub-records of its segments
 abbrev pub dump_of : List ℕ → IdSize → List Record → List (List SubRecord) → Dump
 dump_of bytes size records segments = record {
+  mode = modes.Direct;
   objects = objects_of (classes_of bytes size records segments) size (flat_map (λ (ss : List SubRecord). ss) segments);
   roots = roots_of size (flat_map (λ (ss : List SubRecord). ss) segments);
   repeated = repeated_of (classes_of bytes size records segments) size records (flat_map (λ (ss : List SubRecord). ss) segments);

@@ -5,6 +5,7 @@
 use Rattle.std.specs.Prelude.{◌≡◌, ℕ, List, [], ◌∷◌, map, Contains}
 use Rattle.hd_terms.specs.declared.Slot.{Slot}
 use Rattle.hd_terms.specs.declared.EdgeKind.{EdgeKind}
+use Rattle.hd_terms.specs.declared.Mode.{Mode}
 use Rattle.hd_terms.specs.declared.Strength.{Strength}
 use Rattle.hd_terms.specs.declared.Strength.TheVariants as strengths
 use Rattle.hd_terms.specs.Ranks.{given_by, weaker_of, IsPassedOn}
@@ -21,8 +22,9 @@ pub record RootEntry : Type 0 where
   pub number : ℕ
   pub target : ℕ
 
--- what stands: roots on objects, and edges from objects to objects
+-- what stands: roots on objects, and edges from objects to objects; and how phantom references are followed
 pub record Standing : Type 0 where
+  pub mode : Mode
   pub roots : List RootEntry
   pub edges : List Edge
 
@@ -31,17 +33,17 @@ abbrev pub Lead : Standing → ℕ → List Edge → ℕ → Type 0
 Lead g a [] b = a ≡ b
 Lead g a (e ∷ es) b = Contains g.edges e × (e.source ≡ a) × Lead g e.target es b
 
--- all but the last pass on what they give, so that only the last may be phantom
-abbrev pub PassOn : List Edge → Type 0
-PassOn [] = Unit {0}
-PassOn (e ∷ []) = Unit {0}
-PassOn (e ∷ f ∷ es) = IsPassedOn (given_by e.kind) × PassOn (f ∷ es)
+-- all but the last pass on what they give: in mode Direct only the last may be phantom
+abbrev pub PassOn : Mode → List Edge → Type 0
+PassOn mode [] = Unit {0}
+PassOn mode (e ∷ []) = Unit {0}
+PassOn mode (e ∷ f ∷ es) = IsPassedOn mode (given_by e.kind) × PassOn mode (f ∷ es)
 
--- a root path: a standing root on an object, and then any number of standing edges, of which only the last may be phantom
+-- a root path: a standing root on an object, and then any number of standing edges that pass on what they give
 pub record IsPath (g : Standing) (r : RootEntry) (es : List Edge) (o : ℕ) : Type 0 where
   pub root : Contains g.roots r
   pub edges : Lead g r.target es o
-  pub passed_on : PassOn es
+  pub passed_on : PassOn g.mode es
 
 -- its strength: the least rank of its edges, strong where it has none
 abbrev pub path_strength : List Edge → Strength

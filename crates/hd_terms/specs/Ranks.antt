@@ -6,6 +6,8 @@ use Rattle.hd_terms.specs.declared.Strength.{Strength}
 use Rattle.hd_terms.specs.declared.Strength.TheVariants as strengths
 use Rattle.hd_terms.specs.declared.EdgeKind.{EdgeKind}
 use Rattle.hd_terms.specs.declared.EdgeKind.TheVariants as kinds
+use Rattle.hd_terms.specs.declared.Mode.{Mode}
+use Rattle.hd_terms.specs.declared.Mode.TheVariants as modes
 
 -- the ranks, from the worst
 abbrev pub rank : Strength → ℕ
@@ -28,10 +30,12 @@ given_by kinds.Phantom = strengths.Phantom
 abbrev pub weaker_of : Strength → Strength → Strength
 weaker_of a b = if nat_le (rank a) (rank b) then a else b
 
--- the least strength that is passed on along a path: an object that is only phantom reachable passes nothing on
-abbrev pub least_passed_on : Strength
-least_passed_on = strengths.Final
+-- the least strength that an object must have for paths to go on from it: in mode Direct an object that is only phantom
+-- reachable leads no further, in mode Closure it does
+abbrev pub least_passed_on : Mode → Strength
+least_passed_on modes.Direct = strengths.Final
+least_passed_on modes.Closure = strengths.Phantom
 
 -- a strength that is passed on
-abbrev pub IsPassedOn : Strength → Type 0
-IsPassedOn s = rank least_passed_on ≤ rank s
+abbrev pub IsPassedOn : Mode → Strength → Type 0
+IsPassedOn mode s = rank (least_passed_on mode) ≤ rank s

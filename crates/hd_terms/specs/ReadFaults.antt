@@ -1,14 +1,14 @@
 -- The read fault of a file: the first one of the first phase that has any. Phases go records, sub-records, classes,
 -- objects.
 -- Source: HPROF binary format for what is a fault; their order and places are this project's choice.
-use Rattle.std.specs.Prelude.{◌≡◌, ◌≢◌, ℕ, ◌+◌, ◌≤◌, ◌<◌, false, List, [], ◌∷◌, ◌++◌, length, take, drop, slice_get, Some}
+use Rattle.std.specs.Prelude.{◌≡◌, ◌≢◌, ℕ, ◌+◌, ◌≤◌, ◌<◌, true, false, List, [], ◌∷◌, ◌++◌, length, drop, slice_get, Some}
 use Rattle.std.specs.List.{flat_map, filter, AllByRecursion, AllZip}
 use Rattle.hd_terms.specs.declared.IdSize.{IdSize}
 use Rattle.hd_terms.specs.declared.Span.{Span}
 use Rattle.hd_terms.specs.declared.errors.Cause.{Cause}
 use Rattle.hd_terms.specs.declared.errors.Cause.TheVariants as causes
 use Rattle.hd_terms.specs.declared.errors.ReadFault.{ReadFault}
-use Rattle.hd_terms.specs.Records.{id_len, id_size_of, largest_file, header_len, magic, Record, IsFramed, least_body, IsRecord, record_text, HasHeader, AreRecords, is_segment, segment_spans}
+use Rattle.hd_terms.specs.Records.{id_len, id_size_of, largest_file, header_len, has_magic, Record, IsFramed, least_body, IsRecord, record_text, HasHeader, AreRecords, is_segment, segment_spans}
 use Rattle.hd_terms.specs.SubRecords.{SubRecord, ClassHead, ClassValue, ClassField, Counted, IsClassHead, IsClassValue, IsClassField, IsCounted, IsBegun, class_head_text, counted_text, value_text, field_text, IsSubRecord, sub_record_text, is_known_tag, AreSubRecords, AreDumpSubRecords, dump_subs_at}
 use Rattle.hd_terms.specs.Types.{is_element_type, is_type}
 use Rattle.hd_terms.specs.Objects.{classes_of}
@@ -45,8 +45,8 @@ pub record IsRecordFault (size : IdSize) (bytes : List ℕ) (f : ReadFault) : Ty
 pub data IsRecordsFault (bytes : List ℕ) : ReadFault → Type 0 where
   too_large : largest_file < length bytes → IsRecordsFault bytes (fault causes.TooLarge 0)
   no_header : length bytes < header_len → IsRecordsFault bytes (fault causes.Truncated 0)
-  other_text : length bytes ≤ largest_file → header_len ≤ length bytes → take 19 bytes ≢ magic → IsRecordsFault bytes (fault causes.BadMagic 0)
-  other_id_size : length bytes ≤ largest_file → header_len ≤ length bytes → take 19 bytes ≡ magic → id_size_of bytes ≢ 4 → id_size_of bytes ≢ 8
+  other_text : length bytes ≤ largest_file → header_len ≤ length bytes → has_magic bytes ≡ false → IsRecordsFault bytes (fault causes.BadMagic 0)
+  other_id_size : length bytes ≤ largest_file → header_len ≤ length bytes → has_magic bytes ≡ true → id_size_of bytes ≢ 4 → id_size_of bytes ≢ 8
       → IsRecordsFault bytes (fault causes.BadIdSize 19)
   in_a_record : {f : ReadFault} (size : IdSize) → HasHeader size bytes → IsRecordFault size bytes f → IsRecordsFault bytes f
 

@@ -1,8 +1,9 @@
 -- Records of a file: the header of 31 bytes, and then one record after another.
 -- Source: HPROF binary format, JAVA PROFILE 1.0.2. The header is the zero-terminated text, u4 identifier size, u4 and u4
 -- of time; a record is u1 tag, u4 time, u4 length of the body, the body. Numbers have their highest byte first.
-use Rattle.std.specs.Prelude.{◌≡◌, ℕ, ◌+◌, ◌-◌, ◌*◌, ◌≤◌, Bool, ◌||◌, ◌==◌, if◌then◌else◌, List, [], ◌∷◌, ◌++◌, length, take, drop, codes, Option, Some, None}
+use Rattle.std.specs.Prelude.{◌≡◌, ℕ, ◌+◌, ◌-◌, ◌*◌, ◌≤◌, Bool, true, ◌||◌, ◌==◌, if◌then◌else◌, List, [], ◌∷◌, ◌++◌, length, take, drop, codes, Option, Some, None}
 use Rattle.std.specs.List.{flat_map, filter_map, AllByRecursion}
+use Rattle.std.specs.Str.{bytes_eq}
 use Rattle.byteorder.specs.Endian.{big_number}
 use Rattle.hd_terms.specs.declared.IdSize.{IdSize}
 use Rattle.hd_terms.specs.declared.IdSize.TheVariants as sizes
@@ -26,6 +27,10 @@ header_len = 31
 -- the text that the file begins with, and its zero byte
 abbrev pub magic : List ℕ
 magic = codes "JAVA PROFILE 1.0.2" ++ 0 ∷ []
+
+-- the file begins with this text
+abbrev pub has_magic : List ℕ → Bool
+has_magic bytes = bytes_eq (take 19 bytes) magic
 
 -- the number that the header gives as identifier size
 abbrev pub id_size_of : List ℕ → ℕ
@@ -62,7 +67,7 @@ record_text r = r.tag ∷ r.time ++ r.size ++ r.body
 pub record HasHeader (size : IdSize) (bytes : List ℕ) : Type 0 where
   pub fits : length bytes ≤ largest_file
   pub long : header_len ≤ length bytes
-  pub magic : take 19 bytes ≡ magic
+  pub magic : has_magic bytes ≡ true
   pub id_size : id_size_of bytes ≡ id_len size
 
 -- the records of a file: what follows the header is their spellings, joined

@@ -28,7 +28,6 @@ use Rattle.hd_terms.specs.declared.commands.Command.TheVariants as commands
 use Rattle.hd_terms.specs.declared.commands.LineFault.{LineFault}
 use Rattle.hd_terms.specs.declared.commands.LineFault.TheVariants as line_faults
 use Rattle.hd_terms.specs.Lines.{command_of}
-use Rattle.hd_terms.specs.Memory.{Memory}
 
 -- a text and the newline that ends it
 abbrev pub with_newline : List ℕ → List ℕ
@@ -124,19 +123,19 @@ abbrev pub RepliesSlots : Dump → List Event → Option ℕ → List ℕ → Ty
 RepliesSlots dump log None reply = reply ≡ refused (refusal_name refusals.NoSuchObject)
 RepliesSlots dump log (Some o) reply = reply ≡ answered (map slot_line (slot_rows dump log (object_at dump o)))
 
--- the reply to a command that asks nothing of the log, by what the session remembers. What an edit or an undo is
--- answered isn't said here
-abbrev pub RepliesTo : Dump → Memory → Result Command LineFault → List ℕ → Type 0
-RepliesTo dump memory (Err f) reply = reply ≡ refused (line_fault_name f)
-RepliesTo dump memory (Ok (commands.Strength id)) reply = RepliesStrength dump memory.log (index_of dump.objects id) reply
-RepliesTo dump memory (Ok (commands.Slots id)) reply = RepliesSlots dump memory.log (index_of dump.objects id) reply
-RepliesTo dump memory (Ok (commands.Edit edit)) reply = ⊥
-RepliesTo dump memory (Ok (commands.Undo number)) reply = ⊥
-RepliesTo dump memory (Ok commands.Quit) reply = reply ≡ answered []
+-- the reply to a command that asks nothing of the log, under the session's log and the logs of its marks. What an edit or an
+-- undo is answered isn't said here
+abbrev pub RepliesTo : Dump → (log : List Event) → (marks : List (List Event)) → Result Command LineFault → List ℕ → Type 0
+RepliesTo dump log marks (Err f) reply = reply ≡ refused (line_fault_name f)
+RepliesTo dump log marks (Ok (commands.Strength id)) reply = RepliesStrength dump log (index_of dump.objects id) reply
+RepliesTo dump log marks (Ok (commands.Slots id)) reply = RepliesSlots dump log (index_of dump.objects id) reply
+RepliesTo dump log marks (Ok (commands.Edit edit)) reply = ⊥
+RepliesTo dump log marks (Ok (commands.Undo number)) reply = ⊥
+RepliesTo dump log marks (Ok commands.Quit) reply = reply ≡ answered []
 
 -- the reply to a line that asks nothing of the log
-abbrev pub IsReply : Dump → Memory → List ℕ → List ℕ → Type 0
-IsReply dump memory line reply = RepliesTo dump memory (command_of line) reply
+abbrev pub IsReply : Dump → (log : List Event) → (marks : List (List Event)) → List ℕ → List ℕ → Type 0
+IsReply dump log marks line reply = RepliesTo dump log marks (command_of line) reply
 
 -- the reply to an edit or an undo that the log has taken: the number of its event, and how many objects fell by it and
 -- how many came back
@@ -147,9 +146,9 @@ pub record RepliesDone (dump : Dump) (before after : List Event) (reply : List �
   pub back_is : FellCount dump after before back
   pub reply_is : reply ≡ answered (event_line (length before) fell back ∷ [])
 
--- the reply to a command that wants more memory than there is
-abbrev pub no_memory : List ℕ
-no_memory = refused (log_fault_name faults.OutOfMemory)
+-- the reply to a command for which there is not enough memory
+abbrev pub out_of_memory_reply : List ℕ
+out_of_memory_reply = refused (log_fault_name faults.OutOfMemory)
 
 -- the commands that take memory
 abbrev pub takes_memory : Result Command LineFault → Bool

@@ -1,7 +1,9 @@
--- Settled supports: for each object one support that explains its strength, in an order that excludes cycles.
+-- Settled supports: for each object one support that explains its strength, in an order that excludes cycles. They are the
+-- certificate that a widest-path search, as Dijkstra's with buckets, leaves behind: whoever has them needs no search.
 -- Source: this project. That they have the strengths of the definition is a law, proved in `laws`.
 use Rattle.std.specs.Prelude.{◌≡◌, ℕ, ◌≤◌, ◌<◌, ◌⊎◌, List, Contains, slice_index_or}
 use Rattle.std.specs.List.{AllByRecursion}
+use Rattle.hd_terms.specs.declared.Mode.{Mode}
 use Rattle.hd_terms.specs.declared.Strength.{Strength}
 use Rattle.hd_terms.specs.declared.Strength.TheVariants as strengths
 use Rattle.hd_terms.specs.declared.Support.{Support}
@@ -25,8 +27,8 @@ abbrev pub reached_at : List Reached → ℕ → Reached
 reached_at ks o = slice_index_or ks o unreached
 
 -- its strength is passed on
-abbrev pub PassesOn : Reached → Type 0
-PassesOn k = IsPassedOn k.strength
+abbrev pub PassesOn : Mode → Reached → Type 0
+PassesOn mode k = IsPassedOn mode k.strength
 
 -- an object with this comes before one with that: a greater rank, or the same rank and a lesser stamp
 abbrev pub IsBefore : Reached → Reached → Type 0
@@ -38,7 +40,7 @@ pub record SupportedBy (g : Standing) (ks : List Reached) (o source : ℕ) (slot
   pub from_source : e.source ≡ source
   pub from_slot : e.slot ≡ slot
   pub to_object : e.target ≡ o
-  pub passes_on : PassesOn (reached_at ks source)
+  pub passes_on : PassesOn g.mode (reached_at ks source)
   pub strength : (reached_at ks o).strength ≡ weaker_of (reached_at ks source).strength (given_by e.kind)
   pub earlier : IsBefore (reached_at ks source) (reached_at ks o)
 
@@ -54,7 +56,7 @@ IsSupported g ks o (supports.Edge source slot) = (e : Edge) × SupportedBy g ks 
 pub record Settled (g : Standing) (ks : List Reached) : Type 0 where
   pub supported : (o : ℕ) → IsSupported g ks o (reached_at ks o).support
   pub by_roots : (r : RootEntry) → Contains g.roots r → (reached_at ks r.target).strength ≡ strengths.Strong
-  pub by_edges : (e : Edge) → Contains g.edges e → PassesOn (reached_at ks e.source) → rank (weaker_of (reached_at ks e.source).strength (given_by e.kind)) ≤ rank (reached_at ks e.target).strength
+  pub by_edges : (e : Edge) → Contains g.edges e → PassesOn g.mode (reached_at ks e.source) → rank (weaker_of (reached_at ks e.source).strength (given_by e.kind)) ≤ rank (reached_at ks e.target).strength
 
 -- the stored chain of an object: supports followed back to a root, written from the root on
 pub record IsStoredChain (g : Standing) (ks : List Reached) (r : RootEntry) (es : List Edge) (o : ℕ) : Type 0 where

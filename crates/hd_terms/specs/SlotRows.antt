@@ -7,7 +7,7 @@ use Rattle.hd_terms.specs.declared.SlotRow.{SlotRow}
 use Rattle.hd_terms.specs.declared.Event.{Event}
 use Rattle.hd_terms.specs.Dump.{SlotEntry, Object, Dump}
 use Rattle.hd_terms.specs.Edges.{index_of}
-use Rattle.hd_terms.specs.EditedDump.{slot_stands}
+use Rattle.hd_terms.specs.EditedDump.{is_untouched}
 
 -- a slot whose ID is no object's is absent; any other stands or is cut
 abbrev pub mode_of : Option ℕ → Bool → SlotMode
@@ -16,7 +16,7 @@ mode_of (Some target) stands = if stands then modes.Stands else modes.Cut
 
 -- how a slot of an object is shown
 abbrev pub slot_mode : Dump → List Event → Object → SlotEntry → SlotMode
-slot_mode dump log x s = if s.id == 0 then modes.Null else mode_of (index_of dump.objects s.id) (slot_stands log x s.slot)
+slot_mode dump log x s = if s.id == 0 then modes.Null else mode_of (index_of dump.objects s.id) (is_untouched log x s)
 
 abbrev pub slot_row : Dump → List Event → Object → SlotEntry → SlotRow
 slot_row dump log x s = record { slot = s.slot; kind = s.kind; id = s.id; mode = slot_mode dump log x s }

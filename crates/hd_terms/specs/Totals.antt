@@ -1,17 +1,26 @@
--- Totals of a strength: how many objects have it under a log, and their recorded bytes.
+-- Totals: how many objects of a strength there are under a log, and their recorded bytes; of all objects, or of a group.
 -- Source: this project.
 use Rattle.std.specs.Prelude.{◌≡◌, ℕ, ◌<◌, ◌↔◌, Bool, true, if◌then◌else◌, List, length, count_by, sum_by}
 use Rattle.std.specs.List.{range_with_len}
+use Rattle.hd_terms.specs.declared.Group.{Group}
 use Rattle.hd_terms.specs.declared.Strength.{Strength}
 use Rattle.hd_terms.specs.declared.Event.{Event}
 use Rattle.hd_terms.specs.Strengths.{HasStrength}
 use Rattle.hd_terms.specs.Dump.{Dump, object_at}
 use Rattle.hd_terms.specs.EditedDump.{standing}
 
--- so many objects have a strength under a log, and together so many recorded bytes: those of which a test says so that
--- decides it
-pub record IsTotal (dump : Dump) (log : List Event) (s : Strength) (count bytes : ℕ) : Type 0 where
+-- the number of the objects that are meant, and the sum of their recorded bytes; `has` is a test that decides which
+-- objects are meant
+pub record IsTotalOf (dump : Dump) (IsMeant : ℕ → Type 0) (count bytes : ℕ) : Type 0 where
   pub has : ℕ → Bool
-  pub decides : (o : ℕ) → o < length dump.objects → (has o ≡ true) ↔ HasStrength (standing dump log) o s
+  pub decides : (o : ℕ) → o < length dump.objects → (has o ≡ true) ↔ IsMeant o
   pub count_is : count ≡ count_by has (range_with_len 0 (length dump.objects))
   pub bytes_is : bytes ≡ sum_by (λ o. if has o then (object_at dump o).bytes else 0) (range_with_len 0 (length dump.objects))
+
+-- the objects of a strength under a log
+abbrev pub IsTotal : Dump → List Event → Strength → (count bytes : ℕ) → Type 0
+IsTotal dump log s count bytes = IsTotalOf dump (λ o. HasStrength (standing dump log) o s) count bytes
+
+-- the objects of a group and a strength under a log
+abbrev pub IsGroupTotal : Dump → List Event → Group → Strength → (count bytes : ℕ) → Type 0
+IsGroupTotal dump log group s count bytes = IsTotalOf dump (λ o. ((object_at dump o).group ≡ group) × HasStrength (standing dump log) o s) count bytes

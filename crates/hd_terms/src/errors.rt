@@ -1,4 +1,4 @@
-//! What can go wrong: a dump's fault with its place, and want of memory.
+//! What can go wrong: a dump's fault with its file offset, and that memory ran out.
 ghost use Rattle.std.specs.Prelude.{◌≡◌};
 
 use std::alloc::{AllocError, AllocFailed};
@@ -104,7 +104,7 @@ pub enum Cause {
     OutOfMemory,
 }
 
-/// A dump's fault, and its place: an offset into the file in bytes, 0 for want of memory.
+/// A dump's fault, and its place: an offset into the file in bytes, 0 where memory ran out.
 #[derive(Clone, Copy, Debug, PartialEq, Eq)]
 pub struct ReadFault {
     /// What is wrong.
@@ -114,7 +114,7 @@ pub struct ReadFault {
 }
 
 impl ReadFault {
-    /// Want of memory, which has no place.
+    /// Memory ran out, which has no file offset.
     pub const NO_MEMORY: ReadFault = ReadFault {
         cause: Cause::OutOfMemory,
         offset: 0,

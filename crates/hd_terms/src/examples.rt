@@ -1,6 +1,6 @@
 //! What the definitions say of the worked examples of `docs/DEFINITIONS.md`. Each is the contract of a function with an
 //! empty body.
-ghost use Rattle.std.specs.Prelude.{◌≡◌, ℕ, ◌≤◌, List, [], ◌∷◌, ◌++◌, Some, None, Ok, Err, take, slice_set, replicate, codes};
+ghost use Rattle.std.specs.Prelude.{◌≡◌, ℕ, ◌≤◌, true, false, length, List, [], ◌∷◌, ◌++◌, Some, None, Ok, Err, take, slice_set, replicate, codes};
 ghost use Rattle.hd_terms.specs.declared.Strength.TheVariants as strengths;
 ghost use Rattle.hd_terms.specs.declared.Slot.TheVariants as slots;
 ghost use Rattle.hd_terms.specs.declared.errors.Cause.TheVariants as causes;
@@ -9,7 +9,7 @@ ghost use Rattle.hd_terms.specs.ReadFaults.{IsReadFault, fault};
 ghost use Rattle.hd_terms.specs.Strengths.{HasStrength};
 ghost use Rattle.hd_terms.specs.Chains.{IsChain};
 ghost use Rattle.hd_terms.specs.Edges.{edges};
-ghost use Rattle.hd_terms.specs.EditedDump.{standing};
+ghost use Rattle.hd_terms.specs.EditedDump.{edge_stands, root_entries, root_stands, standing};
 ghost use Rattle.hd_terms.specs.Replies.{IsReply};
 ghost use Rattle.hd_terms.specs.Sessions.{IsServed, IsServedUntilRead, IsServedUntilWrite};
 ghost use Rattle.hd_terms.specs.declared.SlotMode.TheVariants as modes;
@@ -24,7 +24,6 @@ ghost use Rattle.hd_terms.specs.Asking.{asked};
 ghost use Rattle.hd_terms.specs.Appending.{append_refusal};
 ghost use Rattle.hd_terms.specs.Log.{IsLawful, live_edits, last_live, log_fault};
 ghost use Rattle.hd_terms.specs.Lines.{command_of, lines_of, whole_lines};
-ghost use Rattle.hd_terms.specs.Memory.{beginning};
 ghost use Rattle.hd_terms.specs.declared.commands.Command.TheVariants as commands;
 ghost use Rattle.hd_terms.specs.declared.commands.LineFault.TheVariants as line_faults;
 ghost use Rattle.hd_terms.specs.declared.Edit.TheVariants as edits;
@@ -107,6 +106,9 @@ pub fn heap_examples()
     ensures chain { IsChain (standing examples.cycle_behind_one_edge []) (examples.root_on 0 0)
         (examples.strong_edge 0 (slots.Element 0) 1 ∷ examples.strong_edge 1 (slots.Element 0) 2 ∷ []) 2 strengths.Strong }
     ensures phantom_referent { HasStrength (standing examples.phantom_referent []) 8 strengths.Phantom }
+    ensures closure_referent { HasStrength (standing examples.phantom_closure []) 8 strengths.Phantom }
+    ensures closure { HasStrength (standing examples.phantom_closure []) 9 strengths.Phantom }
+    ensures closure_of_its_own_referent { HasStrength (standing examples.phantom_closure []) 10 strengths.Unreachable }
     ensures behind_a_phantom { HasStrength (standing examples.phantom_referent []) 9 strengths.Unreachable }
     ensures its_own_referent { HasStrength (standing examples.phantom_referent []) 10 strengths.Unreachable }
 {}
@@ -123,6 +125,13 @@ pub fn log_examples()
     ensures second_undo { IsLawful (examples.cut_and_undo ++ examples.undoes 0 0 ∷ []) → ⊥ }
     ensures added_root { (standing examples.added_and_dropped_roots (take 1 examples.add_and_drop)).roots ≡ examples.root_on 0 0 ∷ examples.root_on 1 1 ∷ examples.root_on 2 2 ∷ [] }
     ensures dropped_root { (standing examples.added_and_dropped_roots (take 2 examples.add_and_drop)).roots ≡ examples.root_on 0 0 ∷ examples.root_on 1 1 ∷ [] }
+    ensures root_entries { root_entries examples.added_and_dropped_roots (take 3 examples.add_and_drop) ≡ examples.dump_root_on 0 1 ∷ examples.dump_root_on 1 2 ∷ examples.added_root_on 2 7 ∷ [] }
+    ensures undone_root { root_stands 2 (take 3 examples.add_and_drop) 2 ≡ false }
+    ensures no_root { root_stands 2 examples.add_and_drop 3 ≡ false }
+    ensures root_on_no_object { root_stands (length examples.root_kinds.roots) [] 0 ≡ true }
+    ensures dropped_root_on_no_object { root_stands (length examples.root_kinds.roots) (examples.does 0 (edits.Drop 0) ∷ []) 0 ≡ false }
+    ensures one_drop_is_left { root_stands 1 (examples.does 0 (edits.Drop 0) ∷ examples.does 1 (edits.Drop 0) ∷ examples.undoes 0 0 ∷ []) 0 ≡ false }
+    ensures holds_nothing { (standing examples.root_kinds []).roots ≡ [] }
     ensures dropped_before_it_was_added { (standing examples.added_and_dropped_roots examples.drop_and_add).roots ≡ examples.root_on 0 0 ∷ examples.root_on 1 1 ∷ [] }
 {}
 
@@ -145,6 +154,23 @@ pub fn edit_examples()
     ensures not_cuttable { asked examples.two_arrays [] 0 (commands.Edit (edits.Cut 1 slots.OfClass)) ≡ Some (Err refusals.NotCuttable) }
     ensures no_such_object { asked examples.two_arrays [] 0 (commands.Edit (edits.Cut 9 (slots.Element 0))) ≡ Some (Err refusals.NoSuchObject) }
     ensures clear { asked examples.weak_and_final_referents [] 0 (commands.Edit (edits.Clear 0x21)) ≡ Some (Ok (whats.Do (edits.Clear 0x21))) }
+    ensures clear_of_null { asked examples.empty_referents [] 0 (commands.Edit (edits.Clear 0x21)) ≡ Some (Err refusals.EmptySlot) }
+    ensures clear_of_absent { asked examples.empty_referents [] 0 (commands.Edit (edits.Clear 0x22)) ≡ Some (Err refusals.EmptySlot) }
+    ensures null_referent { slot_rows examples.empty_referents [] (object_at examples.empty_referents 0) ≡ examples.weakly_shown (slots.Field 0) 0 modes.Null ∷ examples.shown slots.OfClass 0x13 modes.Absent ∷ [] }
+    ensures absent_referent { slot_rows examples.empty_referents [] (object_at examples.empty_referents 1) ≡ examples.weakly_shown (slots.Field 0) 9 modes.Absent ∷ examples.shown slots.OfClass 0x13 modes.Absent ∷ [] }
+    ensures clear_of_no_named_class { asked examples.other_name_first [] 0 (commands.Edit (edits.Clear 0x21)) ≡ Some (Ok (whats.Do (edits.Clear 0x21))) }
+    ensures cleared_referent { slot_rows examples.weak_reference (examples.does 0 (edits.Clear 0x21) ∷ []) (object_at examples.weak_reference 2) ≡ examples.weakly_shown (slots.Field 0) 5 modes.Cut ∷ examples.shown slots.OfClass 0x13 modes.Stands ∷ [] }
+    ensures cut_and_clear { slot_rows examples.weak_reference examples.cut_and_clear (object_at examples.weak_reference 2) ≡ examples.weakly_shown (slots.Field 0) 5 modes.Cut ∷ examples.shown slots.OfClass 0x13 modes.Stands ∷ [] }
+    ensures drop_of_a_root_on_no_object { append_refusal 9 [] (examples.does 0 (edits.Drop 0)) ≡ None }
+    ensures second_drop { append_refusal 1 (examples.does 0 (edits.Drop 0) ∷ []) (examples.does 0 (edits.Drop 0)) ≡ None }
+    ensures second_drop_of_an_added_root { append_refusal 2 (take 2 examples.add_and_drop) (examples.does 0 (edits.Drop 2)) ≡ None }
+    ensures standing_edge { edge_stands examples.two_arrays [] 0 0 ≡ true }
+    ensures null_is_no_edge { edge_stands examples.two_arrays [] 0 1 ≡ false }
+    ensures absent_is_no_edge { edge_stands examples.two_arrays [] 0 2 ≡ false }
+    ensures no_slot_is_no_edge { edge_stands examples.two_arrays [] 0 9 ≡ false }
+    ensures cut_edge { edge_stands examples.two_arrays (take 1 examples.cut_and_undo) 0 0 ≡ false }
+    ensures closure_fell { FellCount examples.phantom_closure [] (examples.does 0 (edits.Clear 0x21) ∷ []) 2 }
+    ensures direct_fell { FellCount examples.phantom_referent [] (examples.does 0 (edits.Clear 0x21) ∷ []) 1 }
     ensures not_reference { asked examples.weak_and_final_referents [] 0 (commands.Edit (edits.Clear 1)) ≡ Some (Err refusals.NotReference) }
     ensures clear_of_no_object { asked examples.two_arrays [] 0 (commands.Edit (edits.Clear 9)) ≡ Some (Err refusals.NoSuchObject) }
     ensures add { asked examples.phantom_referent [] 0 (commands.Edit (edits.Add 0x22)) ≡ Some (Ok (whats.Do (edits.Add 0x22))) }
@@ -199,10 +225,10 @@ pub fn line_examples()
 
 /// What lines and whole inputs are answered under the empty log.
 pub fn reply_examples()
-    ensures strength { IsReply examples.two_arrays (beginning []) (codes "strength 0x2") (codes "ok 1" ++ 10 ∷ codes "STRONG" ++ 10 ∷ []) }
-    ensures absent { IsReply examples.two_arrays (beginning []) (codes "strength 0x9") (codes "no NoSuchObject" ++ 10 ∷ []) }
-    ensures no_prefix { IsReply examples.two_arrays (beginning []) (codes "strength 2") (codes "no BadArgument" ++ 10 ∷ []) }
-    ensures nothing_there { IsReply examples.empty_dump (beginning []) (codes "strength 0x1") (codes "no NoSuchObject" ++ 10 ∷ []) }
+    ensures strength { IsReply examples.two_arrays [] ([] ∷ []) (codes "strength 0x2") (codes "ok 1" ++ 10 ∷ codes "STRONG" ++ 10 ∷ []) }
+    ensures absent { IsReply examples.two_arrays [] ([] ∷ []) (codes "strength 0x9") (codes "no NoSuchObject" ++ 10 ∷ []) }
+    ensures no_prefix { IsReply examples.two_arrays [] ([] ∷ []) (codes "strength 2") (codes "no BadArgument" ++ 10 ∷ []) }
+    ensures nothing_there { IsReply examples.empty_dump [] ([] ∷ []) (codes "strength 0x1") (codes "no NoSuchObject" ++ 10 ∷ []) }
     ensures served { IsServed examples.two_arrays (codes "strength 0x2" ++ 10 ∷ codes "quit" ++ 10 ∷ codes "strength 0x1" ++ 10 ∷ [])
         (codes "ok 1" ++ 10 ∷ codes "STRONG" ++ 10 ∷ codes "ok 0" ++ 10 ∷ []) }
     ensures read_failed { IsServedUntilRead examples.two_arrays (codes "strength 0x2") (codes "2") [] }

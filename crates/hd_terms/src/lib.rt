@@ -13,7 +13,7 @@ mod types;
 
 ghost use Rattle.std.specs.Prelude.{◌≡◌, ◌≤◌, length};
 ghost use Rattle.byteorder.specs.Endian.{big_number};
-ghost use Rattle.hd_terms.specs.Ranks.{rank, given_by, weaker_of};
+ghost use Rattle.hd_terms.specs.Ranks.{rank, given_by, least_passed_on, weaker_of};
 ghost use Rattle.hd_terms.specs.Records.{id_len};
 
 use byteorder::{BigEndian, ByteOrder};
@@ -36,7 +36,7 @@ pub use types::{element_len, is_id_type, value_len};
 pub enum Strength {
     /// No root path leads to it.
     Unreachable,
-    /// A phantom reference refers to it, and nothing better leads to it.
+    /// A phantom reference leads to it, how far says [`Mode`], and nothing better does.
     Phantom,
     /// It can be reached through a `FinalReference`, and not better.
     Final,
@@ -89,6 +89,30 @@ impl EdgeKind {
             EdgeKind::Weak => Strength::Weak,
             EdgeKind::Final => Strength::Final,
             EdgeKind::Phantom => Strength::Phantom,
+        }
+    }
+}
+
+/// The most workers that decode a dump.
+pub const MOST_WORKERS: u32 = 16;
+
+/// How phantom references are followed, fixed when a dump is opened.
+#[derive(Clone, Copy, Debug, PartialEq, Eq)]
+pub enum Mode {
+    /// A phantom reference makes its own referent phantom reachable, and nothing behind that.
+    Direct,
+    /// What a phantom reachable object refers to is phantom reachable too.
+    Closure,
+}
+
+impl Mode {
+    /// The least strength that an object must have for paths to go on from it.
+    pub fn least_passed_on(self) -> Strength
+        ensures { result ≡ least_passed_on self }
+    {
+        match self {
+            Mode::Direct => Strength::Final,
+            Mode::Closure => Strength::Phantom,
         }
     }
 }

@@ -1,8 +1,2 @@
-pub mod Commands
-pub mod Replying
-pub mod Editing
-pub mod Answering
-pub mod Serving
-pub mod Running
 pub mod Tasks
-pub mod Stating
+pub mod Performing

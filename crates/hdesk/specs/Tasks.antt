@@ -1,15 +1,11 @@
 -- What the words after the program's name ask for.
 -- Source: this project.
-use Rattle.std.specs.Prelude.{ℕ, ◌≤◌, Option, None, Some}
+use Rattle.std.specs.Prelude.{Option, None, Some}
+use Rattle.hd_terms.specs.Workers.{IsWorkers}
 use Rattle.hdesk.specs.declared.arguments.Task.{Task}
 use Rattle.hdesk.specs.declared.arguments.Task.TheVariants as tasks
 
--- from 1 to 16
-pub record IsWorkers (n : ℕ) : Type 0 where
-  pub some : 1 ≤ n
-  pub few : n ≤ 16
-
--- a task has from 1 to 16 workers
+-- a task has from one worker to the most
 abbrev pub TaskWorkers : Task → Type 0
 TaskWorkers (tasks.Run file workers) = IsWorkers workers
 TaskWorkers (tasks.Stat file workers) = IsWorkers workers

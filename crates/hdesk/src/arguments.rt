@@ -1,8 +1,10 @@
 //! The words after the program's name, read with `clap`.
-ghost use Rattle.std.specs.Prelude.{◌≤◌, IfOk};
+ghost use Rattle.std.specs.Prelude.{IfOk};
+ghost use Rattle.hd_terms.specs.Workers.{IsWorkers};
 ghost use Rattle.hdesk.specs.Tasks.{HasWorkers};
 
 use clap::{Arg, ArgMatches, Command, Error, value_parser};
+use hd_terms::MOST_WORKERS;
 use std::alloc::{AllocError, Global};
 
 /// What the words ask for.
@@ -16,9 +18,6 @@ pub enum Task<'a> {
 
 /// How many workers decode, where nothing else is said.
 pub const WORKERS: u32 = 4;
-
-/// The most workers.
-const MOST_WORKERS: u32 = 16;
 
 /// What an asked help says at its end.
 const EXAMPLES: &str = "Without words the built-in sample is served on standard input and output.
@@ -40,7 +39,7 @@ fn workers_option<'a>(alloc: Global) -> Arg<'a> {
     Arg::new(alloc, "workers")
         .long("workers")
         .value_name("N")
-        .value_parser(value_parser!(u32).range(1..17))
+        .value_parser(value_parser!(u32).range(1..i64::from(MOST_WORKERS) + 1))
         .default_value("4")
         .help("How many threads decode the dump, 1 to 16")
 }
@@ -78,8 +77,7 @@ fn all_words<'a>(alloc: Global) -> Result<Command<'a>, AllocError> {
 
 /// The number of workers that the words name, 1 to 16; the option's own range sees to that.
 fn workers_of(matches: &ArgMatches<'_>) -> u32
-    ensures few { result ≤ 16 }
-    ensures some { 1 ≤ result }
+    ensures { IsWorkers result }
 {
     match matches.get_one::<u32>("workers") {
         Some(workers) => workers.clamp(1, MOST_WORKERS),
@@ -91,7 +89,7 @@ fn workers_of(matches: &ArgMatches<'_>) -> u32
 ///
 /// # Errors
 ///
-/// A usage fault with its text, an asked help among them; or want of memory.
+/// A usage fault with its text, an asked help among them; or out of memory.
 pub fn read_arguments<'a>(alloc: Global, words: &'a [String]) -> Result<Option<Task<'a>>, Error>
     ensures { IfOk result HasWorkers }
 {

@@ -2,31 +2,10 @@
 #![tactic(auto)]
 
 mod arguments;
-#[cfg(test)]
-mod class_tests;
-mod command;
-mod edit;
 mod file;
-#[cfg(test)]
-mod instance_tests;
 mod program;
 #[cfg(test)]
 mod program_tests;
-mod reply;
-mod room;
-mod run;
-mod sample;
-mod serve;
-#[cfg(test)]
-mod session_tests;
-mod slots;
-#[cfg(test)]
-mod spellings;
-mod stat;
-#[cfg(test)]
-mod tests;
-#[cfg(test)]
-mod worker_tests;
 
 use std::env;
 use std::fs::File;
@@ -35,7 +14,7 @@ use std::process::ExitCode;
 use std::rt::{Env, Files};
 use std::thread::Threads;
 
-/// Binds the program to the words, the standard streams and the memory of the process. Faults are told on `faults`.
+/// Binds the program to the words, the standard streams and the memory of the process. Faults are reported on `faults`.
 fn start<R: AllocGlobal + Env + Files<File = File> + Input + Print + Threads + Sync, E: Write>(
     rt: &R,
     faults: &mut E,
@@ -49,7 +28,7 @@ fn start<R: AllocGlobal + Env + Files<File = File> + Input + Print + Threads + S
     Ok(status)
 }
 
-/// The exit status of a run that couldn't start: a word isn't UTF-8, or memory ran out. The fault is told.
+/// The exit status of a run that couldn't start: a word isn't UTF-8, or memory ran out. The fault is reported.
 fn not_started(rt: &HostRuntime, kind: io::ErrorKind) -> u8 {
     match kind {
         io::ErrorKind::InvalidData => {

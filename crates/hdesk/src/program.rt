@@ -1,18 +1,17 @@
 //! The whole program, over given streams.
 ghost use Rattle.std.specs.Prelude.{◌≡◌, ◌≢◌, ◌≤◌, [], Result, Err};
 ghost use Rattle.std.specs.Io.KnownBytes.{Keeps};
-ghost use Rattle.hdesk.specs.declared.run.RunFault.{RunFault};
-ghost use Rattle.hdesk.specs.Running.{RunsDump, status};
+ghost use Rattle.hd_terms.specs.Workers.{IsWorkers};
+ghost use Rattle.hd_protocol.specs.declared.run.RunFault.{RunFault};
+ghost use Rattle.hd_protocol.specs.Running.{RunsDump};
+ghost use Rattle.hdesk.specs.Performing.{status, Performs, RunsWords};
 ghost use Rattle.hdesk.specs.Tasks.{TaskWorkers};
 
 use crate::arguments::{Task, WORKERS, read_arguments};
 use crate::file::{FileFault, read_file};
-use crate::run::{RunFault, open_bytes, run_bytes};
-use crate::sample::SAMPLE;
-use crate::serve::serve;
-use crate::stat::stat_bytes;
 use clap::Error;
 use clap::error::ErrorKind;
+use hd_protocol::{RunFault, SAMPLE, open_bytes, run_bytes, serve, stat_bytes};
 use std::fs::File;
 use std::io::{BufRead, Write};
 use std::rt::Files;
@@ -40,8 +39,8 @@ fn status_of(fault: &RunFault) -> u8
     }
 }
 
-/// Tells how a run ended, if it failed, and answers the exit status.
-fn told<E: Write>(ended: Result<(), RunFault>, faults: &mut E) -> u8
+/// Reports how a run ended, if it failed, and answers the exit status.
+fn report<E: Write>(ended: Result<(), RunFault>, faults: &mut E) -> u8
     ensures status { result ≡ status ended }
     ensures no_usage { result ≢ USAGE }
 {
@@ -54,24 +53,27 @@ fn told<E: Write>(ended: Result<(), RunFault>, faults: &mut E) -> u8
     }
 }
 
-/// Tells why a file isn't in memory, and answers the exit status.
-fn told_file<E: Write>(fault: FileFault, path: &str, faults: &mut E) -> u8
-    ensures { result ≢ USAGE }
+/// Reports why a file isn't in memory, and answers the exit status.
+fn report_file<E: Write>(fault: FileFault, path: &str, faults: &mut E) -> u8
+    ensures no_usage { result ≢ USAGE }
+    ensures failed { result ≢ DONE }
 {
     match fault {
         FileFault::Unreadable => {
             let _ = writeln!(faults, "hdesk: cannot read {path}");
             FAILED
         }
-        FileFault::Dump(fault) => told(Err(RunFault::Dump(fault)), faults),
-        FileFault::Memory => told(Err(RunFault::Memory), faults),
+        FileFault::Dump(fault) => report(Err(RunFault::Dump(fault)), faults),
+        FileFault::Memory => report(Err(RunFault::Memory), faults),
     }
 }
 
-/// Tells what is wrong with the words, or what was asked of help, and answers the exit status.
-fn told_usage<E: Write>(error: &Error, faults: &mut E) -> u8 {
+/// Reports what is wrong with the words, or prints what was asked of help, and answers the exit status.
+fn report_usage<E: Write>(error: &Error, faults: &mut E) -> u8
+    ensures { result ≢ DONE }
+{
     match error.kind() {
-        ErrorKind::OutOfMemory => told(Err(RunFault::Memory), faults),
+        ErrorKind::OutOfMemory => report(Err(RunFault::Memory), faults),
         _ => {
             let _ = write!(faults, "{error}");
             USAGE
@@ -87,8 +89,7 @@ fn run_file<T: AllocGlobal + Files<File = File> + Threads + Sync, R: BufRead, W:
     input: &mut R,
     output: &mut W,
 ) -> Result<(), RunFault>
-    requires few { workers ≤ 16 }
-    requires some { 1 ≤ workers }
+    requires workers { IsWorkers workers }
     ensures { RunsDump bytes.items (R.remaining input.old) (R.remaining input.new) (W.contents output.old) (W.contents output.new) result }
 {
     let state = open_bytes(rt, bytes.as_slice(), workers)?;
@@ -106,23 +107,25 @@ fn perform<T: AllocGlobal + Files<File = File> + Threads + Sync, R: BufRead, W: 
     faults: &mut E,
 ) -> u8
     requires { TaskWorkers task }
-    ensures { result ≢ USAGE }
+    ensures no_usage { result ≢ USAGE }
+    ensures performs { Performs task.entry (R.remaining input.old) (R.remaining input.new) (W.contents output.old) (W.contents output.new) result }
 {
     match task {
         Task::Run { file, workers } => match read_file(rt, file) {
-            Ok(bytes) => told(run_file(rt, bytes, workers, input, output), faults),
-            Err(fault) => told_file(fault, file, faults),
+            Ok(bytes) => report(run_file(rt, bytes, workers, input, output), faults),
+            Err(fault) => report_file(fault, file, faults),
         },
         Task::Stat { file, workers } => match read_file(rt, file) {
-            Ok(bytes) => told(stat_bytes(rt, bytes.as_slice(), workers, output), faults),
-            Err(fault) => told_file(fault, file, faults),
+            Ok(bytes) => report(stat_bytes(rt, bytes.as_slice(), workers, output), faults),
+            Err(fault) => report_file(fault, file, faults),
         },
     }
 }
 
 /// Runs the program with these words after its name, and answers its exit status. Without words the built-in sample is
-/// served on input and output. Faults are told on `faults`: a usage fault, or an asked help, with the text that belongs to
-/// it, any other in one line. At a usage fault nothing is read or written.
+/// served on input and output; with words a file is served, or its counts and totals are printed. Faults are reported on
+/// `faults`: a usage fault, or an asked help, with the text that belongs to it, any other in one line. At a usage fault, or
+/// where the file can't be read, no line is read and nothing is written on `output`.
 pub fn program<
     T: AllocGlobal + Files<File = File> + Threads + Sync,
     R: BufRead,
@@ -131,10 +134,11 @@ pub fn program<
 >(rt: &T, words: &[String], input: &mut R, output: &mut W, faults: &mut E) -> u8
     ensures run { words.now ≡ [] → (ended : Result (Unit {0}) RunFault) × (result ≡ status ended)
         × RunsDump SAMPLE (R.remaining input.old) (R.remaining input.new) (W.contents output.old) (W.contents output.new) ended }
+    ensures words { words.now ≢ [] → RunsWords (R.remaining input.old) (R.remaining input.new) (W.contents output.old) (W.contents output.new) result }
     ensures usage { result ≡ USAGE → Keeps (R.remaining input.old) (R.remaining input.new) × Keeps (W.contents output.old) (W.contents output.new) }
 {
     if words.is_empty() {
-        return told(run_bytes(rt, &SAMPLE, WORKERS, input, output), faults);
+        return report(run_bytes(rt, &SAMPLE, WORKERS, input, output), faults);
     }
     match read_arguments(rt.alloc(), words) {
         Ok(Some(task)) => perform(rt, task, input, output, faults),
@@ -142,6 +146,6 @@ pub fn program<
             let _ = writeln!(faults, "usage: hdesk [run FILE | stat FILE] [--workers N]");
             USAGE
         }
-        Err(error) => told_usage(&error, faults),
+        Err(error) => report_usage(&error, faults),
     }
 }

@@ -1,13 +1,9 @@
 //! The whole program over words and files, with its exit statuses and texts.
 use crate::program::{BAD_DUMP, DONE, FAILED, USAGE, program};
-use crate::run::RunFault;
-use crate::sample::SAMPLE;
-use crate::serve::ServeFault;
-use crate::spellings::stats;
-use crate::stat::stat_bytes;
+use hd_protocol::SAMPLE;
 use std::alloc::{AllocError, Global};
 use std::fs::{self, File};
-use std::io::{self, Write};
+use std::io::{self, BufRead, Read};
 use std::rt::Files;
 use std::test::Fail;
 use std::thread::Threads;
@@ -25,23 +21,23 @@ fn owned(alloc: Global, words: &[&str]) -> Result<Vec<String>, AllocError> {
     Ok(list)
 }
 
-/// Whether the program ends so over these words and lines: its status, what it writes, and what it tells.
+/// Whether the program ends so over these words and lines: its status, what it writes, and what it reports.
 fn ends<R: AllocGlobal + Files<File = File> + Threads + Sync>(
     rt: &R,
     words: &[&str],
     status: u8,
     written: &[u8],
-    told: &[u8],
+    reported: &[u8],
 ) -> Result<bool, AllocError> {
     let words = owned(rt.alloc(), words)?;
     let mut input: &[u8] = b"strength 0x2\nquit\n";
     let mut output = Vec::new(rt.alloc());
     let mut faults = Vec::new(rt.alloc());
     let ended = program(rt, words.as_slice(), &mut input, &mut output, &mut faults);
-    Ok(ended == status && output.as_slice() == written && faults.as_slice() == told)
+    Ok(ended == status && output.as_slice() == written && faults.as_slice() == reported)
 }
 
-/// What the program tells of words that it doesn't take; nothing where it takes them, or writes.
+/// What the program reports of words that it doesn't take; nothing where it takes them, or reads or writes.
 fn usage_of<R: AllocGlobal + Files<File = File> + Threads + Sync>(
     rt: &R,
     words: &[&str],
@@ -121,9 +117,9 @@ fn over<R: AllocGlobal + Files<File = File> + Threads + Sync>(
 ) -> io::Result<bool> {
     fs::write(rt, path, bytes)?;
     let ran = ends(rt, &["run", path, "--workers", "16"], run.0, run.1, run.2)?;
-    let told = ends(rt, &["stat", path], stat.0, stat.1, stat.2)?;
+    let counted = ends(rt, &["stat", path], stat.0, stat.1, stat.2)?;
     fs::remove_file(rt, path)?;
-    Ok(ran && told)
+    Ok(ran && counted)
 }
 
 #[test]
@@ -153,55 +149,43 @@ fn file_too_large(rt: HostRuntime) -> io::Result<()> {
     Ok(())
 }
 
-#[test]
-fn stat_of_dumps(rt: HostRuntime) -> Result<(), Fail> {
-    let nothing = "objects 0\nroots 0\nedges 0\nunresolved 0\nrepeated 0 0 0\nopaque 0\n\
-        STRONG 0 0\nSOFT 0 0\nWEAK 0 0\nFINAL 0 0\nPHANTOM 0 0\nUNREACHABLE 0 0\n";
-    assert!(rt; stats(&rt, &SAMPLE[..31], nothing));
-    assert!(rt; stats(&rt, &SAMPLE, SAMPLE_STAT));
-    let texts_and_loads = [
-        0x01, 0, 0, 0, 0, 0, 0, 0, 5, 0, 0, 1, 1, 0x41, 0x01, 0, 0, 0, 0, 0, 0, 0, 5, 0, 0, 1, 1,
-        0x42, 0x02, 0, 0, 0, 0, 0, 0, 0, 16, 0, 0, 0, 1, 0, 0, 0, 0x11, 0, 0, 0, 0, 0, 0, 1, 1,
-        0x02, 0, 0, 0, 0, 0, 0, 0, 16, 0, 0, 0, 1, 0, 0, 0, 0x11, 0, 0, 0, 0, 0, 0, 1, 1,
-    ];
-    let mut file = Vec::from_slice(rt.alloc(), &SAMPLE[..31])?;
-    file.extend_from_slice(&texts_and_loads)?;
-    let repeated = "objects 0\nroots 0\nedges 0\nunresolved 0\nrepeated 0 1 1\nopaque 0\n\
-        STRONG 0 0\nSOFT 0 0\nWEAK 0 0\nFINAL 0 0\nPHANTOM 0 0\nUNREACHABLE 0 0\n";
-    assert!(rt; stats(&rt, file.as_slice(), repeated));
-    Ok(())
-}
-
-/// A writer that takes so many bytes and then fails.
+/// A reader that fails at once.
 #[derive(Drop)]
-struct Narrow {
-    taken: Vec<u8>,
-    room: usize,
+struct FailingReader;
+
+impl Read for FailingReader {
+    fn read(&mut self, _buf: &mut [u8]) -> io::Result<usize> {
+        Err(io::Error::from(io::ErrorKind::Other))
+    }
 }
 
-impl Write for Narrow {
-    fn write(&mut self, buf: &[u8]) -> io::Result<usize> {
-        let count = buf.len().min(self.room);
-        if count == 0 {
-            return Err(io::Error::from(io::ErrorKind::Other));
-        }
-        self.taken.extend_from_slice(&buf[..count])?;
-        self.room -= count;
-        Ok(count)
+impl BufRead for FailingReader {
+    fn fill_buf(&mut self) -> io::Result<&[u8]> {
+        Err(io::Error::from(io::ErrorKind::Other))
     }
 
-    fn flush(&mut self) -> io::Result<()> {
-        Ok(())
-    }
+    fn consume(&mut self, _amount: usize) {}
 }
 
 #[test]
-fn stat_that_cannot_write(rt: HostRuntime) {
-    let mut output = Narrow {
-        taken: Vec::new(rt.alloc()),
-        room: 14,
-    };
-    let ended = stat_bytes(&rt, &SAMPLE, 1, &mut output);
-    assert_eq!(rt; ended, Err(RunFault::Serve(ServeFault::Write)));
-    assert_eq!(rt; output.taken.as_slice(), b"objects 2\nroot".as_slice());
+fn whole_program(rt: HostRuntime) {
+    let mut input: &[u8] = b"strength 0x2\nquit\n";
+    let mut output = Vec::new(rt.alloc());
+    let mut faults = Vec::new(rt.alloc());
+    let status = program(&rt, &[], &mut input, &mut output, &mut faults);
+    assert_eq!(rt; status, DONE);
+    assert_eq!(rt; output.as_slice(), b"ok 1\nSTRONG\nok 0\n".as_slice());
+    assert_eq!(rt; faults.len(), 0);
+}
+
+#[test]
+fn failed_program(rt: HostRuntime) {
+    let mut output = Vec::new(rt.alloc());
+    let mut faults = Vec::new(rt.alloc());
+    let status = program(&rt, &[], &mut FailingReader, &mut output, &mut faults);
+    assert_eq!(rt; status, FAILED);
+    assert_eq!(rt;
+        faults.as_slice(),
+        b"hdesk: cannot read standard input\n".as_slice()
+    );
 }

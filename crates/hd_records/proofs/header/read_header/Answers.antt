@@ -24,13 +24,13 @@ returns-then-bytes-lt-HEADER_LEN-clause-err c = no_header (omega arith)
 
 pub returns-then-not-has_magic-clause-err : goal.returns-then-not-has_magic-clause-err
 returns-then-not-has_magic-clause-err c =
-    other_text (c.in_ok-check_size.ensures.ok.0 refl) (omega arith) (λ e. let t : c.has_magic.result ≡ true = c.has_magic.ensures.1 e in absurd cc)
+    other_text (c.in_ok-check_size.ensures.ok.0 refl) (omega arith) (sym c.has_magic.ensures ∙ c.if-not-has_magic.true)
 
 pub returns-in-4-clause-ok : goal.returns-in-4-clause-ok
 returns-in-4-clause-ok c = record {
   fits = c.in_ok-check_size.ensures.ok.0 refl;
   long = c.if-bytes-lt-HEADER_LEN.false;
-  magic = c.has_magic.ensures.0 c.if-not-has_magic.false;
+  magic = sym c.has_magic.ensures ∙ c.if-not-has_magic.false;
   id_size = sym c.number_at.ensures ∙ c.in-4.is;
 }
 
@@ -38,11 +38,11 @@ pub returns-in-8-clause-ok : goal.returns-in-8-clause-ok
 returns-in-8-clause-ok c = record {
   fits = c.in_ok-check_size.ensures.ok.0 refl;
   long = c.if-bytes-lt-HEADER_LEN.false;
-  magic = c.has_magic.ensures.0 c.if-not-has_magic.false;
+  magic = sym c.has_magic.ensures ∙ c.if-not-has_magic.false;
   id_size = sym c.number_at.ensures ∙ c.in-8.is;
 }
 
 pub returns-in_default-clause-err : goal.returns-in_default-clause-err
 returns-in_default-clause-err c =
-    other_id_size (c.in_ok-check_size.ensures.ok.0 refl) c.if-bytes-lt-HEADER_LEN.false (c.has_magic.ensures.0 c.if-not-has_magic.false)
+    other_id_size (c.in_ok-check_size.ensures.ok.0 refl) c.if-bytes-lt-HEADER_LEN.false (sym c.has_magic.ensures ∙ c.if-not-has_magic.false)
     (λ e. let is : c.number_at.result ≡ 4 = c.number_at.ensures ∙ e in absurd (omega arith)) (λ e. let is : c.number_at.result ≡ 8 = c.number_at.ensures ∙ e in absurd (omega arith))

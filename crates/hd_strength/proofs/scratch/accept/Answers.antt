@@ -1,5 +1,6 @@
 use Rattle.std.proofs.Common.{◌≡◌, ◌∙◌, ℕ, ◌+◌, ◌<◌, ◌≤◌, ◌⊎◌, inl, inr, List, length, set, Some, None, refl, ap, sym, subst, arith}
 use Rattle.hd_terms.specs.Ranks.{rank}
+use Rattle.hd_terms.proofs.RankLemmas.{least-positive}
 use Rattle.hd_terms.specs.Paths.{Edge}
 use Rattle.hd_terms.specs.Dump.{SlotEntry}
 use Rattle.hd_terms.specs.Edges.{index_of}
@@ -9,7 +10,7 @@ use Rattle.hd_strength.specs.Rows.{width, edge_at}
 use Rattle.hd_strength.specs.Growing.{rank_at, offered_strength, AddsOffers, IsDeclined, IsAccepted}
 use Rattle.hd_strength.proofs.Lists.{read_is}
 use Rattle.hd_strength.proofs.RowLemmas.{at_none, at_target, at_source, edge_to, index_of_within}
-use Rattle.hd_strength.proofs.Offering.{is_removed, offered_strength-some, kept_by}
+use Rattle.hd_strength.proofs.Offering.{is_accepted, offered_strength-some, kept_by}
 use Rattle.hd_strength.proofs.scratch.accept.Goals as goal
 use Rattle.hd_strength.proofs.scratch.accept.Goals.{then-rank+in_ok-relax_edges, else-rank}
 
@@ -17,7 +18,7 @@ pub returns-in_default : goal.returns-in_default
 returns-in_default c = λ e is.
     let s : SlotEntry = record { slot = c.slots-read.result.slot; kind = c.slots-read.result.kind; id = c.slots-read.result.id } in
     let none : index_of c.args.edited.graph.now.objects s.id ≡ None = sym c.slots-read.ensures.target ∙ c.in_default.is in
-    absurd {A = IsDeclined c.args.kept.now.items c.args.kept.now.items c.args.buckets.now c.args.buckets.now e c.args.count c.args.count ⊎ IsAccepted (edge_at c.args.edited.graph.now c.args.edited.front.now) (width c.args.edited.graph.now) c.args.kept.now.items c.args.kept.now.items c.args.buckets.now c.args.buckets.now c.args.best.strength e c.args.count c.args.count} (at_none c.args.edited.graph.now c.args.edited.front.now c.args.best.offer.source c.args.best.offer.place s c.slots-read.ensures.entry none e is)
+    absurd {A = IsDeclined c.args.kept.now.items c.args.kept.now.items c.args.buckets.now c.args.buckets.now e c.args.count c.args.count ⊎ IsAccepted c.args.edited.graph.now.mode (edge_at c.args.edited.graph.now c.args.edited.front.now) (width c.args.edited.graph.now) c.args.kept.now.items c.args.kept.now.items c.args.buckets.now c.args.buckets.now c.args.best.strength e c.args.count c.args.count} (at_none c.args.edited.graph.now c.args.edited.front.now c.args.best.offer.source c.args.best.offer.place s c.slots-read.ensures.entry none e is)
 
 pub returns-then-rank-gt0 : goal.returns-then-rank-gt0
 returns-then-rank-gt0 c = λ e is.
@@ -52,11 +53,11 @@ returns c = λ e is.
     let back = c.requires.backed in
     let from : rank_at ks back.edge.source ≡ rank_at ks source = ap (rank_at ks) (at_source dump log source c.args.best.offer.place back.edge back.is) in
     let given : rank c.args.best.strength ≡ rank (offered_strength ks back.edge) = ap rank back.gives in
-    let gives : 1 ≤ rank c.args.best.strength = omega (arith, offered_strength-some ks back.edge (omega (arith, back.passes_on))) in
+    let gives : 1 ≤ rank c.args.best.strength = omega (arith, offered_strength-some ks back.edge (omega (arith, back.passes_on, least-positive dump.mode))) in
     let stored : c.by_edge.result ≡ kept_by c.args.best.strength e (c.args.count + 1) = c.by_edge.ensures ∙ ap (λ (x : Edge). kept_by c.args.best.strength x (c.args.count + 1)) edge in
     let after : set ks t c.by_edge.result ≡ set ks e.target (kept_by c.args.best.strength e (c.args.count + 1)) =
     ap (λ (k : Reached). set ks t k) stored ∙ ap (λ (o : ℕ). set ks o (kept_by c.args.best.strength e (c.args.count + 1))) (sym target) in
-    let takes = is_removed (edge_at dump log) (width dump) ks (set ks t c.by_edge.result) c.args.buckets.now c.if-rank.buckets c.args.best.strength e c.args.count lt (omega arith) gives after in
+    let takes = is_accepted dump.mode (edge_at dump log) (width dump) ks (set ks t c.by_edge.result) c.args.buckets.now c.if-rank.buckets c.args.best.strength e c.args.count lt (omega arith) gives after in
     inr (elim c.if-rank.branch [
       | then-rank+in_ok-relax_edges w ↦ takes
           (λ high. rw w.buckets-is (subst (λ (o : ℕ). AddsOffers (edge_at dump log) (set ks t c.by_edge.result) o (width dump o) (bucket c.args.buckets.now) (bucket w.relax_edges.new.buckets)) (sym target)

@@ -3,7 +3,7 @@ use Rattle.hd_terms.specs.declared.Strength.{Strength}
 use Rattle.hd_terms.specs.Ranks.{rank, weaker_of}
 use Rattle.hd_terms.specs.Paths.{Edge}
 use Rattle.hd_terms.specs.Dump.{SlotEntry, object_at}
-use Rattle.hd_terms.specs.EditedDump.{slot_stands}
+use Rattle.hd_terms.specs.EditedDump.{is_untouched}
 use Rattle.hd_terms.specs.Edges.{index_of}
 use Rattle.hd_terms.specs.Settled.{Reached, reached_at, unreached}
 use Rattle.hd_strength.specs.Growing.{rank_at}
@@ -34,8 +34,8 @@ returns-then-slot-clause-none c = λ e is.
     let dump = c.args.edited.graph.now in
     let log = c.args.edited.front.now in
     let s : SlotEntry = record { slot = c.slots-read.result.slot; kind = c.slots-read.result.kind; id = c.slots-read.result.id } in
-    let cut : slot_stands log (object_at dump c.args.o) s.slot ≡ false =
-    not-true (slot_stands log (object_at dump c.args.o) s.slot) (sym (c.requires.removed.slots c.args.o c.args.place s c.requires.object c.slots-read.ensures.entry) ∙ sym c.slot.ensures ∙ c.if-slot.true) in
+    let cut : is_untouched log (object_at dump c.args.o) s ≡ false =
+    not-true (is_untouched log (object_at dump c.args.o) s) (sym (c.requires.removed.slots c.args.o c.args.place s c.requires.object c.slots-read.ensures.entry) ∙ sym c.slot.ensures ∙ c.if-slot.true) in
     absurd (at_cut dump log c.args.o c.args.place s c.slots-read.ensures.entry cut e is)
 
 pub returns-clause-some : goal.returns-clause-some
@@ -44,8 +44,8 @@ returns-clause-some c =
     let t = c.in_ok-target.target in
     let some : index_of c.args.edited.graph.now.objects s.id ≡ Some t = sym c.slots-read.ensures.target ∙ c.in_ok-target.was in
     let read : reached_at c.args.kept.now c.args.o ≡ c.index-kept-o.result = read_is c.args.kept.now c.args.o unreached c.index-kept-o.result (omega (arith, c.requires.count, c.requires.object)) c.index-kept-o.is in
-    let stands : slot_stands c.args.edited.front.now (object_at c.args.edited.graph.now c.args.o) s.slot ≡ true =
-    not-false (slot_stands c.args.edited.front.now (object_at c.args.edited.graph.now c.args.o) s.slot) (sym (c.requires.removed.slots c.args.o c.args.place s c.requires.object c.slots-read.ensures.entry) ∙ sym c.slot.ensures ∙ c.if-slot.false) in
+    let stands : is_untouched c.args.edited.front.now (object_at c.args.edited.graph.now c.args.o) s ≡ true =
+    not-false (is_untouched c.args.edited.front.now (object_at c.args.edited.graph.now c.args.o) s) (sym (c.requires.removed.slots c.args.o c.args.place s c.requires.object c.slots-read.ensures.entry) ∙ sym c.slot.ensures ∙ c.if-slot.false) in
     let source : c.strength-2.result ≡ (reached_at c.args.kept.now c.args.o).strength = c.strength-2.ensures ∙ ap (λ (k : Reached). k.strength) (sym read) in (
       edge_to c.args.o s t,
       at_some c.args.edited.graph.now c.args.edited.front.now c.args.o c.args.place s c.slots-read.ensures.entry t some stands,

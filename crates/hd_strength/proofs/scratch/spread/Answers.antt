@@ -35,7 +35,7 @@ loop-best-smaller c =
     let x = c.in-Some.best.offer in
     let n = c.loop-best.count in
     let best = c.in-Some.ensures.some in
-    let back : IsBacked (edge_at dump log) ks s x = backing dump log ks b b1 s x n c.loop-best.invariant.growing best in
+    let back : IsBacked dump.mode (edge_at dump log) ks s x = backing dump log ks b b1 s x n c.loop-best.invariant.growing best in
     less_to_do dump log ks b b1 s x n c.loop-best.invariant.growing best c.accept.new.kept.items c.accept.new.buckets back.edge c.in_ok-count.count back.is (c.in_ok-count.ensures back.edge back.is)
 
 pub loop-best-preserved : goal.loop-best-preserved
@@ -50,7 +50,7 @@ loop-best-preserved c =
     let n = c.loop-best.count in
     let h = c.loop-best.invariant.growing in
     let best = c.in-Some.ensures.some in
-    let back : IsBacked (edge_at dump log) ks s x = backing dump log ks b b1 s x n h best in
+    let back : IsBacked dump.mode (edge_at dump log) ks s x = backing dump log ks b b1 s x n h best in
     let step = c.in_ok-count.ensures back.edge back.is in
     let ks' = c.accept.new.kept.items in
     let b2 = c.accept.new.buckets in

@@ -1,7 +1,10 @@
 use Rattle.std.proofs.Common.{ℕ, List, [], ◌∷◌, take, refl}
 use Rattle.hd_terms.specs.declared.Slot.{Slot}
 use Rattle.hd_terms.specs.declared.Slot.TheVariants as slots
+use Rattle.hd_terms.specs.declared.Strength.{Strength}
 use Rattle.hd_terms.specs.declared.Strength.TheVariants as strengths
+use Rattle.hd_terms.specs.declared.Edit.TheVariants as edits
+use Rattle.hd_terms.specs.declared.Event.{Event}
 use Rattle.hd_terms.specs.declared.Support.TheVariants as supports
 use Rattle.hd_terms.specs.Settled.{Reached, unreached}
 use Rattle.hd_terms.specs.Examples as examples
@@ -37,3 +40,24 @@ returns-clause-cycle_fell c =
     fell examples.cycle_behind_one_edge [] (take 1 examples.cut_and_undo)
     (held ∷ strong_by 0 (slots.Element 0) 1 ∷ strong_by 1 (slots.Element 0) 2 ∷ strong_by 2 (slots.Element 1) 3 ∷ strong_by 3 (slots.Element 0) 4 ∷ [])
     (held ∷ unreached ∷ unreached ∷ unreached ∷ unreached ∷ []) refl refl
+
+-- a strength by a slot of an object
+abbrev by : Strength → ℕ → Slot → ℕ → Reached
+by s source slot stamp = record { strength = s; support = supports.Edge source slot; stamp = stamp }
+
+-- what is reached of `phantom_referent` before and after its reference is cleared, followed directly and in closure
+abbrev phantom_with : Reached → Reached → List Reached
+phantom_with six seven =
+    by strengths.Strong 4 slots.Super 3 ∷ unreached ∷ unreached ∷ unreached ∷ by strengths.Strong 7 slots.OfClass 2 ∷ unreached
+    ∷ held ∷ by strengths.Strong 6 (slots.Element 0) 1 ∷ six ∷ seven ∷ unreached ∷ []
+
+abbrev cleared : List Event
+cleared = examples.does 0 (edits.Clear 0x21) ∷ []
+
+pub returns-clause-direct_fell : goal.returns-clause-direct_fell
+returns-clause-direct_fell c =
+    fell examples.phantom_referent [] cleared (phantom_with (by strengths.Phantom 7 (slots.Field 0) 4) unreached) (phantom_with unreached unreached) refl refl
+
+pub returns-clause-closure_fell : goal.returns-clause-closure_fell
+returns-clause-closure_fell c =
+    fell examples.phantom_closure [] cleared (phantom_with (by strengths.Phantom 7 (slots.Field 0) 4) (by strengths.Phantom 8 (slots.Element 0) 5)) (phantom_with unreached unreached) refl refl

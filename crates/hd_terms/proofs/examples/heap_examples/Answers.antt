@@ -134,3 +134,18 @@ returns-clause-behind_a_phantom c = strengths_of (standing examples.phantom_refe
 
 pub returns-clause-its_own_referent : goal.returns-clause-its_own_referent
 returns-clause-its_own_referent c = strengths_of (standing examples.phantom_referent []) phantom refl 10
+
+-- phantom_closure
+abbrev closure : List Reached
+closure =
+    by strengths.Strong 4 slots.Super 3 ∷ unreached ∷ unreached ∷ unreached ∷ by strengths.Strong 7 slots.OfClass 2 ∷ unreached
+    ∷ held ∷ by strengths.Strong 6 (slots.Element 0) 1 ∷ by strengths.Phantom 7 (slots.Field 0) 4 ∷ by strengths.Phantom 8 (slots.Element 0) 5 ∷ unreached ∷ []
+
+pub returns-clause-closure : goal.returns-clause-closure
+returns-clause-closure c = strengths_of (standing examples.phantom_closure []) closure refl 9
+
+pub returns-clause-closure_of_its_own_referent : goal.returns-clause-closure_of_its_own_referent
+returns-clause-closure_of_its_own_referent c = strengths_of (standing examples.phantom_closure []) closure refl 10
+
+pub returns-clause-closure_referent : goal.returns-clause-closure_referent
+returns-clause-closure_referent c = strengths_of (standing examples.phantom_closure []) closure refl 8

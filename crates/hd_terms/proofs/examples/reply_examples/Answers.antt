@@ -29,7 +29,7 @@ ok_none_is : ok_none ≡ answered []
 ok_none_is = sym (ap (λ (digits : List ℕ). with_newline (codes "ok " ++ digits) ++ []) (decimal_digit 0 (lit< tt)))
 
 -- the second object is strong
-strong_reply : IsReply examples.two_arrays (beginning []) (codes "strength 0x2") ok_strong
+strong_reply : IsReply examples.two_arrays [] ([] ∷ []) (codes "strength 0x2") ok_strong
 strong_reply = (
   strengths.Strong,
   strengths_of (standing examples.two_arrays [])
@@ -40,61 +40,68 @@ strong_reply = (
 
 -- a turn under the empty log that leaves it empty
 abbrev turn : List ℕ → List ℕ → Turn
-turn line reply = record { line = line; before = beginning []; found = []; after = beginning []; reply = reply }
+turn line reply = record { line = line; before = beginning [] []; found = []; after = beginning [] []; reply = reply }
 
 -- nothing came to the empty log
 nothing_came : IsLater 0 [] []
 nothing_came = record { more = []; begins = refl; same_own = refl; lawful = lawful [] refl }
 
-nothing_new : IsRefreshed 0 (beginning []) (beginning [])
+nothing_new : IsRefreshed 0 (beginning [] []) (beginning [] [])
 nothing_new = record { later = nothing_came; same = refl }
 
 -- a session of the one line
 one_turn : IsSessionAlone examples.two_arrays (codes "strength 0x2" ∷ []) (turn (codes "strength 0x2") ok_strong ∷ [])
 one_turn = record {
-  session = (nothing_new, nothing_came, sessions.answered strong_reply refl refl, tt);
+  session = record { session = (nothing_new, nothing_came, sessions.answered strong_reply refl refl, tt); over = refl };
   alone = (refl, refl, tt);
-  over = refl;
 }
 
 pub returns-clause-strength : goal.returns-clause-strength
 returns-clause-strength c = strong_reply
 
 pub returns-clause-served : goal.returns-clause-served
-returns-clause-served c = record {
-  turns = turn (codes "strength 0x2") ok_strong ∷ turn (codes "quit") ok_none ∷ [];
-  session = record {
-    session = (
-      nothing_new,
-      nothing_came,
-      sessions.answered strong_reply refl refl,
-      (nothing_new, nothing_came, sessions.answered ok_none_is refl refl, tt),
-    );
-    alone = (refl, refl, (refl, refl, tt));
-    over = refl;
-  };
-  written_is = refl;
-}
+returns-clause-served c = (
+  turn (codes "strength 0x2") ok_strong ∷ turn (codes "quit") ok_none ∷ [],
+  record {
+    session = record {
+      session = record {
+        session = (
+          nothing_new,
+          nothing_came,
+          sessions.answered strong_reply refl refl,
+          (nothing_new, nothing_came, sessions.answered ok_none_is refl refl, tt),
+        );
+        over = refl;
+      };
+      alone = (refl, refl, (refl, refl, tt));
+    };
+    written_is = refl;
+  },
+)
 
 pub returns-clause-read_failed : goal.returns-clause-read_failed
-returns-clause-read_failed c = record {
-  seen = codes "strength 0x";
-  front = refl;
-  turns = [];
-  session = record { session = tt; alone = tt; over = refl };
-  no_quit = tt;
-  written_is = refl;
-}
+returns-clause-read_failed c = (
+  [],
+  record {
+    consumed = codes "strength 0x";
+    split = refl;
+    session = record { session = record { session = tt; over = refl }; alone = tt };
+    no_quit = tt;
+    written_is = refl;
+  },
+)
 
 pub returns-clause-write_failed : goal.returns-clause-write_failed
-returns-clause-write_failed c = record {
-  seen = codes "strength 0x2";
-  rest = [];
-  front = refl;
-  lines = codes "strength 0x2" ∷ [];
-  read = inr (refl, refl);
-  turns = turn (codes "strength 0x2") ok_strong ∷ [];
-  session = one_turn;
-  more = codes "RONG" ++ 10 ∷ [];
-  written_is = refl;
-}
+returns-clause-write_failed c = (
+  turn (codes "strength 0x2") ok_strong ∷ [],
+  record {
+    consumed = codes "strength 0x2";
+    rest = [];
+    split = refl;
+    lines = codes "strength 0x2" ∷ [];
+    read = inr (refl, refl);
+    session = one_turn;
+    more = codes "RONG" ++ 10 ∷ [];
+    written_is = refl;
+  },
+)

@@ -1,0 +1,10 @@
+pub mod Words
+pub mod Digits
+pub mod Writing
+pub mod Lines
+pub mod Turns
+pub mod ServedLines
+pub mod Refusals
+pub mod RowTexts
+pub mod Answering
+pub mod Stating

@@ -1,0 +1,7 @@
+use Rattle.std.proofs.Common.{◌≡◌, drop}
+use Rattle.hd_protocol.specs.Words.{words_between}
+use Rattle.hd_protocol.proofs.command.spaces.Given as goal
+
+-- what is left has the words
+abbrev pub invariant-loop-i : goal.invariant-loop-i
+invariant-loop-i l = words_between (drop l.i l.bytes) ≡ words_between l.bytes

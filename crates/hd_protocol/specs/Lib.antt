@@ -1,0 +1,7 @@
+pub mod Words
+pub mod Replying
+pub mod Editing
+pub mod Answering
+pub mod Serving
+pub mod Running
+pub mod Stating

@@ -1,0 +1,271 @@
+//! The commands that lines spell.
+ghost use Rattle.std.specs.Prelude.{◌≡◌, ◌≢◌, ℕ, ◌<◌, ◌≤◌, [], ◌∷◌, length, drop, slice_index, MatchOption, IfSome};
+ghost use Rattle.std.specs.Io.BufRead.{strip_last};
+ghost use Rattle.std.specs.Option.{option_and_then, option_copied};
+ghost use Rattle.hd_terms.specs.Lines.{command_of, strength_command, slots_command, cut_command, undo_command, quit_command, only_word, id_of_word, number_of_word, slot_of_word, numbered_slot, hex_digit, digit_in, number_in};
+ghost use Rattle.hd_protocol.specs.Words.{words_between};
+
+use hd_terms::{Command, Edit, LineFault, Slot};
+
+/// The most bytes of a line before its newline.
+pub const LONGEST_LINE: usize = 4096;
+
+/// The command that a line spells, or the first of its faults.
+pub fn read_command(line: &[u8]) -> Result<Command, LineFault>
+    ensures { result ≡ command_of line.now }
+{
+    if line.len() > LONGEST_LINE {
+        return Err(LineFault::LineTooLong);
+    }
+    let Some((word, rest)) = split_word(without_return(line)) else {
+        return Err(LineFault::UnknownCommand);
+    };
+    if word == b"strength".as_slice() {
+        read_strength(rest)
+    } else if word == b"slots".as_slice() {
+        read_slots(rest)
+    } else if word == b"cut".as_slice() {
+        read_cut(rest)
+    } else if word == b"undo".as_slice() {
+        read_undo(rest)
+    } else if word == b"quit".as_slice() {
+        read_quit(rest)
+    } else {
+        Err(LineFault::UnknownCommand)
+    }
+}
+
+/// What follows `strength` is one ID.
+fn read_strength(rest: &[u8]) -> Result<Command, LineFault>
+    ensures { result ≡ strength_command (words_between rest.now) }
+{
+    match read_only_id(rest) {
+        Some(id) => Ok(Command::Strength(id)),
+        None => Err(LineFault::BadArgument),
+    }
+}
+
+/// What follows `slots` is one ID.
+fn read_slots(rest: &[u8]) -> Result<Command, LineFault>
+    ensures { result ≡ slots_command (words_between rest.now) }
+{
+    match read_only_id(rest) {
+        Some(id) => Ok(Command::Slots(id)),
+        None => Err(LineFault::BadArgument),
+    }
+}
+
+/// What follows `cut` is an ID and a slot.
+fn read_cut(rest: &[u8]) -> Result<Command, LineFault>
+    ensures { result ≡ cut_command (words_between rest.now) }
+{
+    let Some((word, more)) = split_word(rest) else {
+        return Err(LineFault::BadArgument);
+    };
+    match (read_id(word), read_only_slot(more)) {
+        (Some(id), Some(slot)) => Ok(Command::Edit(Edit::Cut(id, slot))),
+        _ => Err(LineFault::BadArgument),
+    }
+}
+
+/// What follows `undo` is nothing, or the number of an event.
+fn read_undo(rest: &[u8]) -> Result<Command, LineFault>
+    ensures { result ≡ undo_command (words_between rest.now) }
+{
+    if split_word(rest).is_none() {
+        return Ok(Command::Undo(None));
+    }
+    match read_only_event(rest) {
+        Some(number) => Ok(Command::Undo(Some(number))),
+        None => Err(LineFault::BadArgument),
+    }
+}
+
+/// What follows `quit` is nothing.
+fn read_quit(rest: &[u8]) -> Result<Command, LineFault>
+    ensures { result ≡ quit_command (words_between rest.now) }
+{
+    match split_word(rest) {
+        Some(_) => Err(LineFault::BadArgument),
+        None => Ok(Command::Quit),
+    }
+}
+
+/// A line without one carriage return at its end.
+fn without_return(line: &[u8]) -> &[u8]
+    ensures { result.now ≡ strip_last 13 line.now }
+{
+    let n = line.len();
+    if n > 0 && line[n - 1] == b'\r' {
+        &line[..n - 1]
+    } else {
+        line
+    }
+}
+
+/// How many spaces some bytes begin with.
+fn spaces(bytes: &[u8]) -> usize
+    ensures within { result ≤ length bytes.now }
+    ensures words { words_between (drop result bytes.now) ≡ words_between bytes.now }
+    ensures stops { result < length bytes.now → slice_index bytes.now result ≢ 32 }
+{
+    for (i, byte) in bytes.iter().enumerate() {
+        if *byte != b' ' {
+            return i;
+        }
+    }
+    bytes.len()
+}
+
+/// How many bytes come before the first space.
+fn until_space(bytes: &[u8]) -> usize
+    ensures within { result ≤ length bytes.now }
+    ensures before { (k : ℕ) → k < result → slice_index bytes.now k ≢ 32 }
+    ensures stops { result < length bytes.now → slice_index bytes.now result ≡ 32 }
+{
+    for (i, byte) in bytes.iter().enumerate() {
+        if *byte == b' ' {
+            return i;
+        }
+    }
+    bytes.len()
+}
+
+/// The first word, and what follows it.
+fn split_word(bytes: &[u8]) -> Option<(&[u8], &[u8])>
+    ensures { MatchOption result (words_between bytes.now ≡ []) (λ p. words_between bytes.now ≡ p.0.now ∷ words_between p.1.now) }
+{
+    let rest = &bytes[spaces(bytes)..];
+    if rest.is_empty() {
+        return None;
+    }
+    let end = until_space(rest);
+    Some((&rest[..end], &rest[end..]))
+}
+
+/// The only word, if there is one and no other.
+fn only_word(bytes: &[u8]) -> Option<&[u8]>
+    ensures { option_copied result ≡ only_word (words_between bytes.now) }
+{
+    let (word, more) = split_word(bytes)?;
+    if split_word(more).is_some() {
+        return None;
+    }
+    Some(word)
+}
+
+/// The ID that the only word spells.
+fn read_only_id(rest: &[u8]) -> Option<u64>
+    ensures { result ≡ option_and_then id_of_word (only_word (words_between rest.now)) }
+{
+    read_id(only_word(rest)?)
+}
+
+/// The slot that the only word spells.
+fn read_only_slot(rest: &[u8]) -> Option<Slot>
+    ensures { result ≡ option_and_then slot_of_word (only_word (words_between rest.now)) }
+{
+    read_slot(only_word(rest)?)
+}
+
+/// The number of an event that the only word spells.
+fn read_only_event(rest: &[u8]) -> Option<u32>
+    ensures { result ≡ option_and_then number_of_word (only_word (words_between rest.now)) }
+{
+    read_small(only_word(rest)?)
+}
+
+/// The ID that a word spells.
+fn read_id(word: &[u8]) -> Option<u64>
+    ensures { result ≡ id_of_word word.now }
+{
+    if word.len() < 3 || word.len() > 18 || word[0] != b'0' || word[1] != b'x' {
+        return None;
+    }
+    read_number(16, &word[2..])
+}
+
+/// The slot that a word spells.
+fn read_slot(word: &[u8]) -> Option<Slot>
+    ensures { result ≡ slot_of_word word.now }
+{
+    if word == b"class".as_slice() {
+        Some(Slot::OfClass)
+    } else if word == b"super".as_slice() {
+        Some(Slot::Super)
+    } else if word == b"loader".as_slice() {
+        Some(Slot::Loader)
+    } else if word == b"signers".as_slice() {
+        Some(Slot::Signers)
+    } else if word == b"domain".as_slice() {
+        Some(Slot::Domain)
+    } else {
+        read_numbered_slot(word)
+    }
+}
+
+/// The slot that a letter and a number spell.
+fn read_numbered_slot(word: &[u8]) -> Option<Slot>
+    ensures { result ≡ numbered_slot word.now }
+{
+    let (letter, digits) = word.split_first()?;
+    let number = read_small(digits)?;
+    match *letter {
+        b'f' => Some(Slot::Field(number)),
+        b'e' => Some(Slot::Element(number)),
+        b's' => Some(Slot::Static(number)),
+        b'k' => Some(Slot::Const(number)),
+        _ => None,
+    }
+}
+
+/// The number of at most 32 bits that 1 to 10 decimal digits spell.
+fn read_small(word: &[u8]) -> Option<u32>
+    ensures { result ≡ number_of_word word.now }
+{
+    if word.is_empty() || word.len() > 10 {
+        return None;
+    }
+    let number = read_number(10, word)?;
+    if number > u64::from(u32::MAX) {
+        return None;
+    }
+    Some(number as u32)
+}
+
+/// The number that digits of a base of at most 16 spell.
+fn read_number(base: u64, digits: &[u8]) -> Option<u64>
+    requires base { base ≤ 16 }
+    requires few { length digits.now ≤ 16 }
+    ensures { result ≡ number_in base digits.now }
+{
+    let mut number = 0;
+    for byte in digits {
+        let Some(digit) = digit_of(base, *byte) else {
+            return None;
+        };
+        number = base * number + digit;
+    }
+    Some(number)
+}
+
+/// The value of a digit in a base of at most 16.
+fn digit_of(base: u64, byte: u8) -> Option<u64>
+    ensures value { result ≡ digit_in base byte }
+    ensures small { IfSome result (λ digit. digit < base) }
+{
+    let digit = hexadecimal(byte)?;
+    if digit < base { Some(digit) } else { None }
+}
+
+/// The value of a hexadecimal digit of either case.
+fn hexadecimal(byte: u8) -> Option<u64>
+    ensures { result ≡ hex_digit byte }
+{
+    match byte {
+        b'0'..=b'9' => Some(u64::from(byte - b'0')),
+        b'a'..=b'f' => Some(u64::from(byte - b'a' + 10)),
+        b'A'..=b'F' => Some(u64::from(byte - b'A' + 10)),
+        _ => None,
+    }
+}

@@ -1,0 +1,18 @@
+//! What an analyst says and hears: lines become commands, commands run over a dump's state, and each is replied to.
+#![tactic(auto)]
+
+mod command;
+mod edit;
+mod fixed_buffer;
+mod reply;
+mod run;
+mod sample;
+mod serving;
+mod slots;
+mod stat;
+
+pub use command::{LONGEST_LINE, read_command};
+pub use run::{RunFault, open_bytes, run_bytes};
+pub use sample::SAMPLE;
+pub use serving::{ServeFault, serve};
+pub use stat::stat_bytes;

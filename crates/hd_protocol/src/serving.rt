@@ -1,0 +1,242 @@
+//! Lines are served: read, run in turn, and answered.
+ghost use Rattle.std.specs.Prelude.{◌≡◌, ℕ, ◌≤◌, [], ◌∷◌, ◌++◌, length, take, Ok, Err, IfOk, IfErr, OnOk, OnErr, OnSome, if◌then◌else◌};
+ghost use Rattle.std.specs.Io.KnownBytes.{Keeps, Appends, Consumes, IsAtEnd};
+ghost use Rattle.hd_terms.specs.Lines.{is_quit_command};
+ghost use Rattle.hd_protocol.specs.Serving.{kept_of, midway, RunsLine, RunsBytes, RunsEnd, Serves};
+
+use crate::command::{LONGEST_LINE, read_command};
+use crate::fixed_buffer::FixedBuffer;
+use crate::reply::{LONGEST_REPLY, answer};
+use hd_state::State;
+use hd_terms::{Command, LineFault};
+use std::alloc::{AllocError, Global};
+use std::io::{BufRead, Write};
+use thiserror::Error;
+
+/// Why serving ended early.
+#[derive(Clone, Copy, Debug, PartialEq, Eq, Error)]
+pub enum ServeFault {
+    /// The reader failed, or gave its bytes in too many pieces.
+    #[error("cannot read standard input")]
+    Read,
+    /// The writer failed, or took no byte.
+    #[error("cannot write")]
+    Write,
+    /// Memory ran out before anything was read.
+    #[error("OutOfMemory")]
+    OutOfMemory,
+}
+
+impl From<AllocError> for ServeFault {
+    ghost use Rattle.hd_protocol.specs.declared.serving.ServeFault.TheVariants.{OutOfMemory};
+
+    ghost from_gives = { λ _ e. e ≡ OutOfMemory };
+
+    fn from(_error: AllocError) -> ServeFault {
+        ServeFault::OutOfMemory
+    }
+}
+
+/// Whether lines are read on.
+#[derive(Clone, Copy, Debug, PartialEq, Eq)]
+pub enum Flow {
+    /// The next line is read.
+    GoesOn,
+    /// The line was `quit`.
+    Quits,
+}
+
+/// The most bytes of a line that are kept: one more than the longest line has.
+const KEPT_LINE: usize = LONGEST_LINE + 1;
+
+/// The most bytes that are taken from the reader at once.
+const CHUNK: usize = 65_536;
+
+/// The most times that bytes are taken from the reader.
+const MOST_REFILLS: u32 = 16_777_216;
+
+/// Writes a whole text.
+pub fn put_all<W: Write>(writer: &mut W, text: &[u8]) -> Result<(), ServeFault>
+    ensures ok { OnOk result (Appends (W.contents writer.old) (W.contents writer.new) text.now) }
+    ensures err { OnErr result ((k : ℕ) × Appends (W.contents writer.old) (W.contents writer.new) (take k text.now)) }
+    ensures write { IfErr result (λ e. e ≡ ServeFault.Write) }
+{
+    let mut at = 0;
+    while at < text.len() {
+        match writer.write(&text[at..]) {
+            Ok(0) => return Err(ServeFault::Write),
+            Ok(n) => at += n,
+            Err(_) => return Err(ServeFault::Write),
+        }
+    }
+    Ok(())
+}
+
+/// Hands on what was written.
+pub fn flush<W: Write>(writer: &mut W) -> Result<(), ServeFault>
+    ensures bytes { Keeps (W.contents writer.old) (W.contents writer.new) }
+    ensures write { IfErr result (λ e. e ≡ ServeFault.Write) }
+{
+    match writer.flush() {
+        Ok(()) => Ok(()),
+        Err(_) => Err(ServeFault::Write),
+    }
+}
+
+/// Takes what the reader shows, as far as there is room for it, in place of the bytes of `chunk`.
+fn refill<R: BufRead>(reader: &mut R, chunk: &mut FixedBuffer<CHUNK>) -> Result<(), ServeFault>
+    ensures ok { OnOk result (Consumes (R.remaining reader.old) (R.remaining reader.new) chunk.new) }
+    ensures end { OnOk result (length chunk.new ≡ 0 → OnSome (R.remaining reader.old) (IsAtEnd (R.remaining reader.new))) }
+    ensures err { OnErr result (Keeps (R.remaining reader.old) (R.remaining reader.new)) }
+    ensures read { IfErr result (λ e. e ≡ ServeFault.Read) }
+{
+    chunk.clear();
+    let shown = match reader.fill_buf() {
+        Ok(shown) => shown,
+        Err(_) => return Err(ServeFault::Read),
+    };
+    let n = shown.len().min(CHUNK);
+    chunk.put(&shown[..n]);
+    reader.consume(n);
+    Ok(())
+}
+
+/// What serves an analyst: the state, the line that isn't ended yet, and room for a reply.
+#[derive(Drop)]
+struct Service {
+    alloc: Global,
+    state: State,
+    line: FixedBuffer<KEPT_LINE>,
+    reply: FixedBuffer<LONGEST_REPLY>,
+}
+
+/// Runs the open line, and writes its reply.
+fn run_line<W: Write>(writer: &mut W, service: &mut Service) -> Result<Flow, ServeFault>
+    ensures line { service.new.line ≡ service.old.line }
+    ensures runs { RunsLine service.old.state service.new.state service.old.line (W.contents writer.old) (W.contents writer.new) result }
+{
+    let reading = read_command(service.line.as_slice());
+    match answer(
+        service.alloc,
+        &mut service.state,
+        reading,
+        &mut service.reply,
+    ) {
+        Some(text) => put_all(writer, text.as_bytes())?,
+        None => put_all(writer, service.reply.as_slice())?,
+    }
+    Ok(flow_after(reading))
+}
+
+/// Whether lines are read on after one that spells this.
+fn flow_after(reading: Result<Command, LineFault>) -> Flow
+    ensures { (if is_quit_command reading then Flow.Quits else Flow.GoesOn) ≡ result }
+{
+    match reading {
+        Ok(Command::Quit) => Flow::Quits,
+        _ => Flow::GoesOn,
+    }
+}
+
+/// Runs one byte: a newline ends the open line, any other byte goes onto it.
+fn run_byte<W: Write>(writer: &mut W, service: &mut Service, byte: u8) -> Result<Flow, ServeFault>
+    ensures { RunsBytes (byte ∷ []) (midway service.old.state service.old.line) (midway service.new.state service.new.line) (W.contents writer.old) (W.contents writer.new) result }
+{
+    if byte == b'\n' {
+        let flow = run_line(writer, service)?;
+        service.line.clear();
+        return Ok(flow);
+    }
+    keep(&mut service.line, byte);
+    Ok(Flow::GoesOn)
+}
+
+/// Puts a byte onto the open line, as far as there is room for it.
+fn keep(line: &mut FixedBuffer<KEPT_LINE>, byte: u8)
+    ensures { line.new ≡ kept_of (line.old ++ byte ∷ []) }
+{
+    if line.as_slice().len() < KEPT_LINE {
+        line.put(&[byte]);
+    }
+}
+
+/// Runs bytes in turn.
+fn run_chunk<W: Write>(
+    writer: &mut W,
+    service: &mut Service,
+    bytes: &[u8],
+) -> Result<Flow, ServeFault>
+    ensures { RunsBytes bytes.now (midway service.old.state service.old.line) (midway service.new.state service.new.line) (W.contents writer.old) (W.contents writer.new) result }
+{
+    for byte in bytes {
+        match run_byte(writer, service, *byte)? {
+            Flow::GoesOn => {}
+            Flow::Quits => return Ok(Flow::Quits),
+        }
+    }
+    Ok(Flow::GoesOn)
+}
+
+/// Runs what is left at the end of the input, if it has a byte.
+fn run_end<W: Write>(writer: &mut W, service: &mut Service) -> Result<(), ServeFault>
+    ensures { RunsEnd (midway service.old.state service.old.line) (W.contents writer.old) (W.contents writer.new) result }
+{
+    if service.line.as_slice().is_empty() {
+        return Ok(());
+    }
+    let _flow = run_line(writer, service)?;
+    Ok(())
+}
+
+/// Reads, runs and answers until the input ends, a line is `quit`, or a fault.
+fn run_input<R: BufRead, W: Write>(
+    reader: &mut R,
+    writer: &mut W,
+    service: &mut Service,
+    chunk: &mut FixedBuffer<CHUNK>,
+) -> Result<(), ServeFault>
+    requires log { service.old.state.log ≡ [] }
+    requires line { service.old.line ≡ [] }
+    ensures { Serves service.old.state.dump (R.remaining reader.old) (R.remaining reader.new) (W.contents writer.old) (W.contents writer.new) result }
+{
+    for _ in 0..MOST_REFILLS {
+        flush(writer)?;
+        refill(reader, chunk)?;
+        let bytes = chunk.as_slice();
+        if bytes.is_empty() {
+            return run_end(writer, service);
+        }
+        match run_chunk(writer, service, bytes)? {
+            Flow::GoesOn => {}
+            Flow::Quits => return Ok(()),
+        }
+    }
+    flush(writer)?;
+    Err(ServeFault::Read)
+}
+
+/// Serves the lines of a reader to a writer, from a state with no edits on, until the input ends, a line is `quit`, or
+/// a fault. Room for lines and short replies is taken before anything is read; the writer is flushed before each refill
+/// and at the end.
+pub fn serve<R: BufRead, W: Write>(
+    alloc: Global,
+    reader: &mut R,
+    writer: &mut W,
+    state: State,
+) -> Result<(), ServeFault>
+    requires { state.log ≡ [] }
+    ensures { Serves state.dump (R.remaining reader.old) (R.remaining reader.new) (W.contents writer.old) (W.contents writer.new) result }
+{
+    let mut chunk = FixedBuffer::new(alloc)?;
+    let line = FixedBuffer::new(alloc)?;
+    let reply = FixedBuffer::new(alloc)?;
+    let mut service = Service {
+        alloc,
+        state,
+        line,
+        reply,
+    };
+    run_input(reader, writer, &mut service, &mut chunk)?;
+    flush(writer)?;
+    Ok(())
+}

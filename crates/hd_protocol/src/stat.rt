@@ -1,0 +1,109 @@
+//! The counts of a dump, and the totals of each strength.
+ghost use Rattle.std.specs.Prelude.{◌≡◌, ◌≤◌, [], ◌∷◌, ◌++◌, string_bytes, decimal, IfOk, OnOk};
+ghost use Rattle.std.specs.List.{flat_map};
+ghost use Rattle.hd_terms.specs.Workers.{IsWorkers};
+ghost use Rattle.hd_terms.specs.declared.Strength.{Strength as OneStrength};
+ghost use Rattle.hd_terms.specs.Replies.{with_newline, strength_name};
+ghost use Rattle.hd_terms.specs.Stat.{IsStat, count_lines, repeated_line, total_line, total_lines};
+ghost use Rattle.hd_state.specs.Totals.{total_for};
+ghost use Rattle.hd_protocol.specs.Stating.{StatsDump, shown_total};
+
+use crate::reply::strength_text;
+use crate::run::{RunFault, open_bytes};
+use crate::serving::{flush, put_all};
+use hd_state::{State, StrengthTotals, Total};
+use hd_terms::{Counts, NoMemory, Strength};
+use std::alloc::{AllocError, Global};
+use std::fmt::Write as _;
+use std::io::Write;
+use std::thread::Threads;
+
+/// Puts the lines of counts behind a text.
+fn put_counts(text: &mut String, counts: Counts) -> Result<(), AllocError>
+    ensures { OnOk result (string_bytes text.new ≡ string_bytes text.old ++ flat_map with_newline (count_lines counts)) }
+{
+    put_count(text, "objects ", counts.objects)?;
+    put_count(text, "roots ", counts.roots)?;
+    put_count(text, "edges ", counts.edges)?;
+    put_count(text, "unresolved ", counts.unresolved)?;
+    put_repeated(text, counts)?;
+    put_count(text, "opaque ", counts.opaque)?;
+    Ok(())
+}
+
+/// Puts the line of what is repeated behind a text.
+fn put_repeated(text: &mut String, counts: Counts) -> Result<(), AllocError>
+    ensures { OnOk result (string_bytes text.new ≡ string_bytes text.old ++ with_newline (repeated_line counts)) }
+{
+    let objects = counts.repeated_objects;
+    let strings = counts.repeated_strings;
+    let loads = counts.repeated_loads;
+    writeln!(text, "repeated {objects} {strings} {loads}")?;
+    Ok(())
+}
+
+/// Puts the line of one count behind a text.
+fn put_count(text: &mut String, name: &str, count: u64) -> Result<(), AllocError>
+    ensures { OnOk result (string_bytes text.new ≡ string_bytes text.old ++ with_newline (name.now ++ decimal count)) }
+{
+    writeln!(text, "{name}{count}")?;
+    Ok(())
+}
+
+/// Puts the line of a strength behind a text.
+fn put_total(text: &mut String, strength: Strength, total: Total) -> Result<(), AllocError>
+    ensures { OnOk result (string_bytes text.new ≡ string_bytes text.old ++ with_newline (total_line strength (shown_total total))) }
+{
+    let name = strength_text(strength);
+    let count = total.count;
+    let bytes = total.bytes;
+    writeln!(text, "{name} {count} {bytes}")?;
+    Ok(())
+}
+
+/// Puts a line for each strength behind a text, from the best.
+fn put_totals(text: &mut String, totals: &StrengthTotals) -> Result<(), AllocError>
+    ensures { OnOk result (string_bytes text.new ≡ string_bytes text.old ++ flat_map with_newline (total_lines (λ (s : OneStrength). shown_total (total_for totals.now s)))) }
+{
+    put_total(text, Strength::Strong, totals.of(Strength::Strong))?;
+    put_total(text, Strength::Soft, totals.of(Strength::Soft))?;
+    put_total(text, Strength::Weak, totals.of(Strength::Weak))?;
+    put_total(text, Strength::Final, totals.of(Strength::Final))?;
+    put_total(text, Strength::Phantom, totals.of(Strength::Phantom))?;
+    put_total(
+        text,
+        Strength::Unreachable,
+        totals.of(Strength::Unreachable),
+    )?;
+    Ok(())
+}
+
+/// The counts of a dump, and the totals of each strength with no edit.
+fn stat_text(alloc: Global, state: &State) -> Result<String, NoMemory>
+    requires { state.now.log ≡ [] }
+    ensures { IfOk result (λ text. IsStat state.now.dump (string_bytes text)) }
+{
+    let mut text = String::new(alloc);
+    put_counts(&mut text, state.graph().counts())?;
+    put_totals(&mut text, &state.strength_totals())?;
+    Ok(text)
+}
+
+/// Opens the bytes of a dump and writes its counts and totals.
+///
+/// `workers` is the number of threads that decode, 1 to 16.
+pub fn stat_bytes<T: AllocGlobal + Threads + Sync, W: Write>(
+    rt: &T,
+    bytes: &[u8],
+    workers: u32,
+    output: &mut W,
+) -> Result<(), RunFault>
+    requires workers { IsWorkers workers }
+    ensures { StatsDump bytes.now (W.contents output.old) (W.contents output.new) result }
+{
+    let state = open_bytes(rt, bytes, workers)?;
+    let text = stat_text(rt.alloc(), &state)?;
+    put_all(output, text.as_bytes())?;
+    flush(output)?;
+    Ok(())
+}

@@ -1,0 +1,105 @@
+//! What the workbench answers over a dump: the lines of `stat`, replies, and the fault where there is one.
+use hd_protocol::{RunFault, run_bytes, stat_bytes};
+use std::alloc::{AllocError, Global};
+use std::thread::Threads;
+
+/// What is asked of a dump.
+#[derive(Clone, Copy)]
+pub enum Question<'a> {
+    /// The counts and totals.
+    Stat,
+    /// The replies to this input.
+    Session(&'a [u8]),
+}
+
+/// What was written, and behind it the text of the fault that ended it, if one did.
+fn with_fault(
+    alloc: Global,
+    written: Vec<u8>,
+    ended: Result<(), RunFault>,
+) -> Result<Vec<u8>, AllocError> {
+    let mut text = written;
+    if let Err(fault) = ended {
+        text.extend_from_slice(fault.to_string(alloc)?.as_bytes())?;
+        text.push(b'\n')?;
+    }
+    Ok(text)
+}
+
+/// The answer to a question over a dump, with so many workers, at least 1 and at most 16.
+pub fn answer<R: AllocGlobal + Threads + Sync>(
+    rt: &R,
+    dump: &[u8],
+    workers: u32,
+    question: Question<'_>,
+) -> Result<Vec<u8>, AllocError> {
+    let mut written = Vec::new(rt.alloc());
+    let workers = workers.clamp(1, 16);
+    let ended = match question {
+        Question::Stat => stat_bytes(rt, dump, workers, &mut written),
+        Question::Session(input) => {
+            let mut rest = input;
+            run_bytes(rt, dump, workers, &mut rest, &mut written)
+        }
+    };
+    with_fault(rt.alloc(), written, ended)
+}
+
+/// The answer to a question over a dump; where it isn't the same with every number of workers up to one, the first
+/// other answer stands behind it.
+pub fn answer_of_all<R: AllocGlobal + Threads + Sync>(
+    rt: &R,
+    dump: &[u8],
+    most_workers: u32,
+    question: Question<'_>,
+) -> Result<Vec<u8>, AllocError> {
+    let first = answer(rt, dump, 1, question)?;
+    for workers in 2..17u32 {
+        if workers <= most_workers {
+            let other = answer(rt, dump, workers, question)?;
+            if other.as_slice() != first.as_slice() {
+                return both(rt.alloc(), first, workers, other.as_slice());
+            }
+        }
+    }
+    Ok(first)
+}
+
+/// An answer, and behind it the other one that so many workers gave.
+fn both(alloc: Global, first: Vec<u8>, workers: u32, other: &[u8]) -> Result<Vec<u8>, AllocError> {
+    let mut text = first;
+    let head = format!(in alloc; "with {workers} workers:\n")?;
+    text.extend_from_slice(head.as_bytes())?;
+    text.extend_from_slice(other)?;
+    Ok(text)
+}
+
+/// How a dump opens: the first line of its `stat`, with the newline, or its fault.
+pub fn opening<R: AllocGlobal + Threads + Sync>(
+    rt: &R,
+    dump: &[u8],
+) -> Result<Vec<u8>, AllocError> {
+    let whole = answer(rt, dump, 1, Question::Stat)?;
+    let mut line = Vec::new(rt.alloc());
+    for byte in whole.as_slice() {
+        line.push(*byte)?;
+        if *byte == b'\n' {
+            break;
+        }
+    }
+    Ok(line)
+}
+
+/// The last lines of a text, so many of them.
+pub fn last_lines(text: &[u8], count: u32) -> &[u8] {
+    let mut left = count;
+    for start in (0..text.len()).rev() {
+        if text[start] == b'\n' {
+            if left == 0 {
+                return &text[start + 1..];
+            }
+            left -= 1;
+        }
+    }
+    text
+}

@@ -1,0 +1,94 @@
+//! A case: a dump, what has been put in for a session over it, and all that has been answered so far.
+use crate::CaseFault;
+use crate::input::{InputLine, put_input};
+use hd_spell::spell;
+use std::alloc::{AllocError, Global};
+
+/// The case that is being run.
+#[derive(Drop)]
+pub struct Case {
+    alloc: Global,
+    spelling: String,
+    dump: Option<Vec<u8>>,
+    input: Option<Vec<u8>>,
+    most_workers: u32,
+    written: Vec<u8>,
+}
+
+impl Case {
+    /// No case yet.
+    pub fn new(alloc: Global) -> Case {
+        Case {
+            alloc,
+            spelling: String::new(alloc),
+            dump: None,
+            input: None,
+            most_workers: 1,
+            written: Vec::new(alloc),
+        }
+    }
+
+    /// All that the cases have been answered so far.
+    pub fn answers(&self) -> &[u8] {
+        self.written.as_slice()
+    }
+
+    /// Begins the next case, without a dump, for one worker.
+    pub fn begin(&mut self) {
+        self.spelling.clear();
+        self.dump = None;
+        self.most_workers = 1;
+    }
+
+    /// The runs of this case are made with every number of workers up to this one.
+    pub fn set_workers(&mut self, most: u32) {
+        self.most_workers = most;
+    }
+
+    /// The largest number of workers.
+    pub fn most_workers(&self) -> u32 {
+        self.most_workers
+    }
+
+    /// Adds a line to the spelling of the dump.
+    pub fn put_part(&mut self, line: &str) -> Result<(), AllocError> {
+        self.dump = None;
+        self.spelling.push_str(line)?;
+        self.spelling.push_str("\n")
+    }
+
+    /// The bytes of the dump.
+    pub fn dump(&mut self) -> Result<Vec<u8>, CaseFault> {
+        if self.dump.is_none() {
+            match spell(self.alloc, self.spelling.as_str()) {
+                Ok(bytes) => self.dump = Some(bytes),
+                Err(error) => return Err(CaseFault::Dump(error)),
+            }
+        }
+        match &self.dump {
+            Some(bytes) => Ok(Vec::from_slice(self.alloc, bytes.as_slice())?),
+            None => Err(CaseFault::OutOfMemory),
+        }
+    }
+
+    /// What has been put in for a session, if there is one to be run.
+    pub fn take_input(&mut self) -> Option<Vec<u8>> {
+        self.input.take()
+    }
+
+    /// Puts one more line in for the session that comes.
+    pub fn put_input(&mut self, line: InputLine<'_>) -> Result<(), AllocError> {
+        let mut input = match self.input.take() {
+            Some(input) => input,
+            None => Vec::new(self.alloc),
+        };
+        put_input(&mut input, line)?;
+        self.input = Some(input);
+        Ok(())
+    }
+
+    /// Writes a text.
+    pub fn put(&mut self, text: &[u8]) -> Result<(), AllocError> {
+        self.written.extend_from_slice(text)
+    }
+}

@@ -1,0 +1,106 @@
+//! What is known of the classes of a file, by their IDs.
+ghost use Rattle.std.specs.Prelude.{IsTrue, All};
+ghost use Rattle.hd_classes.specs.Known.{IsTextWithin};
+
+use hd_classes::{Classes, LayoutField};
+use hd_records::{Texts, read_records};
+use hd_spell::spell;
+use hd_subs::{DumpSubs, Subs, read_segment_into};
+use hd_terms::{EdgeKind, IdSize, ReadFault, Span};
+use std::alloc::Global;
+use std::test::Fail;
+
+/// Whether texts lie within so many bytes.
+fn lie_within(texts: &Texts, len: usize) -> bool
+    ensures { IsTrue result → All (IsTextWithin len) texts.now }
+{
+    for text in texts.as_slice() {
+        let start = text.text.start;
+        if start > len as u64 || text.text.len > len as u64 - start {
+            return false;
+        }
+    }
+    true
+}
+
+/// The sub-records of a body, as those of a file whose only segment has it.
+fn subs_of(alloc: Global, body: &[u8], start: u64) -> Result<DumpSubs, ReadFault> {
+    let mut part = Subs::new(alloc);
+    let mut list = DumpSubs::new(alloc);
+    if start <= 2_147_483_647 {
+        read_segment_into(&mut part, body, IdSize::Four, start)?;
+    }
+    list.push(part)?;
+    Ok(list)
+}
+
+/// The classes of a file with 4-byte IDs and one segment, which is its last record.
+fn classes_of(alloc: Global, bytes: &[u8]) -> Result<Classes, ReadFault> {
+    let records = read_records(alloc, bytes)?;
+    let span = match records.segments.as_slice() {
+        [span] => *span,
+        _ => return Err(ReadFault::NO_MEMORY),
+    };
+    let body = bytes.get(span.start as usize..).unwrap_or(&[]);
+    let list = subs_of(alloc, body, span.start)?;
+    if !lie_within(&records.strings, bytes.len()) {
+        return Err(ReadFault::NO_MEMORY);
+    }
+    Classes::build(alloc, bytes, &records, &list)
+}
+
+#[test]
+fn chains_and_layouts(rt: HostRuntime) -> Result<(), Fail> {
+    let text = "ids 4\nsegment\nclass 11: 107=object\nclass 12 extends 11: 108=object 109=boolean\n\
+        class 13 extends 99:\n";
+    let bytes = spell(rt.alloc(), text)?;
+    let classes = classes_of(rt.alloc(), bytes.as_slice())?;
+    let field = |owner, name, code| LayoutField { owner, name, code };
+    let layout = [
+        field(0x12, 0x108, 2),
+        field(0x12, 0x109, 4),
+        field(0x11, 0x107, 2),
+    ];
+    assert_eq!(rt; classes.len(), 2);
+    assert_eq!(rt; classes.index_of(0x12), Some(1));
+    assert_eq!(rt; classes.chain(0x12), Some([0x12, 0x11].as_slice()));
+    assert_eq!(rt; classes.layout(0x12), Some(layout.as_slice()));
+    assert_eq!(rt; classes.chain(0x13), None);
+    assert_eq!(rt; classes.layout(0), None);
+    Ok(())
+}
+
+#[test]
+fn kinds_of_references(rt: HostRuntime) -> Result<(), Fail> {
+    let text =
+        "ids 4\nreference-names\nsegment\nreference-classes\nclass 17 extends 13: 107=object\n";
+    let bytes = spell(rt.alloc(), text)?;
+    let classes = classes_of(rt.alloc(), bytes.as_slice())?;
+    for (id, kind, referent) in [
+        (0x11, EdgeKind::Strong, Some(0)),
+        (0x12, EdgeKind::Soft, Some(0)),
+        (0x13, EdgeKind::Weak, Some(0)),
+        (0x14, EdgeKind::Final, Some(0)),
+        (0x15, EdgeKind::Phantom, Some(0)),
+        (0x16, EdgeKind::Final, Some(0)),
+        (0x17, EdgeKind::Weak, Some(1)),
+        (0x18, EdgeKind::Strong, None),
+    ] {
+        assert_eq!(rt; classes.kind_of(id), kind, "of {id}");
+        assert_eq!(rt; classes.referent(id), referent, "of {id}");
+    }
+    Ok(())
+}
+
+#[test]
+fn first_names(rt: HostRuntime) -> Result<(), Fail> {
+    let text =
+        "ids 4\ntext 101 a/B\ntext 101 c\ntext 102 d\nload 11 101\nload 11 102\nload 12 109\n\
+        segment\nclass 11:\nclass 12:\n";
+    let bytes = spell(rt.alloc(), text)?;
+    let classes = classes_of(rt.alloc(), bytes.as_slice())?;
+    assert_eq!(rt; classes.name(0x11), Some(Span { start: 44, len: 3 }));
+    assert_eq!(rt; classes.name(0x12), None);
+    assert_eq!(rt; classes.name(0x101), None);
+    Ok(())
+}

@@ -1,0 +1,65 @@
+//! Logs of two analysts: what is live, and what is refused.
+use hd_log::Front;
+use hd_terms::{Edit, Event, LogFault, Refusal, Slot, What};
+use std::alloc::Global;
+use std::test::Fail;
+
+/// An edit of one slot.
+const CUT: What = What::Do(Edit::Cut(1, Slot::Element(0)));
+
+fn by(who: u8, what: What) -> Event {
+    Event { who, what }
+}
+
+/// Two cuts of one slot, by two analysts, and an undo of the first.
+fn two_cuts(alloc: Global) -> Result<Front, LogFault> {
+    let empty = Front::empty(alloc).map_err(|_| LogFault::OutOfMemory)?;
+    let one = empty.extend(alloc, by(0, CUT))?;
+    let two = one.extend(alloc, by(1, CUT))?;
+    two.extend(alloc, by(0, What::Undo(0)))
+}
+
+#[test]
+fn live_events(rt: HostRuntime) -> Result<(), Fail> {
+    let front = two_cuts(rt.alloc())?;
+    assert_eq!(rt; front.len(), 3);
+    assert_eq!(rt; front.event(1), by(1, CUT));
+    assert_eq!(rt; front.event(2), by(0, What::Undo(0)));
+    let live = front.live(rt.alloc())?;
+    assert_eq!(rt; live.as_slice(), [false, true, false].as_slice());
+    for (who, last) in [(0, None), (1, Some(1)), (2, None)] {
+        assert_eq!(rt; front.last_live(who), last, "of {who}");
+    }
+    Ok(())
+}
+
+#[test]
+fn refused_events(rt: HostRuntime) -> Result<(), Fail> {
+    let front = two_cuts(rt.alloc())?;
+    for (who, what, fault) in [
+        (2, CUT, None),
+        (1, What::Undo(1), None),
+        (0, What::Undo(1), Some(LogFault::NotYours)),
+        (0, What::Undo(0), Some(LogFault::NotLive)),
+        (0, What::Undo(2), Some(LogFault::NoSuchEvent)),
+        (0, What::Undo(7), Some(LogFault::NoSuchEvent)),
+    ] {
+        assert_eq!(rt; front.next_fault(&by(who, what)), fault);
+        assert_eq!(rt; front.extend(rt.alloc(), by(who, what)).err(), fault);
+    }
+    Ok(())
+}
+
+#[test]
+fn refused_appends(rt: HostRuntime) -> Result<(), Fail> {
+    let front = two_cuts(rt.alloc())?;
+    for (what, refusal) in [
+        (CUT, None),
+        (What::Undo(1), Some(Refusal::Log(LogFault::NotYours))),
+        (What::Do(Edit::Drop(0)), None),
+        (What::Do(Edit::Drop(1)), Some(Refusal::NoSuchRoot)),
+    ] {
+        assert_eq!(rt; front.append_refusal(1, &by(0, what)), refusal);
+    }
+    Ok(())
+}

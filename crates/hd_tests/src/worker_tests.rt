@@ -1,0 +1,86 @@
+//! Segments on workers: in file order whatever the number of workers, who passes the gate, and that they run at once.
+use crate::dumps::THREE_SEGMENTS;
+use hd_decode::{Gate, NoGate, decode};
+use hd_graph::open_dump;
+use hd_records::read_records;
+use hd_spell::spell;
+use std::sync::atomic::{AtomicBool, AtomicU64, Ordering};
+use std::test::Fail;
+use std::thread;
+
+#[test]
+fn sub_records_in_file_order(rt: HostRuntime) -> Result<(), Fail> {
+    let file = spell(rt.alloc(), THREE_SEGMENTS)?;
+    let records = read_records(rt.alloc(), file.as_slice())?;
+    for workers in 1..17u32 {
+        let list = decode(&rt, rt.alloc(), file.as_slice(), &records, workers, &NoGate)?;
+        assert_eq!(rt; list.len(), 3);
+        for (i, offset) in [40, 54, 92].into_iter().enumerate() {
+            if i < list.len() {
+                assert_eq!(rt; list.get(i).offset, offset);
+            }
+        }
+    }
+    Ok(())
+}
+
+/// A gate that adds up what each worker that comes counts for: 1 for worker 0, 16 for worker 1, 256 for worker 2, and so on.
+#[derive(Drop)]
+struct Counter {
+    came: AtomicU64,
+}
+
+impl Gate for Counter {
+    fn enter(&self, worker: u32) {
+        self.came
+            .fetch_add(1 << (4 * (worker % 16)), Ordering::SeqCst);
+    }
+}
+
+#[test]
+fn each_worker_comes_once(rt: HostRuntime) -> Result<(), Fail> {
+    let file = spell(rt.alloc(), "ids 4\n")?;
+    let counter = Counter {
+        came: AtomicU64::new(0),
+    };
+    let records = read_records(rt.alloc(), file.as_slice())?;
+    let list = decode(&rt, rt.alloc(), file.as_slice(), &records, 16, &counter)?;
+    assert!(rt; list.is_empty());
+    assert_eq!(rt; counter.came.load(Ordering::SeqCst), 0x1111_1111_1111_1111);
+    Ok(())
+}
+
+/// A gate in which each of two workers waits for the other.
+#[derive(Drop)]
+struct Meeting {
+    came: [AtomicBool; 2],
+    met: [AtomicBool; 2],
+}
+
+impl Gate for Meeting {
+    fn enter(&self, worker: u32) {
+        let own = (worker % 2) as usize;
+        self.came[own].store(true, Ordering::SeqCst);
+        for _ in 0..10_000_000u32 {
+            if self.came[1 - own].load(Ordering::SeqCst) {
+                self.met[own].store(true, Ordering::SeqCst);
+                return;
+            }
+            thread::yield_now();
+        }
+    }
+}
+
+#[test]
+fn workers_run_at_once(rt: HostRuntime) -> Result<(), Fail> {
+    let file = spell(rt.alloc(), THREE_SEGMENTS)?;
+    let meeting = Meeting {
+        came: [AtomicBool::new(false), AtomicBool::new(false)],
+        met: [AtomicBool::new(false), AtomicBool::new(false)],
+    };
+    let opened = open_dump(&rt, rt.alloc(), file.as_slice(), 2, &meeting);
+    assert!(rt; opened.is_ok());
+    assert!(rt; meeting.met[0].load(Ordering::SeqCst));
+    assert!(rt; meeting.met[1].load(Ordering::SeqCst));
+    Ok(())
+}

@@ -1,7 +1,0 @@
-use Rattle.std.proofs.Common.{◌≡◌, drop}
-use Rattle.hdesk.specs.Commands.{words_between}
-use Rattle.hdesk.proofs.command.spaces.Given as goal
-
--- what is left has the words
-abbrev pub invariant-loop-i : goal.invariant-loop-i
-invariant-loop-i l = words_between (drop l.i l.bytes) ≡ words_between l.bytes

@@ -1,7 +1,0 @@
-use Rattle.std.proofs.Common.{sym}
-use Rattle.hdesk.proofs.Stating.{six}
-use Rattle.hdesk.proofs.stat.put_counts.Goals as goal
-
-pub returns : goal.returns
-returns c =
-    six _ _ _ _ _ _ _ _ _ _ _ _ _ c.in_ok-put_count.ensures c.in_ok-put_count-2.ensures c.in_ok-put_count-3.ensures c.in_ok-put_count-4.ensures c.in_ok-put_repeated.ensures c.in_ok-put_count-5.ensures
