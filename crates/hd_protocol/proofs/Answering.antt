@@ -1,13 +1,11 @@
 -- Lemmas on what a line is answered that spells something.
-use Rattle.std.proofs.Common.{◌≡◌, ◌∙◌, ℕ, ◌⊎◌, inl, inr, Bool, true, false, List, take, ◌∷◌, [], length, Option, Some, Result, Ok, Err, refl, sym, ap, subst}
-use Rattle.hd_terms.specs.declared.Event.{Event}
+use Rattle.std.proofs.Common.{◌≡◌, ◌∙◌, ℕ, ◌⊎◌, inl, inr, Bool, true, false, List, take, ◌∷◌, [], Option, Some, Result, Ok, Err, refl, sym, ap, subst}
 use Rattle.hd_terms.specs.declared.What.{What}
 use Rattle.hd_terms.specs.declared.commands.Command.{Command}
 use Rattle.hd_terms.specs.declared.commands.Command.TheVariants as commands
 use Rattle.hd_terms.specs.declared.commands.LineFault.{LineFault}
 use Rattle.hd_terms.specs.declared.errors.Refusal.{Refusal}
 use Rattle.hd_terms.specs.Edges.{index_of}
-use Rattle.hd_terms.specs.Fell.{FellCount}
 use Rattle.hd_terms.specs.Lines.{command_of, is_quit, is_quit_command}
 use Rattle.hd_terms.specs.Asking.{asked}
 use Rattle.hd_terms.specs.Replies.{RepliesTo, RepliesSlots, RepliesDone, answered, event_line, refused, refusal_name, out_of_memory_reply, takes_memory}
@@ -15,15 +13,14 @@ use Rattle.hd_terms.specs.Sessions.{IsTurn, event_by, with_event}
 use Rattle.hd_terms.specs.Sessions as sessions
 use Rattle.hd_state.specs.declared.state.Done.{Done}
 use Rattle.hd_state.specs.Situation.{Situation}
-use Rattle.hd_state.specs.Done.{IsDone}
 use Rattle.std.specs.Prelude.{if◌then◌else◌}
 use Rattle.std.specs.Io.KnownBytes.{Appends}
 use Rattle.hd_protocol.specs.declared.serving.ServeFault.{ServeFault}
 use Rattle.hd_protocol.specs.declared.serving.ServeFault.TheVariants as serve_faults
 use Rattle.hd_protocol.specs.declared.serving.Flow.{Flow}
 use Rattle.hd_protocol.specs.declared.serving.Flow.TheVariants as flows
-use Rattle.hd_protocol.specs.Serving.{remembered, turn_alone, EndsLine, RunsLine}
-use Rattle.hd_protocol.specs.Editing.{Adds, LogRefuses, IsWhyNot, EditEnds, edit_reply}
+use Rattle.hd_protocol.specs.Serving.{remembered, EndsLine, RunsLine}
+use Rattle.hd_protocol.specs.Editing.{Adds, IsWhyNot, EditEnds, edit_reply}
 use Rattle.hd_protocol.specs.Answering.{IsAnswered}
 
 -- nothing is asked of the log

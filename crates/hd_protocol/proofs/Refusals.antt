@@ -1,13 +1,12 @@
 -- Lemmas on why an edit may not be made.
-use Rattle.std.proofs.Common.{◌≡◌, ◌≢◌, ◌∙◌, ℕ, ◌<◌, inl, inr, Bool, true, false, ◌||◌, List, length, Option, None, Some, is_none, slice_get, refl, sym, ap, eq-eqb, ne_eqb, arith}
-use Rattle.std.specs.Prelude.{◌==◌, cond, if◌then◌else◌}
+use Rattle.std.proofs.Common.{◌≡◌, ◌≢◌, ◌∙◌, ℕ, inl, inr, Bool, true, false, ◌||◌, List, length, Option, None, Some, is_none, slice_get, sym, ap, eq-eqb, ne_eqb}
+use Rattle.std.specs.Prelude.{cond, if◌then◌else◌}
 use Rattle.std.specs.Option.{option_and_then}
 use Rattle.std.specs.List.{find, position, position_or_len}
 use Rattle.std.proofs.lemmas.Bool.{cases_lt, lt-ltb, le-ltb}
 use Rattle.std.proofs.lemmas.List.Folds.{find_at}
 use Rattle.std.proofs.lemmas.Option.{slice_get_past}
 use Rattle.hd_terms.specs.declared.Slot.{Slot}
-use Rattle.hd_terms.specs.declared.errors.Refusal.{Refusal}
 use Rattle.hd_terms.specs.declared.errors.Refusal.TheVariants as refusals
 use Rattle.hd_terms.specs.Dump.{SlotEntry, Object, Dump, object_at}
 use Rattle.hd_terms.specs.Edges.{index_of}

@@ -1,5 +1,5 @@
 -- Lemmas on the lines of slots.
-use Rattle.std.proofs.Common.{◌≡◌, ◌∙◌, ℕ, ◌+◌, ◌<◌, ◌≤◌, List, [], ◌∷◌, ◌++◌, length, map, get_or, take, codes, decimal, refl, sym, ap, append_assoc, append-nil, take_all}
+use Rattle.std.proofs.Common.{◌≡◌, ◌∙◌, ℕ, ◌+◌, ◌<◌, ◌≤◌, List, [], ◌∷◌, ◌++◌, length, map, get_or, take, codes, decimal, sym, ap, append_assoc, append-nil, take_all}
 use Rattle.std.specs.List.{flat_map}
 use Rattle.std.proofs.lemmas.List.{map-append, length-map, take_more}
 use Rattle.std.proofs.lemmas.List.Concat.{flat_map-append}

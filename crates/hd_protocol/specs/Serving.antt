@@ -1,7 +1,7 @@
 -- What serving does: to a front of the input, and to all of it.
 -- Source: this project.
-use Rattle.std.specs.Prelude.{◌≡◌, ℕ, true, false, List, [], ◌∷◌, ◌++◌, map, take, Option, Some, Result, Ok, Err, IfSome}
-use Rattle.std.specs.List.{flat_map, AllByRecursion}
+use Rattle.std.specs.Prelude.{◌≡◌, ℕ, true, false, List, [], ◌∷◌, ◌++◌, take, Option, Some, Result, Ok, Err, IfSome}
+use Rattle.std.specs.List.{AllByRecursion}
 use Rattle.std.specs.Io.KnownBytes.{Keeps, Appends}
 use Rattle.hd_terms.specs.declared.Event.{Event}
 use Rattle.hd_terms.specs.Dump.{Dump}

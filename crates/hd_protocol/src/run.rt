@@ -17,7 +17,7 @@ use thiserror::Error;
 /// Why a run ended early. The texts are what the program tells of it.
 #[derive(Clone, Copy, Debug, PartialEq, Eq, Error)]
 pub enum RunFault {
-    /// The dump can't be read: the fault's name and its place.
+    /// The dump can't be read: the fault's name and its file offset.
     #[error("{:?} at {}", .0.cause, .0.offset)]
     Dump(ReadFault),
     /// Memory ran out before anything was read or written.

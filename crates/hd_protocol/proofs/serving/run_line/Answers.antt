@@ -1,6 +1,5 @@
-use Rattle.std.proofs.Common.{◌≡◌, ◌∙◌, List, ℕ, Ok, Err, take, sym, ap, subst}
+use Rattle.std.proofs.Common.{◌≡◌, ◌∙◌, Err, sym, ap, subst}
 use Rattle.std.proofs.lemmas.Result.{err_from_is_err_and}
-use Rattle.std.specs.Io.KnownBytes.{Appends}
 use Rattle.hd_terms.specs.Lines.{command_of}
 use Rattle.hd_protocol.specs.Answering.{IsAnswered}
 use Rattle.hd_protocol.proofs.Answering.{line_fault, line_done}

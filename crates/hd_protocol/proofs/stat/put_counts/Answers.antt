@@ -1,4 +1,3 @@
-use Rattle.std.proofs.Common.{sym}
 use Rattle.hd_protocol.proofs.Stating.{six}
 use Rattle.hd_protocol.proofs.stat.put_counts.Goals as goal
 
