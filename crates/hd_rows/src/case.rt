@@ -9,7 +9,6 @@ use std::alloc::{AllocError, Global};
 pub struct Case {
     alloc: Global,
     spelling: String,
-    dump: Option<Vec<u8>>,
     input: Option<Vec<u8>>,
     most_workers: u32,
     written: Vec<u8>,
@@ -21,7 +20,6 @@ impl Case {
         Case {
             alloc,
             spelling: String::new(alloc),
-            dump: None,
             input: None,
             most_workers: 1,
             written: Vec::new(alloc),
@@ -36,7 +34,6 @@ impl Case {
     /// Begins the next case, without a dump, for one worker.
     pub fn begin(&mut self) {
         self.spelling.clear();
-        self.dump = None;
         self.most_workers = 1;
     }
 
@@ -52,22 +49,15 @@ impl Case {
 
     /// Adds a line to the spelling of the dump.
     pub fn put_part(&mut self, line: &str) -> Result<(), AllocError> {
-        self.dump = None;
         self.spelling.push_str(line)?;
         self.spelling.push_str("\n")
     }
 
     /// The bytes of the dump.
-    pub fn dump(&mut self) -> Result<Vec<u8>, CaseFault> {
-        if self.dump.is_none() {
-            match spell(self.alloc, self.spelling.as_str()) {
-                Ok(bytes) => self.dump = Some(bytes),
-                Err(error) => return Err(CaseFault::Dump(error)),
-            }
-        }
-        match &self.dump {
-            Some(bytes) => Ok(Vec::from_slice(self.alloc, bytes.as_slice())?),
-            None => Err(CaseFault::OutOfMemory),
+    pub fn dump(&self) -> Result<Vec<u8>, CaseFault> {
+        match spell(self.alloc, self.spelling.as_str()) {
+            Ok(bytes) => Ok(bytes),
+            Err(error) => Err(CaseFault::Dump(error)),
         }
     }
 
