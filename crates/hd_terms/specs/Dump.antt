@@ -35,13 +35,15 @@ pub record Repeated : Type 0 where
   pub loads : ℕ
 
 -- how phantom references are followed; objects in file order, the first of each ID, and roots in file order; what was
--- repeated, and how many instances have a class chain that isn't whole
+-- repeated, and how many instances have a class chain that isn't whole; and the name of the class of an ID, if it has one: its
+-- bytes as the file has them
 pub record Dump : Type 0 where
   pub mode : Mode
   pub objects : List Object
   pub roots : List Root
   pub repeated : Repeated
   pub opaque : ℕ
+  pub names : ℕ → Option (List ℕ)
 
 -- what stands past the last object
 abbrev pub no_object : Object

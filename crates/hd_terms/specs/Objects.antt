@@ -13,7 +13,7 @@ use Rattle.hd_terms.specs.Records.{id_len, Record, HasHeader, AreRecords, header
 use Rattle.hd_terms.specs.SubRecords.{SubRecord, RootOf, ClassDump, InstanceDump, ObjectArray, PrimitiveArray, Item, Instance, ObjArray, PrimArray, Sub, AreDumpSubRecords, dump_subs_at}
 use Rattle.hd_terms.specs.SubRecords as subs
 use Rattle.hd_terms.specs.FirstRecords.{first_of_each, repeats, first_subs}
-use Rattle.hd_terms.specs.Classes.{ClassTable, ResolvedClass, class_table, resolved_class, fitting_class}
+use Rattle.hd_terms.specs.Classes.{ClassTable, ResolvedClass, class_table, resolved_class, fitting_class, name_of, bytes_of_span}
 use Rattle.hd_terms.specs.Groups.{instance_group, instance_bytes, array_group, array_bytes, class_group, class_bytes, primitive_group, primitive_bytes}
 use Rattle.hd_terms.specs.Slots.{instance_slots, array_slots, class_slots}
 use Rattle.hd_terms.specs.Roots.{roots_of}
@@ -88,6 +88,7 @@ dump_of bytes size records segments = record {
   roots = roots_of size (flat_map (λ (ss : List SubRecord). ss) segments);
   repeated = repeated_of (classes_of bytes size records segments) size records (flat_map (λ (ss : List SubRecord). ss) segments);
   opaque = opaque_in (classes_of bytes size records segments) (dump_subs_at size (segment_spans header_len records) segments);
+  names = λ (id : ℕ). option_map (bytes_of_span bytes) (name_of (classes_of bytes size records segments) id);
 }
 
 -- a file that reads without fault: its header, its records, the sub-records of its segments, no chain that never ends, no

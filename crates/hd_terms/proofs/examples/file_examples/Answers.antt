@@ -1,4 +1,4 @@
-use Rattle.std.proofs.Common.{◌≡◌, ◌≢◌, ◌∙◌, ℕ, suc, ◌+◌, ◌-◌, ◌≤◌, List, [], ◌∷◌, ◌++◌, length, take, drop, lit≤, subst, sym, ap, refl, arith}
+use Rattle.std.proofs.Common.{◌≡◌, ◌≢◌, ◌∙◌, ℕ, suc, cond, eqb, Option, Some, None, ◌+◌, ◌-◌, ◌≤◌, List, [], ◌∷◌, ◌++◌, length, take, drop, lit≤, subst, sym, ap, refl, arith}
 use Rattle.std.proofs.lemmas.List.{length-take, length-drop, length-append, take-append-drop}
 use Rattle.std.specs.List.{flat_map}
 use Rattle.hd_terms.specs.declared.IdSize.TheVariants as sizes
@@ -7,8 +7,10 @@ use Rattle.hd_terms.specs.declared.errors.Cause.TheVariants as causes
 use Rattle.hd_terms.specs.Records.{Record, IsFramed, IsRecord, record_text}
 use Rattle.hd_terms.specs.SubRecords.{SubRecord, RootOf, ObjectArray, PrimitiveArray, sub_record_text}
 use Rattle.hd_terms.specs.ReadFaults.{IsReadFault, fault, no_header, other_text, other_id_size, in_a_record, IsStuckRecord, IsStuck, in_records, in_sub_records, in_objects}
+use Rattle.hd_terms.specs.Objects.{classes_of}
 use Rattle.hd_terms.specs.Examples.{head_of, four}
 use Rattle.hd_terms.specs.Examples as examples
+use Rattle.hd_terms.proofs.NameLemmas.{names-are, again-next, no-text}
 use Rattle.hd_terms.proofs.examples.file_examples.Goals as goal
 
 -- a list with an element isn't empty
@@ -201,35 +203,68 @@ returns-clause-short_and_cut c =
       place = refl;
     }))
 
--- a text of one byte
-abbrev text : ℕ → Record
-text byte = record { tag = 1; time = four 0; size = four 5; body = four 0xc1 ++ byte ∷ [] }
+-- a text of one byte, and its ID
+abbrev text_under : ℕ → ℕ → Record
+text_under id byte = record { tag = 1; time = four 0; size = four 5; body = four id ++ byte ∷ [] }
 
--- a class that is loaded
+abbrev text : ℕ → Record
+text byte = text_under 0xc1 byte
+
+-- a class that is loaded, and the ID of its name
+abbrev load_as : ℕ → ℕ → Record
+load_as class name = record { tag = 2; time = four 0; size = four 16; body = four 1 ++ four class ++ four 0 ++ four name }
+
 abbrev load : Record
-load = record { tag = 2; time = four 0; size = four 16; body = four 1 ++ four 0x11 ++ four 0 ++ four 0xc1 }
+load = load_as 0x11 0xc1
 
 -- texts of five bytes can be read
-text_is : (byte : ℕ) → IsRecord sizes.Four (text byte)
-text_is byte = record { framed = record { time = refl; size = refl; body = refl }; fields = lit≤ tt }
+text_is : (id byte : ℕ) → IsRecord sizes.Four (text_under id byte)
+text_is id byte = record { framed = record { time = refl; size = refl; body = refl }; fields = lit≤ tt }
 
 -- and so can the class
-load_is : IsRecord sizes.Four load
-load_is = record { framed = record { time = refl; size = refl; body = refl }; fields = lit≤ tt }
+load_is : (class name : ℕ) → IsRecord sizes.Four (load_as class name)
+load_is class name = record { framed = record { time = refl; size = refl; body = refl }; fields = lit≤ tt }
+
+abbrev repeated_records : List Record
+repeated_records = text 0x41 ∷ text 0x42 ∷ load ∷ load ∷ []
 
 pub returns-clause-repeated_strings_and_loads : goal.returns-clause-repeated_strings_and_loads
 returns-clause-repeated_strings_and_loads c = record {
   size = sizes.Four;
-  records = text 0x41 ∷ text 0x42 ∷ load ∷ load ∷ [];
+  records = repeated_records;
   segments = [];
   reads = record {
     header = record { fits = lit≤ tt; long = lit≤ tt; magic = refl; id_size = refl };
-    whole = record { whole = refl; each = (text_is 0x41, (text_is 0x42, (load_is, (load_is, tt)))) };
+    whole = record { whole = refl; each = (text_is 0xc1 0x41, (text_is 0xc1 0x42, (load_is 0x11 0xc1, (load_is 0x11 0xc1, tt)))) };
     bodies = tt;
     classes = refl;
     objects = refl;
   };
-  is = refl;
+  is = ap (λ (names : ℕ → Option (List ℕ)). record examples.repeated_strings_and_loads { names = names })
+      (names-are (classes_of examples.repeated_strings_and_loads_file sizes.Four repeated_records []) examples.repeated_strings_and_loads.names
+      (λ (id : ℕ). again-next (eqb id 0x11) (Some (0x41 ∷ [])) (Some (0x41 ∷ [])) None));
+}
+
+abbrev named_records : List Record
+named_records = text 0x41 ∷ text 0x42 ∷ text_under 0xc2 0x43 ∷ load ∷ load_as 0x11 0xc2 ∷ load_as 0x12 0xc3 ∷ []
+
+pub returns-clause-first_names : goal.returns-clause-first_names
+returns-clause-first_names c = record {
+  size = sizes.Four;
+  records = named_records;
+  segments = [];
+  reads = record {
+    header = record { fits = lit≤ tt; long = lit≤ tt; magic = refl; id_size = refl };
+    whole = record { whole = refl; each = (text_is 0xc1 0x41, (text_is 0xc1 0x42, (text_is 0xc2 0x43, (load_is 0x11 0xc1, (load_is 0x11 0xc2, (load_is 0x12 0xc3, tt)))))) };
+    bodies = tt;
+    classes = refl;
+    objects = refl;
+  };
+  is = ap (λ (names : ℕ → Option (List ℕ)). record examples.first_names { names = names })
+      (names-are (classes_of examples.first_names_file sizes.Four named_records []) examples.first_names.names
+      (λ (id : ℕ).
+      again-next (eqb id 0x11) (Some (0x41 ∷ [])) (Some (0x43 ∷ [])) None
+      ∙ ap (λ (rest : Option (List ℕ)). cond (eqb id 0x11) (Some (0x41 ∷ [])) (cond (eqb id 0x11) (Some (0x43 ∷ [])) rest)) (no-text (eqb id 0x12) None)));
 }
 
 pub returns-clause-counts : goal.returns-clause-counts
