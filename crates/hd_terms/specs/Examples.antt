@@ -1,7 +1,7 @@
 -- The worked examples of docs/DEFINITIONS.md as data: files, dumps, logs and lines. What the definitions say of them is
 -- proved in `examples`.
 -- Source: this project.
-use Rattle.std.specs.Prelude.{ℕ, ◌+◌, ◌*◌, ◌/◌, ◌%◌, ◌==◌, if◌then◌else◌, List, [], ◌∷◌, ◌++◌, length, drop, replicate, codes, Option, Some, None}
+use Rattle.std.specs.Prelude.{ℕ, ◌+◌, ◌*◌, ◌/◌, ◌%◌, List, [], ◌∷◌, ◌++◌, length, drop, replicate, codes, Some, None}
 use Rattle.std.specs.List.{flat_map}
 use Rattle.hd_terms.specs.declared.Slot.{Slot}
 use Rattle.hd_terms.specs.declared.Slot.TheVariants as slots
@@ -366,25 +366,17 @@ refs = class_object 0x11 0 ∷ class_object 0x12 0x11 ∷ class_object 0x13 0x11
 abbrev pub none_repeated : Repeated
 none_repeated = record { objects = 0; strings = 0; loads = 0 }
 
--- the names of these classes by their IDs; no other class has a name
-abbrev pub class_names : List (ℕ × List ℕ) → ℕ → Option (List ℕ)
-class_names [] id = None
-class_names (c ∷ classes) id = if id == c.0 then Some c.1 else class_names classes id
-
-abbrev pub no_names : ℕ → Option (List ℕ)
-no_names = class_names []
-
 -- the names of the classes Reference and WeakReference
-abbrev pub reference_class_names : ℕ → Option (List ℕ)
-reference_class_names = class_names ((0x11, codes "java/lang/ref/Reference") ∷ (0x13, codes "java/lang/ref/WeakReference") ∷ [])
+abbrev pub reference_class_names : List (ℕ × List ℕ)
+reference_class_names = (0x11, codes "java/lang/ref/Reference") ∷ (0x13, codes "java/lang/ref/WeakReference") ∷ []
 
 -- nothing
 abbrev pub empty_dump : Dump
-empty_dump = record { mode = modes.Direct; objects = []; roots = []; repeated = none_repeated; opaque = 0; names = no_names }
+empty_dump = record { mode = modes.Direct; objects = []; roots = []; repeated = none_repeated; opaque = 0; names = [] }
 
 -- nothing, but a text and a load are repeated
 abbrev pub repeated_strings_and_loads : Dump
-repeated_strings_and_loads = record { mode = modes.Direct; objects = []; roots = []; repeated = record { objects = 0; strings = 1; loads = 1 }; opaque = 0; names = class_names ((0x11, 0x41 ∷ []) ∷ []) }
+repeated_strings_and_loads = record { mode = modes.Direct; objects = []; roots = []; repeated = record { objects = 0; strings = 1; loads = 1 }; opaque = 0; names = (0x11, 0x41 ∷ []) ∷ [] }
 
 -- nothing but names: that of a class is the first text of the ID under which it is loaded first
 abbrev pub first_names : Dump
@@ -394,7 +386,7 @@ first_names = record {
   roots = [];
   repeated = record { objects = 0; strings = 1; loads = 1 };
   opaque = 0;
-  names = class_names ((0x11, 0x41 ∷ []) ∷ []);
+  names = (0x11, 0x41 ∷ []) ∷ [];
 }
 
 -- a root of each kind, on IDs that are no object's
@@ -415,7 +407,7 @@ root_kinds = record {
       ∷ [];
   repeated = none_repeated;
   opaque = 0;
-  names = no_names;
+  names = [];
 }
 
 -- an array of two ints
@@ -426,7 +418,7 @@ primitive_array = record {
   roots = [];
   repeated = none_repeated;
   opaque = 0;
-  names = no_names;
+  names = [];
 }
 
 -- a class with its slots, the arrays 2, 3 and 5, and an array of two ints
@@ -451,7 +443,7 @@ class_object_and_primitive_array = record {
   roots = (record { kind = roots.StickyClass; id = 0x11 }) ∷ [];
   repeated = none_repeated;
   opaque = 0;
-  names = no_names;
+  names = [];
 }
 
 -- root 1  [1: 2 0 9]  [2:]
@@ -471,16 +463,16 @@ two_arrays = record {
   roots = (record { kind = roots.Unknown; id = 1 }) ∷ [];
   repeated = none_repeated;
   opaque = 0;
-  names = no_names;
+  names = [];
 }
 
 -- [1: 2]  [2:]
 abbrev pub repeated_id : Dump
-repeated_id = record { mode = modes.Direct; objects = array 1 (2 ∷ []) ∷ array 2 [] ∷ []; roots = []; repeated = record { objects = 1; strings = 0; loads = 0 }; opaque = 0; names = no_names }
+repeated_id = record { mode = modes.Direct; objects = array 1 (2 ∷ []) ∷ array 2 [] ∷ []; roots = []; repeated = record { objects = 1; strings = 0; loads = 0 }; opaque = 0; names = [] }
 
 -- <1: 2>  <2: 9>
 abbrev pub absent_super : Dump
-absent_super = record { mode = modes.Direct; objects = class_object 1 2 ∷ class_object 2 9 ∷ []; roots = []; repeated = none_repeated; opaque = 0; names = no_names }
+absent_super = record { mode = modes.Direct; objects = class_object 1 2 ∷ class_object 2 9 ∷ []; roots = []; repeated = none_repeated; opaque = 0; names = [] }
 
 -- <11: 0>  (2 of 11: 5)
 abbrev pub repeated_size_mismatch : Dump
@@ -490,7 +482,7 @@ repeated_size_mismatch = record {
   roots = [];
   repeated = record { objects = 1; strings = 0; loads = 0 };
   opaque = 0;
-  names = no_names;
+  names = [];
 }
 
 -- root 20  (20 of 12: 5 6)  <11: 0>  <12: 11>  [5:]  [6:]
@@ -502,7 +494,7 @@ wide_instance = record {
   roots = root 0x20 ∷ [];
   repeated = none_repeated;
   opaque = 0;
-  names = no_names;
+  names = [];
 }
 
 -- root 1  [1 of 99: 2 3]  <11: 0>  (2 of 11:)  (3 of 98:)
@@ -524,7 +516,7 @@ opaque_and_repeated = record {
   roots = root 1 ∷ [];
   repeated = record { objects = 1; strings = 0; loads = 0 };
   opaque = 1;
-  names = no_names;
+  names = [];
 }
 
 -- <11: 0>  <13: 11>  (21 of 13: weak 5)  [5:]
@@ -540,7 +532,7 @@ weak_reference = record {
 
 -- the same, with dots in the names
 abbrev pub dotted_names : Dump
-dotted_names = record weak_reference { names = class_names ((0x11, codes "java.lang.ref.Reference") ∷ (0x13, codes "java.lang.ref.WeakReference") ∷ []) }
+dotted_names = record weak_reference { names = (0x11, codes "java.lang.ref.Reference") ∷ (0x13, codes "java.lang.ref.WeakReference") ∷ [] }
 
 -- <11: 0>  <13: 11>  (21 of 13: 5)  [5:]
 abbrev pub other_name_first : Dump
@@ -550,7 +542,7 @@ other_name_first = record {
   roots = [];
   repeated = record { objects = 0; strings = 0; loads = 1 };
   opaque = 0;
-  names = class_names ((0x13, codes "referent") ∷ (0x11, codes "java/lang/ref/Reference") ∷ []);
+  names = (0x13, codes "referent") ∷ (0x11, codes "java/lang/ref/Reference") ∷ [];
 }
 
 -- <11: 0>  <13: 11>  <14: 13>  (22 of 14: 6 weak 5)  [5:]  [6:]
@@ -585,7 +577,7 @@ weak_and_final_referents = record {
   roots = root 1 ∷ [];
   repeated = none_repeated;
   opaque = 0;
-  names = no_names;
+  names = [];
 }
 
 -- refs  root 1  [1: 21 23]  (21 of 12: soft 22)  (22 of 13: weak 3)  [3: 4]  (23 of 12: soft 5)  [5: 4]  [4:]
@@ -598,7 +590,7 @@ soft_then_weak = record {
   roots = root 1 ∷ [];
   repeated = none_repeated;
   opaque = 0;
-  names = no_names;
+  names = [];
 }
 
 -- root 1  [1: 2]  [2: 3]  [3: 2 4]  [4: 5]  [5: 4]
@@ -609,7 +601,7 @@ cycle_behind_one_edge = record {
   roots = root 1 ∷ [];
   repeated = none_repeated;
   opaque = 0;
-  names = no_names;
+  names = [];
 }
 
 -- refs  root 1  [1: 21]  (21 of 15: phantom 6)  [6: 7]  [7:]  (22 of 15: phantom 22)
@@ -622,7 +614,7 @@ phantom_referent = record {
   roots = root 1 ∷ [];
   repeated = none_repeated;
   opaque = 0;
-  names = no_names;
+  names = [];
 }
 
 -- the same, with phantom references followed to all that they lead to
@@ -631,7 +623,7 @@ phantom_closure = record phantom_referent { mode = modes.Closure }
 
 -- root 1  root 2  [1:]  [2:]  [7:]
 abbrev pub added_and_dropped_roots : Dump
-added_and_dropped_roots = record { mode = modes.Direct; objects = array 1 [] ∷ array 2 [] ∷ array 7 [] ∷ []; roots = root 1 ∷ root 2 ∷ []; repeated = none_repeated; opaque = 0; names = no_names }
+added_and_dropped_roots = record { mode = modes.Direct; objects = array 1 [] ∷ array 2 [] ∷ array 7 [] ∷ []; roots = root 1 ∷ root 2 ∷ []; repeated = none_repeated; opaque = 0; names = [] }
 
 -- logs
 

@@ -1,4 +1,4 @@
-use Rattle.std.proofs.Common.{◌≡◌, ◌≢◌, ◌∙◌, ℕ, suc, cond, eqb, Option, Some, None, ◌+◌, ◌-◌, ◌≤◌, List, [], ◌∷◌, ◌++◌, length, take, drop, lit≤, subst, sym, ap, refl, arith}
+use Rattle.std.proofs.Common.{◌≡◌, ◌≢◌, ◌∙◌, ℕ, suc, ◌+◌, ◌-◌, ◌≤◌, List, [], ◌∷◌, ◌++◌, length, take, drop, lit≤, subst, sym, ap, refl, arith}
 use Rattle.std.proofs.lemmas.List.{length-take, length-drop, length-append, take-append-drop}
 use Rattle.std.specs.List.{flat_map}
 use Rattle.hd_terms.specs.declared.IdSize.TheVariants as sizes
@@ -7,10 +7,8 @@ use Rattle.hd_terms.specs.declared.errors.Cause.TheVariants as causes
 use Rattle.hd_terms.specs.Records.{Record, IsFramed, IsRecord, record_text}
 use Rattle.hd_terms.specs.SubRecords.{SubRecord, RootOf, ObjectArray, PrimitiveArray, sub_record_text}
 use Rattle.hd_terms.specs.ReadFaults.{IsReadFault, fault, no_header, other_text, other_id_size, in_a_record, IsStuckRecord, IsStuck, in_records, in_sub_records, in_objects}
-use Rattle.hd_terms.specs.Objects.{classes_of}
 use Rattle.hd_terms.specs.Examples.{head_of, four}
 use Rattle.hd_terms.specs.Examples as examples
-use Rattle.hd_terms.proofs.NameLemmas.{names-are, again-next, no-text}
 use Rattle.hd_terms.proofs.examples.file_examples.Goals as goal
 
 -- a list with an element isn't empty
@@ -240,9 +238,7 @@ returns-clause-repeated_strings_and_loads c = record {
     classes = refl;
     objects = refl;
   };
-  is = ap (λ (names : ℕ → Option (List ℕ)). record examples.repeated_strings_and_loads { names = names })
-      (names-are (classes_of examples.repeated_strings_and_loads_file sizes.Four repeated_records []) examples.repeated_strings_and_loads.names
-      (λ (id : ℕ). again-next (eqb id 0x11) (Some (0x41 ∷ [])) (Some (0x41 ∷ [])) None));
+  is = refl;
 }
 
 abbrev named_records : List Record
@@ -260,11 +256,7 @@ returns-clause-first_names c = record {
     classes = refl;
     objects = refl;
   };
-  is = ap (λ (names : ℕ → Option (List ℕ)). record examples.first_names { names = names })
-      (names-are (classes_of examples.first_names_file sizes.Four named_records []) examples.first_names.names
-      (λ (id : ℕ).
-      again-next (eqb id 0x11) (Some (0x41 ∷ [])) (Some (0x43 ∷ [])) None
-      ∙ ap (λ (rest : Option (List ℕ)). cond (eqb id 0x11) (Some (0x41 ∷ [])) (cond (eqb id 0x11) (Some (0x43 ∷ [])) rest)) (no-text (eqb id 0x12) None)));
+  is = refl;
 }
 
 pub returns-clause-counts : goal.returns-clause-counts

@@ -1,4 +1,4 @@
-use Rattle.std.proofs.Common.{◌≡◌, ℕ, eqb, Option, Some, None, ap, ◌+◌, ◌*◌, true, List, [], ◌∷◌, ◌++◌, length, map, drop, lit≤, refl, ◌∙◌, arith}
+use Rattle.std.proofs.Common.{◌≡◌, ℕ, ◌+◌, ◌*◌, true, List, [], ◌∷◌, ◌++◌, length, map, drop, lit≤, refl, ◌∙◌, arith}
 use Rattle.std.specs.Prelude.{codes}
 use Rattle.std.specs.List.{flat_map, AllByRecursion}
 use Rattle.std.proofs.lemmas.List.{length-append, length-map}
@@ -10,10 +10,8 @@ use Rattle.hd_terms.specs.Records.{id_len, Record, IsRecord, record_text, HasHea
 use Rattle.hd_terms.specs.Types.{is_type}
 use Rattle.hd_terms.specs.SubRecords.{SubRecord, RootOf, ClassDump, InstanceDump, ObjectArray, sub_record_text, IsSubRecord, Counted, ClassValue, ClassField, IsClassField, AreDumpSubRecords}
 use Rattle.hd_terms.specs.ReadFaults.{IsStuck, in_sub_records, in_classes, in_objects}
-use Rattle.hd_terms.specs.Objects.{classes_of}
 use Rattle.hd_terms.specs.Examples.{four, two, narrow, wide}
 use Rattle.hd_terms.specs.Examples as examples
-use Rattle.hd_terms.proofs.NameLemmas.{names-are, again-later}
 use Rattle.hd_terms.proofs.examples.instance_examples.Goals as goal
 
 -- sub-records by the way in which IDs are spelled
@@ -415,8 +413,7 @@ returns-clause-weak_reference c = record {
     classes = refl;
     objects = refl;
   };
-  is = ap (λ (names : ℕ → Option (List ℕ)). record examples.weak_reference { names = names })
-      (names-are (classes_of examples.weak_reference_file sizes.Four (named (codes "java/lang/ref/Reference") (codes "java/lang/ref/WeakReference") weak_subs) (weak_subs ∷ [])) examples.weak_reference.names (λ (id : ℕ). refl));
+  is = refl;
 }
 
 pub returns-clause-dotted_names : goal.returns-clause-dotted_names
@@ -431,8 +428,7 @@ returns-clause-dotted_names c = record {
     classes = refl;
     objects = refl;
   };
-  is = ap (λ (names : ℕ → Option (List ℕ)). record examples.dotted_names { names = names })
-      (names-are (classes_of examples.dotted_names_file sizes.Four (named (codes "java.lang.ref.Reference") (codes "java.lang.ref.WeakReference") weak_subs) (weak_subs ∷ [])) examples.dotted_names.names (λ (id : ℕ). refl));
+  is = refl;
 }
 
 pub returns-clause-other_name_first : goal.returns-clause-other_name_first
@@ -447,8 +443,7 @@ returns-clause-other_name_first c = record {
     classes = refl;
     objects = refl;
   };
-  is = ap (λ (names : ℕ → Option (List ℕ)). record examples.other_name_first { names = names })
-      (names-are (classes_of examples.other_name_first_file sizes.Four (load 0x13 0x107 ∷ named (codes "java/lang/ref/Reference") (codes "java/lang/ref/WeakReference") weak_subs) (weak_subs ∷ [])) examples.other_name_first.names (λ (id : ℕ). again-later (eqb id 0x13) (eqb id 0x11) (Some (codes "referent")) (Some (codes "java/lang/ref/Reference")) (Some (codes "java/lang/ref/WeakReference")) None));
+  is = refl;
 }
 
 pub returns-clause-two_referents : goal.returns-clause-two_referents
@@ -463,6 +458,5 @@ returns-clause-two_referents c = record {
     classes = refl;
     objects = refl;
   };
-  is = ap (λ (names : ℕ → Option (List ℕ)). record examples.two_referents { names = names })
-      (names-are (classes_of examples.two_referents_file sizes.Four (named (codes "java/lang/ref/Reference") (codes "java/lang/ref/WeakReference") two_subs) (two_subs ∷ [])) examples.two_referents.names (λ (id : ℕ). refl));
+  is = refl;
 }
