@@ -12,6 +12,7 @@ mod source;
 
 pub use classes::Classes;
 pub use known::{LayoutField, ResolvedClass};
+pub use names::bytes_of;
 
 #[cfg(test)]
 mod tests;

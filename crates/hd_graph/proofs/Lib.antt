@@ -23,3 +23,4 @@ pub mod OpenLemmas
 pub mod SmallLemmas
 pub mod RepeatLemmas
 pub mod CountLemmas
+pub mod NameLemmas

@@ -15,3 +15,5 @@ pub mod Numbering
 pub mod Building
 pub mod Counting
 pub mod IdHash
+pub mod Names
+pub mod NamesInside

@@ -20,6 +20,7 @@ use crate::graph::{Graph, Repeats};
 use crate::id_hasher::IdHasher;
 use crate::instance_rows::push_instance;
 use crate::layouts::shapes_of_classes;
+use crate::names::names_of;
 use crate::noted::{repeated_loads, repeated_strings};
 use crate::number::{Numbered, number};
 use crate::shape::Shapes;
@@ -211,6 +212,7 @@ impl Graph {
         let id_size = records.id_size;
         let strings = repeated_strings(alloc, &records.strings)?;
         let loads = repeated_loads(alloc, &records.loads)?;
+        let names = names_of(alloc, bytes, &records.loads, classes)?;
         let Numbered { ids, roots, tally } = number(alloc, list, classes, id_size)?;
         let Rows { slot_table, shapes } = rows_of(alloc, ids, classes, id_size, bytes, list)?;
         let slot_table = slot_table.resolve(rt, alloc)?;
@@ -219,7 +221,14 @@ impl Graph {
             strings,
             loads,
         };
-        Ok(Graph::new(slot_table, shapes, roots, repeats, tally.opaque))
+        Ok(Graph::new(
+            slot_table,
+            shapes,
+            roots,
+            repeats,
+            tally.opaque,
+            names,
+        ))
     }
 }
 

@@ -8,6 +8,7 @@ mod graph;
 mod id_hasher;
 mod instance_rows;
 mod layouts;
+mod names;
 mod noted;
 mod number;
 mod resolving;

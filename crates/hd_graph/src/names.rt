@@ -1,8 +1,9 @@
 //! The names of classes: the file's bytes of them are copied, so that the file can be given up.
-ghost use Rattle.std.specs.Prelude.{◌≡◌, ℕ, ◌+◌, ◌≤◌, length, None, Some, MatchOption, IfSome, IfOk, OnOk};
+ghost use Rattle.std.specs.Prelude.{◌≡◌, ◌==◌, ℕ, ◌+◌, ◌≤◌, length, None, Some, MatchOption, IfSome, IfOk, OnOk};
+ghost use Rattle.std.specs.Map.{lookup};
 ghost use Rattle.hd_terms.specs.declared.Span.{Span};
 ghost use Rattle.hd_classes.specs.Known.{name_at};
-ghost use Rattle.hd_graph.specs.Names.{AreCopies, CopiesText, AddsName, loaded_name};
+ghost use Rattle.hd_graph.specs.Names.{AreCopies, CopiesText, AddsName, first_names};
 
 use hd_classes::{Classes, bytes_of};
 use hd_records::Loads;
@@ -21,9 +22,9 @@ pub(crate) struct ClassNames {
 }
 
 impl Model for ClassNames {
-    ghost use Rattle.std.specs.Prelude.{ℕ, List, Option};
+    ghost use Rattle.std.specs.Prelude.{ℕ, List};
 
-    ghost Value = { ℕ → Option (List ℕ) };
+    ghost Value = { List (ℕ × List ℕ) };
 
     ghost use Rattle.hd_graph.specs.NamesInside.{names_in, AreNames};
 
@@ -35,7 +36,7 @@ impl Model for ClassNames {
 impl ClassNames {
     /// The name of the class of an ID, if it has one.
     pub(crate) fn get(&self, class: u64) -> Option<&[u8]>
-        ensures { MatchOption result (self.now class ≡ None) (λ name. self.now class ≡ Some name.now) }
+        ensures { MatchOption result (lookup (λ (x : ℕ). class == x) self.now ≡ None) (λ name. lookup (λ (x : ℕ). class == x) self.now ≡ Some name.now) }
     {
         match self.parts.get(&class) {
             Some(part) => Some(bytes_of(self.text.as_slice(), *part)),
@@ -79,7 +80,7 @@ fn copy_text(
     Ok(part)
 }
 
-/// Notes the name of a class, which lies there in the file, if it has one.
+/// Notes the name of a class, if it has one and wasn't loaded before. It lies there in the file.
 fn add_name(
     copied: &mut CopiedNames,
     bytes: &[u8],
@@ -92,15 +93,17 @@ fn add_name(
 {
     match name {
         Some(span) => {
-            let part = copy_text(&mut copied.text, &mut copied.copies, bytes, span)?;
-            copied.parts.insert(class, part)?;
+            if !copied.parts.contains_key(&class) {
+                let part = copy_text(&mut copied.text, &mut copied.copies, bytes, span)?;
+                copied.parts.insert(class, part)?;
+            }
         }
         None => {}
     }
     Ok(())
 }
 
-/// The names of the classes that were loaded.
+/// The names of the classes that were loaded, each class once.
 pub(crate) fn names_of(
     alloc: Global,
     bytes: &[u8],
@@ -108,7 +111,7 @@ pub(crate) fn names_of(
     classes: &Classes,
 ) -> Result<ClassNames, AllocError>
     requires { (id : ℕ) (span : Span) → name_at classes.now id ≡ Some span → span.start + span.len ≤ length bytes.now }
-    ensures { IfOk result (λ names. (id : ℕ) → names id ≡ loaded_name bytes.now classes.now loads.now id) }
+    ensures { IfOk result (λ names. names ≡ first_names bytes.now classes.now loads.now) }
 {
     let mut copied = CopiedNames {
         text: Vec::new(alloc),
