@@ -12,3 +12,4 @@ mod source;
 
 pub use classes::Classes;
 pub use known::{LayoutField, ResolvedClass};
+pub use names::bytes_of;

@@ -36,7 +36,7 @@ pub(crate) fn first_names(alloc: Global, loads: &Loads) -> Result<IndexMap<u64, 
 }
 
 /// The bytes of a span of a file.
-pub(crate) fn bytes_of(bytes: &[u8], span: Span) -> &[u8]
+pub fn bytes_of(bytes: &[u8], span: Span) -> &[u8]
     requires { span.start + span.len ≤ length bytes.now }
     ensures { result.now ≡ bytes_of_span bytes.now span }
 {

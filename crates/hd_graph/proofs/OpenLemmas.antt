@@ -21,10 +21,10 @@ use Rattle.hd_terms.specs.Roots.{roots_of}
 use Rattle.hd_terms.specs.Dump.{Object, Root, Repeated}
 use Rattle.hd_terms.specs.Objects as objects
 use Rattle.hd_terms.specs.declared.Mode.TheVariants as modes
-use Rattle.hd_terms.specs.Objects.{classes_of, object_of, objects_of, opaque_in, IsDumpOf, repeated_of}
+use Rattle.hd_terms.specs.Objects.{classes_of, object_of, objects_of, opaque_in, names_of, IsDumpOf, repeated_of}
 use Rattle.hd_terms.specs.ReadFaults.{in_records, in_sub_records, in_classes, in_objects, IsSubRecordsFault, IsSegmentFault}
 use Rattle.hd_records.specs.Reading.{ReadsRecords, IsRecordsFaultOrMemory}
-use Rattle.hd_classes.specs.Known.{Known, known_at, AreClassesOf, IsClassFaultOrMemory, IsTextWithin}
+use Rattle.hd_classes.specs.Known.{Known, known_at, name_at, AreClassesOf, IsClassFaultOrMemory, IsTextWithin}
 use Rattle.hd_graph.specs.declared.graph.RootRow.{RootRow}
 use Rattle.hd_graph.specs.declared.number.Tally.{Tally}
 use Rattle.hd_graph.specs.GraphInside.{root_of_row}
@@ -45,7 +45,9 @@ use Rattle.hd_graph.proofs.TextLemmas.{texts-in-file}
 use Rattle.hd_graph.proofs.ArrayRowLemmas.{object_of_entry}
 use Rattle.hd_graph.proofs.DumpLemmas.{all_of, objects_in, roots_all, within_all, weight_all, weight-cons, row_objects-entries}
 use Rattle.hd_graph.proofs.SmallLemmas.{shapes-small, shapes-fit}
+use Rattle.hd_graph.specs.Names.{first_names}
 use Rattle.hd_graph.proofs.RepeatLemmas.{repeats-map}
+use Rattle.hd_graph.proofs.NameLemmas.{first-names, names-in-file}
 
 -- functions of one value everywhere are one
 fun_ext : {A B : Type 0} {f g : A → B} → ((x : A) → f x ≡ g x) → f ≡ g
@@ -190,6 +192,10 @@ module _ (bytes : List ℕ) (size : IdSize) (strings : List Text) (classes : Lis
             filter_map-le object_sub list,
           )
 
+      -- the names of classes lie in the file
+      pub names-within : (id : ℕ) (span : Span) → name_at k id ≡ Some span → span.start + span.len ≤ length bytes
+      names-within = names-in-file table k h (length bytes) texts-within
+
       pub few-and-short : AreFewAndShort k
       few-and-short = record { few = omega (arith, few-classes, length-le-weight list, list-within.few); short = h.short }
 
@@ -265,8 +271,8 @@ module _ (bytes : List ℕ) (size : IdSize) (strings : List Text) (classes : Lis
               ∙ ap (λ (test : Item → Bool). count_by (λ (x : ℕ × Sub). test x.1.item) (first_subs list)) (fun_ext (same-opaque real))
               ∙ ap (opaque_in real) list_of_records
 
-          -- what is repeated
-          module _ (texts_again loads_again : ℕ) (texts_are : texts_again ≡ repeats (λ (x : Text). x.id) strings) (loads_are : loads_again ≡ repeats (λ (x : Load). x.class) classes) where
+          -- what is repeated, and the names of classes
+          module _ (names : List (ℕ × List ℕ)) (names_are : names ≡ first_names bytes k classes) (texts_again loads_again : ℕ) (texts_are : texts_again ≡ repeats (λ (x : Text). x.id) strings) (loads_are : loads_again ≡ repeats (λ (x : Load). x.class) classes) where
             abbrev again : Repeated
             again = record { objects = tally.repeated; strings = texts_again; loads = loads_again }
 
@@ -277,7 +283,10 @@ module _ (bytes : List ℕ) (size : IdSize) (strings : List Text) (classes : Lis
                 ∙ ap (λ (m : ℕ). record { objects = repeats (λ (x : Object). x.id) (filter_map (object_of real size) (all_of real bytes size b.segments)); strings = repeats (λ (x : Text). x.id) (texts size r.records); loads = m })
                 (loads_are ∙ ap (repeats (λ (x : Load). x.class)) r.loads_are)
 
-            pub opened : IsDumpOf bytes (record { mode = modes.Direct; objects = row_objects c.shapes t.ids t.rows; roots = map root_of_row roots; repeated = again; opaque = tally.opaque })
+            class-names-are : names ≡ names_of real
+            class-names-are = names_are ∙ first-names table k h ∙ ap names_of table-is
+
+            pub opened : IsDumpOf bytes (record { mode = modes.Direct; objects = row_objects c.shapes t.ids t.rows; roots = map root_of_row roots; repeated = again; opaque = tally.opaque; names = names })
             opened = record {
               size = size;
               records = r.records;
@@ -289,10 +298,11 @@ module _ (bytes : List ℕ) (size : IdSize) (strings : List Text) (classes : Lis
                 classes = no-cycle;
                 objects = sym object-faults-are ∙ n.no_fault;
               };
-              is = ap (λ (xs : List Object). record { mode = modes.Direct; objects = xs; roots = map root_of_row roots; repeated = again; opaque = tally.opaque }) objects_are
-                  ∙ ap (λ (xs : List Root). record { mode = modes.Direct; objects = objects_of real size (all_of real bytes size b.segments); roots = xs; repeated = again; opaque = tally.opaque }) roots_are
-                  ∙ ap (λ (x : Repeated). record { mode = modes.Direct; objects = objects_of real size (all_of real bytes size b.segments); roots = roots_of size (all_of real bytes size b.segments); repeated = x; opaque = tally.opaque }) again_is
-                  ∙ ap (λ (m : ℕ). record { mode = modes.Direct; objects = objects_of real size (all_of real bytes size b.segments); roots = roots_of size (all_of real bytes size b.segments); repeated = repeated_of real size r.records (all_of real bytes size b.segments); opaque = m }) opaque_are;
+              is = ap (λ (xs : List Object). record { mode = modes.Direct; objects = xs; roots = map root_of_row roots; repeated = again; opaque = tally.opaque; names = names }) objects_are
+                  ∙ ap (λ (xs : List Root). record { mode = modes.Direct; objects = objects_of real size (all_of real bytes size b.segments); roots = xs; repeated = again; opaque = tally.opaque; names = names }) roots_are
+                  ∙ ap (λ (x : Repeated). record { mode = modes.Direct; objects = objects_of real size (all_of real bytes size b.segments); roots = roots_of size (all_of real bytes size b.segments); repeated = x; opaque = tally.opaque; names = names }) again_is
+                  ∙ ap (λ (m : ℕ). record { mode = modes.Direct; objects = objects_of real size (all_of real bytes size b.segments); roots = roots_of size (all_of real bytes size b.segments); repeated = repeated_of real size r.records (all_of real bytes size b.segments); opaque = m; names = names }) opaque_are
+                  ∙ ap (λ (ns : List (ℕ × List ℕ)). record { mode = modes.Direct; objects = objects_of real size (all_of real bytes size b.segments); roots = roots_of size (all_of real bytes size b.segments); repeated = repeated_of real size r.records (all_of real bytes size b.segments); opaque = opaque_in real placed; names = ns }) class-names-are;
             }
 
 pub records-fault : (bytes : List ℕ) (f : ReadFault) → IsRecordsFaultOrMemory bytes f → IsReadFaultOrMemory bytes f

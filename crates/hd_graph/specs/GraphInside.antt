@@ -14,7 +14,8 @@ root_of_row r = record { kind = r.kind; id = r.id }
 abbrev pub repeated_in : Repeats → Repeated
 repeated_in r = record { objects = r.objects; strings = r.strings; loads = r.loads }
 
--- how phantom references are followed; a row and a shape for each object, the roots, what is repeated, and how many instances are opaque
+-- how phantom references are followed; a row and a shape for each object, the roots, what is repeated, how many instances are
+-- opaque, and the names of classes
 abbrev pub dump_of_graph : Inside → Dump
 dump_of_graph a = record {
   mode = a.mode;
@@ -22,6 +23,7 @@ dump_of_graph a = record {
   roots = map root_of_row a.roots.items;
   repeated = repeated_in a.repeats;
   opaque = a.opaque;
+  names = a.names;
 }
 
 -- what holds of what is kept: a row and a shape for each object, no more recorded bytes than a file has, and numbers of

@@ -1,13 +1,14 @@
 //! Looking up the graph: objects by number or ID, their slots, their sizes, and the roots.
-ghost use Rattle.std.specs.Prelude.{◌≡◌, ◌<◌, ◌^◌, ℕ, length, map, position, slice_get, Some, true, ◌≤◌, All};
+ghost use Rattle.std.specs.Prelude.{◌≡◌, ◌<◌, ◌^◌, ℕ, length, map, position, slice_get, None, Some, true, ◌≤◌, All, MatchOption};
 ghost use Rattle.hd_terms.specs.Edges.{index_of};
 ghost use Rattle.hd_terms.specs.EditedDump.{same_slot};
-ghost use Rattle.hd_terms.specs.Dump.{SlotEntry, object_at};
+ghost use Rattle.hd_terms.specs.Dump.{SlotEntry, object_at, name_in};
 ghost use Rattle.hd_terms.specs.declared.Slot.{Slot};
 ghost use Rattle.hd_graph.specs.Arrays.{row_index};
 ghost use Rattle.hd_graph.specs.Shapes.{shape_bytes, slot_name, slot_kind, shape_index, shape_referent, IsNamedAt, HasFewNames};
 ghost use Rattle.hd_graph.specs.PackedShapes.{shape_view};
 
+use crate::names::ClassNames;
 use crate::shape::{Shape, Shapes};
 use hd_slots::SlotTable;
 use hd_terms::{EdgeKind, Group, Mode, RootKind, Slot};
@@ -22,6 +23,7 @@ pub struct Graph {
     repeats: Repeats,
     opaque: u64,
     mode: Mode,
+    names: ClassNames,
 }
 
 /// How many sub-records of objects and records have the ID of an earlier one.
@@ -183,7 +185,7 @@ impl Graph {
     ghost use Rattle.hd_graph.specs.GraphInside.{root_of_row, repeated_in};
 
     /// The graph of references and shapes, a row and a shape for each object, and roots, what was repeated, how many
-    /// instances are opaque, and how phantom references are followed.
+    /// instances are opaque, how phantom references are followed, and the names of classes.
     pub(crate) fn new(
         slot_table: SlotTable,
         shapes: Shapes,
@@ -191,12 +193,13 @@ impl Graph {
         repeats: Repeats,
         opaque: u64,
         mode: Mode,
+        names: ClassNames,
     ) -> Graph
         requires columns { AreColumns shapes.objects slot_table.ids slot_table.rows }
         requires small { All IsSmall shapes.objects }
         requires few { length slot_table.ids < 2 ^ 31 }
         requires few_roots { length roots.items < 2 ^ 32 }
-        ensures { result ≡ record { mode = mode; objects = row_objects shapes.objects slot_table.ids slot_table.rows; roots = map root_of_row roots.items; repeated = repeated_in repeats; opaque = opaque } }
+        ensures { result ≡ record { mode = mode; objects = row_objects shapes.objects slot_table.ids slot_table.rows; roots = map root_of_row roots.items; repeated = repeated_in repeats; opaque = opaque; names = names } }
     {
         Graph {
             slot_table,
@@ -205,6 +208,7 @@ impl Graph {
             repeats,
             opaque,
             mode,
+            names,
         }
     }
 
@@ -320,6 +324,13 @@ impl Graph {
         ensures { result ≡ (object_at self.now o).referent }
     {
         referent_in(self.shapes.get(o))
+    }
+
+    /// The name of the class of an ID, if it has one: its bytes as the file has them.
+    pub fn name_of(&self, class: u64) -> Option<&[u8]>
+        ensures { MatchOption result (name_in self.now class ≡ None) (λ name. name_in self.now class ≡ Some name.now) }
+    {
+        self.names.get(class)
     }
 
     /// How many roots the dump has.

@@ -8,6 +8,7 @@ mod filling;
 mod graph;
 mod instance_rows;
 mod layouts;
+mod names;
 mod noted;
 mod number;
 mod opening;

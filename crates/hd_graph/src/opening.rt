@@ -12,6 +12,7 @@ ghost use Rattle.hd_graph.specs.Building.{IsReadFaultOrMemory};
 
 use crate::filling::{Rows, rows_of};
 use crate::graph::{Graph, Repeats};
+use crate::names::names_of;
 use crate::noted::{repeated_loads, repeated_strings};
 use crate::number::{Numbered, number};
 use hd_classes::Classes;
@@ -48,6 +49,7 @@ impl Graph {
         let id_size = records.id_size;
         let strings = repeated_strings(alloc, &records.strings)?;
         let loads = repeated_loads(alloc, &records.loads)?;
+        let names = names_of(alloc, bytes, &records.loads, classes)?;
         let Numbered { ids, roots, tally } = number(alloc, list, classes, id_size)?;
         let Rows { slot_table, shapes } = rows_of(alloc, ids, classes, id_size, bytes, list)?;
         let slot_table = slot_table.resolve(rt, alloc)?;
@@ -63,6 +65,7 @@ impl Graph {
             repeats,
             tally.opaque,
             Mode::Direct,
+            names,
         ))
     }
 }

@@ -1,7 +1,8 @@
 -- The dump: what a file says of the heap, and all that the heap half of the definitions knows of it.
 -- Source: this project. It is where the two halves meet: nothing above it names a byte of a file, nothing below it a strength.
-use Rattle.std.specs.Prelude.{ℕ, List, [], Option, None}
+use Rattle.std.specs.Prelude.{ℕ, ◌==◌, List, [], Option, None}
 use Rattle.std.specs.List.{slice_index_or}
+use Rattle.std.specs.Map.{lookup}
 use Rattle.hd_terms.specs.declared.Slot.{Slot}
 use Rattle.hd_terms.specs.declared.EdgeKind.{EdgeKind}
 use Rattle.hd_terms.specs.declared.Group.{Group}
@@ -35,13 +36,15 @@ pub record Repeated : Type 0 where
   pub loads : ℕ
 
 -- how phantom references are followed; objects in file order, the first of each ID, and roots in file order; what was
--- repeated, and how many instances have a class chain that isn't whole
+-- repeated, and how many instances have a class chain that isn't whole; and the names of loaded classes by the IDs of the
+-- classes, each class once: their bytes as the file has them
 pub record Dump : Type 0 where
   pub mode : Mode
   pub objects : List Object
   pub roots : List Root
   pub repeated : Repeated
   pub opaque : ℕ
+  pub names : List (ℕ × List ℕ)
 
 -- what stands past the last object
 abbrev pub no_object : Object
@@ -50,3 +53,7 @@ no_object = record { id = 0; group = groups.Classes; bytes = 0; slots = []; refe
 -- the object of a number
 abbrev pub object_at : Dump → ℕ → Object
 object_at dump o = slice_index_or dump.objects o no_object
+
+-- the name of the class of an ID, if it has one
+abbrev pub name_in : Dump → ℕ → Option (List ℕ)
+name_in dump id = lookup (λ (class : ℕ). id == class) dump.names

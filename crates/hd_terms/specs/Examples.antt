@@ -103,6 +103,12 @@ load_record class name = 0x02 ∷ four 0 ++ four 16 ++ four 1 ++ narrow class ++
 abbrev pub repeated_strings_and_loads_file : List ℕ
 repeated_strings_and_loads_file = head_of 4 ++ text_record 0xc1 (0x41 ∷ []) ++ text_record 0xc1 (0x42 ∷ []) ++ load_record 0x11 0xc1 ++ load_record 0x11 0xc1
 
+-- two texts of one ID, a class that is loaded under their ID and then under another, and a class whose name has no text
+abbrev pub first_names_file : List ℕ
+first_names_file =
+    head_of 4 ++ text_record 0xc1 (0x41 ∷ []) ++ text_record 0xc1 (0x42 ∷ []) ++ text_record 0xc2 (0x43 ∷ [])
+    ++ load_record 0x11 0xc1 ++ load_record 0x11 0xc2 ++ load_record 0x12 0xc3
+
 -- a UTF8 record of three bytes, fewer than an ID has
 abbrev pub short_record_file : List ℕ
 short_record_file = head_of 4 ++ 0x01 ∷ four 0 ++ four 3 ++ 0x00 ∷ 0x00 ∷ 0x00 ∷ []
@@ -360,13 +366,28 @@ refs = class_object 0x11 0 ∷ class_object 0x12 0x11 ∷ class_object 0x13 0x11
 abbrev pub none_repeated : Repeated
 none_repeated = record { objects = 0; strings = 0; loads = 0 }
 
+-- the names of the classes Reference and WeakReference
+abbrev pub reference_class_names : List (ℕ × List ℕ)
+reference_class_names = (0x11, codes "java/lang/ref/Reference") ∷ (0x13, codes "java/lang/ref/WeakReference") ∷ []
+
 -- nothing
 abbrev pub empty_dump : Dump
-empty_dump = record { mode = modes.Direct; objects = []; roots = []; repeated = none_repeated; opaque = 0 }
+empty_dump = record { mode = modes.Direct; objects = []; roots = []; repeated = none_repeated; opaque = 0; names = [] }
 
 -- nothing, but a text and a load are repeated
 abbrev pub repeated_strings_and_loads : Dump
-repeated_strings_and_loads = record { mode = modes.Direct; objects = []; roots = []; repeated = record { objects = 0; strings = 1; loads = 1 }; opaque = 0 }
+repeated_strings_and_loads = record { mode = modes.Direct; objects = []; roots = []; repeated = record { objects = 0; strings = 1; loads = 1 }; opaque = 0; names = (0x11, 0x41 ∷ []) ∷ [] }
+
+-- nothing but names: that of a class is the first text of the ID under which it is loaded first
+abbrev pub first_names : Dump
+first_names = record {
+  mode = modes.Direct;
+  objects = [];
+  roots = [];
+  repeated = record { objects = 0; strings = 1; loads = 1 };
+  opaque = 0;
+  names = (0x11, 0x41 ∷ []) ∷ [];
+}
 
 -- a root of each kind, on IDs that are no object's
 abbrev pub root_kinds : Dump
@@ -386,6 +407,7 @@ root_kinds = record {
       ∷ [];
   repeated = none_repeated;
   opaque = 0;
+  names = [];
 }
 
 -- an array of two ints
@@ -396,6 +418,7 @@ primitive_array = record {
   roots = [];
   repeated = none_repeated;
   opaque = 0;
+  names = [];
 }
 
 -- a class with its slots, the arrays 2, 3 and 5, and an array of two ints
@@ -420,6 +443,7 @@ class_object_and_primitive_array = record {
   roots = (record { kind = roots.StickyClass; id = 0x11 }) ∷ [];
   repeated = none_repeated;
   opaque = 0;
+  names = [];
 }
 
 -- root 1  [1: 2 0 9]  [2:]
@@ -439,15 +463,16 @@ two_arrays = record {
   roots = (record { kind = roots.Unknown; id = 1 }) ∷ [];
   repeated = none_repeated;
   opaque = 0;
+  names = [];
 }
 
 -- [1: 2]  [2:]
 abbrev pub repeated_id : Dump
-repeated_id = record { mode = modes.Direct; objects = array 1 (2 ∷ []) ∷ array 2 [] ∷ []; roots = []; repeated = record { objects = 1; strings = 0; loads = 0 }; opaque = 0 }
+repeated_id = record { mode = modes.Direct; objects = array 1 (2 ∷ []) ∷ array 2 [] ∷ []; roots = []; repeated = record { objects = 1; strings = 0; loads = 0 }; opaque = 0; names = [] }
 
 -- <1: 2>  <2: 9>
 abbrev pub absent_super : Dump
-absent_super = record { mode = modes.Direct; objects = class_object 1 2 ∷ class_object 2 9 ∷ []; roots = []; repeated = none_repeated; opaque = 0 }
+absent_super = record { mode = modes.Direct; objects = class_object 1 2 ∷ class_object 2 9 ∷ []; roots = []; repeated = none_repeated; opaque = 0; names = [] }
 
 -- <11: 0>  (2 of 11: 5)
 abbrev pub repeated_size_mismatch : Dump
@@ -457,6 +482,7 @@ repeated_size_mismatch = record {
   roots = [];
   repeated = record { objects = 1; strings = 0; loads = 0 };
   opaque = 0;
+  names = [];
 }
 
 -- root 20  (20 of 12: 5 6)  <11: 0>  <12: 11>  [5:]  [6:]
@@ -468,6 +494,7 @@ wide_instance = record {
   roots = root 0x20 ∷ [];
   repeated = none_repeated;
   opaque = 0;
+  names = [];
 }
 
 -- root 1  [1 of 99: 2 3]  <11: 0>  (2 of 11:)  (3 of 98:)
@@ -489,6 +516,7 @@ opaque_and_repeated = record {
   roots = root 1 ∷ [];
   repeated = record { objects = 1; strings = 0; loads = 0 };
   opaque = 1;
+  names = [];
 }
 
 -- <11: 0>  <13: 11>  (21 of 13: weak 5)  [5:]
@@ -499,7 +527,12 @@ weak_reference = record {
   roots = [];
   repeated = none_repeated;
   opaque = 0;
+  names = reference_class_names;
 }
+
+-- the same, with dots in the names
+abbrev pub dotted_names : Dump
+dotted_names = record weak_reference { names = (0x11, codes "java.lang.ref.Reference") ∷ (0x13, codes "java.lang.ref.WeakReference") ∷ [] }
 
 -- <11: 0>  <13: 11>  (21 of 13: 5)  [5:]
 abbrev pub other_name_first : Dump
@@ -509,6 +542,7 @@ other_name_first = record {
   roots = [];
   repeated = record { objects = 0; strings = 0; loads = 1 };
   opaque = 0;
+  names = (0x13, codes "referent") ∷ (0x11, codes "java/lang/ref/Reference") ∷ [];
 }
 
 -- <11: 0>  <13: 11>  <14: 13>  (22 of 14: 6 weak 5)  [5:]  [6:]
@@ -532,6 +566,7 @@ two_referents = record {
   roots = [];
   repeated = none_repeated;
   opaque = 0;
+  names = reference_class_names;
 }
 
 -- refs  root 1  [1: 21 31]  (21 of 13: weak 5)  (31 of 16: final 5)  [5:]
@@ -542,6 +577,7 @@ weak_and_final_referents = record {
   roots = root 1 ∷ [];
   repeated = none_repeated;
   opaque = 0;
+  names = [];
 }
 
 -- refs  root 1  [1: 21 23]  (21 of 12: soft 22)  (22 of 13: weak 3)  [3: 4]  (23 of 12: soft 5)  [5: 4]  [4:]
@@ -554,6 +590,7 @@ soft_then_weak = record {
   roots = root 1 ∷ [];
   repeated = none_repeated;
   opaque = 0;
+  names = [];
 }
 
 -- root 1  [1: 2]  [2: 3]  [3: 2 4]  [4: 5]  [5: 4]
@@ -564,6 +601,7 @@ cycle_behind_one_edge = record {
   roots = root 1 ∷ [];
   repeated = none_repeated;
   opaque = 0;
+  names = [];
 }
 
 -- refs  root 1  [1: 21]  (21 of 15: phantom 6)  [6: 7]  [7:]  (22 of 15: phantom 22)
@@ -576,6 +614,7 @@ phantom_referent = record {
   roots = root 1 ∷ [];
   repeated = none_repeated;
   opaque = 0;
+  names = [];
 }
 
 -- (21 of 13: weak 0)  (22 of 13: weak 9)
@@ -594,7 +633,7 @@ phantom_closure = record phantom_referent { mode = modes.Closure }
 
 -- root 1  root 2  [1:]  [2:]  [7:]
 abbrev pub added_and_dropped_roots : Dump
-added_and_dropped_roots = record { mode = modes.Direct; objects = array 1 [] ∷ array 2 [] ∷ array 7 [] ∷ []; roots = root 1 ∷ root 2 ∷ []; repeated = none_repeated; opaque = 0 }
+added_and_dropped_roots = record { mode = modes.Direct; objects = array 1 [] ∷ array 2 [] ∷ array 7 [] ∷ []; roots = root 1 ∷ root 2 ∷ []; repeated = none_repeated; opaque = 0; names = [] }
 
 -- logs
 

@@ -7,13 +7,14 @@ use Rattle.byteorder.specs.Endian.{big_number}
 use Rattle.hd_terms.specs.declared.IdSize.{IdSize}
 use Rattle.hd_terms.specs.declared.Slot.TheVariants as slots
 use Rattle.hd_terms.specs.declared.Mode.TheVariants as modes
+use Rattle.hd_terms.specs.declared.Span.{Span}
 use Rattle.hd_terms.specs.declared.Text.{Text}
 use Rattle.hd_terms.specs.declared.Load.{Load}
 use Rattle.hd_terms.specs.Records.{id_len, Record, HasHeader, AreRecords, header_len, segment_spans, texts, loads}
 use Rattle.hd_terms.specs.SubRecords.{SubRecord, RootOf, ClassDump, InstanceDump, ObjectArray, PrimitiveArray, Item, Instance, ObjArray, PrimArray, Sub, AreDumpSubRecords, dump_subs_at}
 use Rattle.hd_terms.specs.SubRecords as subs
 use Rattle.hd_terms.specs.FirstRecords.{first_of_each, repeats, first_subs}
-use Rattle.hd_terms.specs.Classes.{ClassTable, ResolvedClass, class_table, resolved_class, fitting_class}
+use Rattle.hd_terms.specs.Classes.{ClassTable, ResolvedClass, class_table, resolved_class, fitting_class, name_of, bytes_of_span}
 use Rattle.hd_terms.specs.Groups.{instance_group, instance_bytes, array_group, array_bytes, class_group, class_bytes, primitive_group, primitive_bytes}
 use Rattle.hd_terms.specs.Slots.{instance_slots, array_slots, class_slots}
 use Rattle.hd_terms.specs.Roots.{roots_of}
@@ -76,6 +77,14 @@ is_opaque t (PrimArray id element count) = false
 abbrev pub opaque_in : ClassTable → List Sub → ℕ
 opaque_in t list = count_by (λ (p : ℕ × Sub). is_opaque t p.1.item) (first_subs list)
 
+-- the name of a class that is loaded, by the ID of the class, if it has one
+abbrev pub loaded_name : ClassTable → Load → Option (ℕ × List ℕ)
+loaded_name t l = option_map (λ (span : Span). (l.class, bytes_of_span t.bytes span)) (name_of t l.class)
+
+-- the names of loaded classes: in the order of their loads, each class once
+abbrev pub names_of : ClassTable → List (ℕ × List ℕ)
+names_of t = first_of_each (λ (n : ℕ × List ℕ). n.0) (filter_map (loaded_name t) t.loads)
+
 -- the classes of a file, by its records and the sub-records of its segments
 abbrev pub classes_of : List ℕ → IdSize → List Record → List (List SubRecord) → ClassTable
 classes_of bytes size records segments = class_table bytes (texts size records) (loads size records) (dump_subs_at size (segment_spans header_len records) segments)
@@ -88,6 +97,7 @@ dump_of bytes size records segments = record {
   roots = roots_of size (flat_map (λ (ss : List SubRecord). ss) segments);
   repeated = repeated_of (classes_of bytes size records segments) size records (flat_map (λ (ss : List SubRecord). ss) segments);
   opaque = opaque_in (classes_of bytes size records segments) (dump_subs_at size (segment_spans header_len records) segments);
+  names = names_of (classes_of bytes size records segments);
 }
 
 -- a file that reads without fault: its header, its records, the sub-records of its segments, no chain that never ends, no

@@ -16,7 +16,7 @@ ghost use Rattle.hd_terms.specs.declared.SlotMode.TheVariants as modes;
 ghost use Rattle.hd_terms.specs.declared.What.TheVariants as whats;
 ghost use Rattle.hd_terms.specs.declared.errors.LogFault.TheVariants as faults;
 ghost use Rattle.hd_terms.specs.declared.errors.Refusal.TheVariants as refusals;
-ghost use Rattle.hd_terms.specs.Dump.{object_at};
+ghost use Rattle.hd_terms.specs.Dump.{object_at, name_in};
 ghost use Rattle.hd_terms.specs.Counts.{counts_of};
 ghost use Rattle.hd_terms.specs.SlotRows.{slot_rows};
 ghost use Rattle.hd_terms.specs.Fell.{FellCount};
@@ -45,6 +45,9 @@ pub fn file_examples()
     ensures prefixes_of_the_header { (n : ℕ) → n ≤ 30 → IsReadFault (take n examples.two_arrays_file) (fault causes.Truncated 0) }
     ensures prefixes_of_the_record { (n : ℕ) → 32 ≤ n → n ≤ 90 → IsReadFault (take n examples.two_arrays_file) (fault causes.Truncated 31) }
     ensures repeated_strings_and_loads { IsDumpOf examples.repeated_strings_and_loads_file examples.repeated_strings_and_loads }
+    ensures first_names { IsDumpOf examples.first_names_file examples.first_names }
+    ensures first_name { name_in examples.first_names 0x11 ≡ Some (0x41 ∷ []) }
+    ensures no_name { name_in examples.first_names 0x12 ≡ None }
     ensures short_record { IsReadFault examples.short_record_file (fault causes.ShortRecord 31) }
     ensures short_and_cut { IsReadFault examples.short_and_cut_file (fault causes.ShortRecord 31) }
     ensures counts { counts_of examples.two_arrays ≡ record { objects = 2; roots = 1; edges = 1; unresolved = 1; repeated_objects = 0; repeated_strings = 0; repeated_loads = 0; opaque = 0 } }
@@ -82,7 +85,7 @@ pub fn instance_examples()
     ensures opaque_and_repeated { IsDumpOf examples.opaque_and_repeated_file examples.opaque_and_repeated }
     ensures counts { counts_of examples.opaque_and_repeated ≡ record { objects = 4; roots = 1; edges = 3; unresolved = 2; repeated_objects = 1; repeated_strings = 0; repeated_loads = 0; opaque = 1 } }
     ensures weak_reference { IsDumpOf examples.weak_reference_file examples.weak_reference }
-    ensures dotted_names { IsDumpOf examples.dotted_names_file examples.weak_reference }
+    ensures dotted_names { IsDumpOf examples.dotted_names_file examples.dotted_names }
     ensures other_name_first { IsDumpOf examples.other_name_first_file examples.other_name_first }
     ensures two_referents { IsDumpOf examples.two_referents_file examples.two_referents }
 {}

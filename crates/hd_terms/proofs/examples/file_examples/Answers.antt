@@ -201,30 +201,57 @@ returns-clause-short_and_cut c =
       place = refl;
     }))
 
--- a text of one byte
-abbrev text : ℕ → Record
-text byte = record { tag = 1; time = four 0; size = four 5; body = four 0xc1 ++ byte ∷ [] }
+-- a text of one byte, and its ID
+abbrev text_under : ℕ → ℕ → Record
+text_under id byte = record { tag = 1; time = four 0; size = four 5; body = four id ++ byte ∷ [] }
 
--- a class that is loaded
+abbrev text : ℕ → Record
+text byte = text_under 0xc1 byte
+
+-- a class that is loaded, and the ID of its name
+abbrev load_as : ℕ → ℕ → Record
+load_as class name = record { tag = 2; time = four 0; size = four 16; body = four 1 ++ four class ++ four 0 ++ four name }
+
 abbrev load : Record
-load = record { tag = 2; time = four 0; size = four 16; body = four 1 ++ four 0x11 ++ four 0 ++ four 0xc1 }
+load = load_as 0x11 0xc1
 
 -- texts of five bytes can be read
-text_is : (byte : ℕ) → IsRecord sizes.Four (text byte)
-text_is byte = record { framed = record { time = refl; size = refl; body = refl }; fields = lit≤ tt }
+text_is : (id byte : ℕ) → IsRecord sizes.Four (text_under id byte)
+text_is id byte = record { framed = record { time = refl; size = refl; body = refl }; fields = lit≤ tt }
 
 -- and so can the class
-load_is : IsRecord sizes.Four load
-load_is = record { framed = record { time = refl; size = refl; body = refl }; fields = lit≤ tt }
+load_is : (class name : ℕ) → IsRecord sizes.Four (load_as class name)
+load_is class name = record { framed = record { time = refl; size = refl; body = refl }; fields = lit≤ tt }
+
+abbrev repeated_records : List Record
+repeated_records = text 0x41 ∷ text 0x42 ∷ load ∷ load ∷ []
 
 pub returns-clause-repeated_strings_and_loads : goal.returns-clause-repeated_strings_and_loads
 returns-clause-repeated_strings_and_loads c = record {
   size = sizes.Four;
-  records = text 0x41 ∷ text 0x42 ∷ load ∷ load ∷ [];
+  records = repeated_records;
   segments = [];
   reads = record {
     header = record { fits = lit≤ tt; long = lit≤ tt; magic = refl; id_size = refl };
-    whole = record { whole = refl; each = (text_is 0x41, (text_is 0x42, (load_is, (load_is, tt)))) };
+    whole = record { whole = refl; each = (text_is 0xc1 0x41, (text_is 0xc1 0x42, (load_is 0x11 0xc1, (load_is 0x11 0xc1, tt)))) };
+    bodies = tt;
+    classes = refl;
+    objects = refl;
+  };
+  is = refl;
+}
+
+abbrev named_records : List Record
+named_records = text 0x41 ∷ text 0x42 ∷ text_under 0xc2 0x43 ∷ load ∷ load_as 0x11 0xc2 ∷ load_as 0x12 0xc3 ∷ []
+
+pub returns-clause-first_names : goal.returns-clause-first_names
+returns-clause-first_names c = record {
+  size = sizes.Four;
+  records = named_records;
+  segments = [];
+  reads = record {
+    header = record { fits = lit≤ tt; long = lit≤ tt; magic = refl; id_size = refl };
+    whole = record { whole = refl; each = (text_is 0xc1 0x41, (text_is 0xc1 0x42, (text_is 0xc2 0x43, (load_is 0x11 0xc1, (load_is 0x11 0xc2, (load_is 0x12 0xc3, tt)))))) };
     bodies = tt;
     classes = refl;
     objects = refl;
