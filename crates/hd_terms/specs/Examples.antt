@@ -625,6 +625,7 @@ empty_referents = record {
   roots = [];
   repeated = none_repeated;
   opaque = 0;
+  names = [];
 }
 
 -- `phantom_referent`, with phantom references followed to all that they lead to
