@@ -94,7 +94,7 @@ length-le-weight (s ∷ list) = omega (arith, length-le-weight list, item-heavy 
 module _ (bytes : List ℕ) (size : IdSize) (strings : List Text) (classes : List Load) (spans : List Span) (r : ReadsRecords bytes size strings classes spans) where
   -- the segments lie where they are said to
   unresolved : AllZip (IsBodyAt bytes) spans (filter is_segment r.records)
-  unresolved = spans_of.unresolved bytes size strings classes spans r
+  unresolved = spans_of.located bytes size strings classes spans r
 
   -- so do the texts
   pub texts-within : All (IsTextWithin (length bytes)) strings

@@ -1,6 +1,5 @@
 -- The dump that a graph stands for.
 use Rattle.std.specs.Prelude.{◌<◌, ◌^◌, length, map, All}
-use Rattle.hd_terms.specs.declared.Mode.TheVariants as modes
 use Rattle.hd_terms.specs.Dump.{Dump, Repeated, Root}
 use Rattle.hd_graph.specs.declared.graph.Graph.TheInside.{Inside}
 use Rattle.hd_graph.specs.declared.graph.RootRow.{RootRow}
@@ -15,11 +14,11 @@ root_of_row r = record { kind = r.kind; id = r.id }
 abbrev pub repeated_in : Repeats → Repeated
 repeated_in r = record { objects = r.objects; strings = r.strings; loads = r.loads }
 
--- phantom references are followed directly; a row and a shape for each object, the roots, what is repeated, how many instances
--- are opaque, and the names of classes
+-- how phantom references are followed; a row and a shape for each object, the roots, what is repeated, how many instances are
+-- opaque, and the names of classes
 abbrev pub dump_of_graph : Inside → Dump
 dump_of_graph a = record {
-  mode = modes.Direct;
+  mode = a.mode;
   objects = row_objects a.shapes.objects a.slot_table.ids a.slot_table.rows;
   roots = map root_of_row a.roots.items;
   repeated = repeated_in a.repeats;

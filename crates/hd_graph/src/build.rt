@@ -29,7 +29,7 @@ use hd_classes::Classes;
 use hd_decode::{Gate, decode};
 use hd_records::{Records, read_records};
 use hd_subs::{DumpSubs, Item, Sub};
-use hd_terms::{IdSize, ReadFault, Span, element_len};
+use hd_terms::{IdSize, Mode, ReadFault, Span, element_len};
 use indexmap::IndexSet;
 use std::alloc::{AllocError, Global};
 use std::sync::Arc;
@@ -227,6 +227,7 @@ impl Graph {
             roots,
             repeats,
             tally.opaque,
+            Mode::Direct,
             names,
         ))
     }

@@ -4,7 +4,6 @@ ghost use Rattle.hd_terms.specs.Edges.{index_of};
 ghost use Rattle.hd_terms.specs.EditedDump.{same_slot};
 ghost use Rattle.hd_terms.specs.Dump.{SlotEntry, object_at, name_in};
 ghost use Rattle.hd_terms.specs.declared.Slot.{Slot};
-ghost use Rattle.hd_terms.specs.declared.Mode.TheVariants as modes;
 ghost use Rattle.hd_graph.specs.Arrays.{row_place};
 ghost use Rattle.hd_graph.specs.Shapes.{shape_bytes, slot_name, slot_kind, shape_place, shape_referent, IsNamedAt, HasFewNames};
 ghost use Rattle.hd_graph.specs.PackedShapes.{shape_view};
@@ -23,6 +22,7 @@ pub struct Graph {
     roots: Vec<RootRow>,
     repeats: Repeats,
     opaque: u64,
+    mode: Mode,
     names: ClassNames,
 }
 
@@ -185,20 +185,21 @@ impl Graph {
     ghost use Rattle.hd_graph.specs.GraphInside.{root_of_row, repeated_in};
 
     /// The graph of references and shapes, a row and a shape for each object, and roots, what was repeated, how many
-    /// instances are opaque, and the names of classes.
+    /// instances are opaque, how phantom references are followed, and the names of classes.
     pub(crate) fn new(
         slot_table: SlotTable,
         shapes: Shapes,
         roots: Vec<RootRow>,
         repeats: Repeats,
         opaque: u64,
+        mode: Mode,
         names: ClassNames,
     ) -> Graph
         requires columns { AreColumns shapes.objects slot_table.ids slot_table.rows }
         requires small { All IsSmall shapes.objects }
         requires few { length slot_table.ids < 2 ^ 31 }
         requires few_roots { length roots.items < 2 ^ 32 }
-        ensures { result ≡ record { mode = modes.Direct; objects = row_objects shapes.objects slot_table.ids slot_table.rows; roots = map root_of_row roots.items; repeated = repeated_in repeats; opaque = opaque; names = names } }
+        ensures { result ≡ record { mode = mode; objects = row_objects shapes.objects slot_table.ids slot_table.rows; roots = map root_of_row roots.items; repeated = repeated_in repeats; opaque = opaque; names = names } }
     {
         Graph {
             slot_table,
@@ -206,6 +207,7 @@ impl Graph {
             roots,
             repeats,
             opaque,
+            mode,
             names,
         }
     }
@@ -228,7 +230,7 @@ impl Graph {
     pub fn mode(&self) -> Mode
         ensures { result ≡ self.now.mode }
     {
-        Mode::Direct
+        self.mode
     }
 
     /// How many objects the dump has.
