@@ -76,9 +76,9 @@ copied-now bytes text text' copies copies' span part within known at_end is upda
     let first : P span.start part = subst (λ (n : ℕ). IsCopy bytes front (record { start = span.start; len = n }) part) (sym long) here in
     let more : AreCopies bytes front copies' =
     λ (offset : ℕ) (q : Span) (there : lookup (λ (x : ℕ). eqb offset x) copies' ≡ Some q).
-        one-more P span.start offset part q (lookup (λ (x : ℕ). eqb offset x) copies) first
-        (λ (old : lookup (λ (x : ℕ). eqb offset x) copies ≡ Some q). copy-stays bytes text (bytes_of_span bytes span) (record { start = offset; len = q.len }) q (known offset q old))
-        (eqb_tells span.start offset) (sym (updates offset) ∙ there) in
+    one-more P span.start offset part q (lookup (λ (x : ℕ). eqb offset x) copies) first
+    (λ (old : lookup (λ (x : ℕ). eqb offset x) copies ≡ Some q). copy-stays bytes text (bytes_of_span bytes span) (record { start = offset; len = q.len }) q (known offset q old))
+    (eqb_tells span.start offset) (sym (updates offset) ∙ there) in
     record {
       copy = subst (λ (xs : List ℕ). IsCopy bytes xs span part) (sym is) here;
       more = bytes_of_span bytes span;
@@ -219,10 +219,10 @@ module _ (bytes : List ℕ) (k : Known) (loads : List Load) (l : Load) where
               ∙ sym (firsts-next false known);
           seen =
               λ (id : ℕ).
-                  ap (λ (es : List (ℕ × Span)). is_some (lookup (λ (y : ℕ). eqb id y) es)) entries
-                  ∙ lookup-push (λ (y : ℕ). eqb id y) parts l.class part
-                  ∙ ap (λ (b : Bool). b || (eqb id l.class || false)) (h.seen id)
-                  ∙ sym (seen-next id);
+              ap (λ (es : List (ℕ × Span)). is_some (lookup (λ (y : ℕ). eqb id y) es)) entries
+              ∙ lookup-push (λ (y : ℕ). eqb id y) parts l.class part
+              ∙ ap (λ (b : Bool). b || (eqb id l.class || false)) (h.seen id)
+              ∙ sym (seen-next id);
         }
 
 -- no name yet

@@ -1,4 +1,4 @@
-use Rattle.std.proofs.Common.{◌≡◌, ◌∙◌, List, ℕ, ◌++◌, sym, ap}
+use Rattle.std.proofs.Common.{◌∙◌, List, ℕ, ◌++◌, sym, ap}
 use Rattle.hd_terms.specs.declared.Span.{Span}
 use Rattle.hd_graph.proofs.NameLemmas.{copied-before, copied-now}
 use Rattle.hd_graph.proofs.names.copy_text.Goals as goal
