@@ -13,7 +13,7 @@ use hd_decode::NoGate;
 use hd_graph::{Graph, open_dump};
 use hd_records::check_size;
 use hd_state::State;
-use hd_terms::{MOST_WORKERS, Edit, Event, Slot, What};
+use hd_terms::{Edit, Event, MOST_WORKERS, Slot, What};
 use std::env;
 use std::fs::{self, File};
 use std::io::Read;
