@@ -1,4 +1,6 @@
-//! Tests of what only code can show: threads and gates, streams that fail, and calls that no line of an analyst reaches.
+//! Tests of what only code can show, from the bytes of a file to the states of a log: threads and gates, and calls that no
+//! line of an analyst reaches. Streams have tests of their own in `crates/hd_stream_tests`, so that neither waits for the
+//! other.
 //! What lines and `stat` can show stands as cases in `crates/hd_rows`.
 #![tactic(auto)]
 
@@ -14,7 +16,5 @@ mod log_tests;
 mod reading_tests;
 #[cfg(test)]
 mod state_tests;
-#[cfg(test)]
-mod stream_tests;
 #[cfg(test)]
 mod worker_tests;
