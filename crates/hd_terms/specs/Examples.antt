@@ -1,7 +1,7 @@
 -- The worked examples of docs/DEFINITIONS.md as data: files, dumps, logs and lines. What the definitions say of them is
 -- proved in `examples`.
 -- Source: this project.
-use Rattle.std.specs.Prelude.{ℕ, ◌+◌, ◌*◌, ◌/◌, ◌%◌, List, [], ◌∷◌, ◌++◌, length, drop, replicate, codes, Some, None}
+use Rattle.std.specs.Prelude.{ℕ, ◌+◌, ◌*◌, ◌/◌, ◌%◌, List, [], ◌∷◌, ◌++◌, length, take, drop, replicate, codes, Some, None}
 use Rattle.std.specs.List.{flat_map}
 use Rattle.hd_terms.specs.declared.Slot.{Slot}
 use Rattle.hd_terms.specs.declared.Slot.TheVariants as slots
@@ -19,6 +19,8 @@ use Rattle.hd_terms.specs.declared.SlotRow.{SlotRow}
 use Rattle.hd_terms.specs.Paths.{Edge, RootEntry}
 use Rattle.hd_terms.specs.Dump.{SlotEntry, Object, Root, Repeated, Dump}
 use Rattle.hd_terms.specs.EditedDump.{RootOn}
+use Rattle.hd_terms.specs.Memory.{beginning, at_log}
+use Rattle.hd_terms.specs.Sessions.{Turn}
 
 -- files
 
@@ -704,3 +706,42 @@ cut_and_clear = does 0 (edits.Cut 0x21 (slots.Field 0)) ∷ does 0 (edits.Clear 
 -- a slot of kind strong as it is shown
 abbrev pub shown : Slot → ℕ → SlotMode → SlotRow
 shown slot id mode = record { slot = slot; kind = kinds.Strong; id = id; mode = mode }
+
+-- turns
+
+-- a turn of a session from its beginning: its line, the log before it, the log found, the log after it, and one line of reply
+abbrev pub turn : List ℕ → (before found after : List Event) → List ℕ → Turn
+turn line before found after reply = record {
+  line = line;
+  before = at_log (beginning [] []) before;
+  found = found;
+  after = at_log (beginning [] []) after;
+  reply = reply ++ 10 ∷ [];
+}
+
+-- the same answered `ok 1` and a line
+abbrev pub turn_done : List ℕ → (before found after : List Event) → List ℕ → Turn
+turn_done line before found after reply = turn line before found after (codes "ok 1" ++ 10 ∷ reply)
+
+-- so many of the events of `two_cuts_of_one_slot`
+abbrev pub first_cuts : ℕ → List Event
+first_cuts n = take n two_cuts_of_one_slot
+
+-- the analyst 0 cuts, tries to take back the cut of the other, which came meanwhile, and takes back the own one
+abbrev pub turns_of_the_first : List Turn
+turns_of_the_first =
+    turn_done (codes "cut 0x1 e0") [] [] (first_cuts 1) (codes "event 0 fell 1 back 0")
+    ∷ turn (codes "undo 1") (first_cuts 2) (first_cuts 2) (first_cuts 2) (codes "no NotYours")
+    ∷ turn_done (codes "undo 0") (first_cuts 2) (first_cuts 2) (first_cuts 3) (codes "event 2 fell 0 back 0")
+    ∷ []
+
+-- the analyst 1 cuts where the other's cut came meanwhile, and takes that back where the other has taken back the own one
+abbrev pub turns_of_the_second : List Turn
+turns_of_the_second =
+    turn_done (codes "cut 0x1 e0") [] (first_cuts 1) (first_cuts 2) (codes "event 1 fell 0 back 0")
+    ∷ turn_done (codes "undo 1") (first_cuts 3) (first_cuts 3) (first_cuts 4) (codes "event 3 fell 0 back 1")
+    ∷ []
+
+-- a line that finds no memory
+abbrev pub turn_without_memory : Turn
+turn_without_memory = turn (codes "slots 0x1") [] [] [] (codes "no OutOfMemory")

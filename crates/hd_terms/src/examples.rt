@@ -11,7 +11,8 @@ ghost use Rattle.hd_terms.specs.Chains.{IsChain};
 ghost use Rattle.hd_terms.specs.Edges.{edges};
 ghost use Rattle.hd_terms.specs.EditedDump.{edge_stands, root_entries, root_stands, standing};
 ghost use Rattle.hd_terms.specs.Replies.{IsReply};
-ghost use Rattle.hd_terms.specs.Sessions.{IsServed, IsServedUntilRead, IsServedUntilWrite};
+ghost use Rattle.hd_terms.specs.Sessions.{IsServed, IsServedUntilRead, IsServedUntilWrite, IsSession};
+ghost use Rattle.hd_terms.specs.Memory.{beginning};
 ghost use Rattle.hd_terms.specs.declared.SlotMode.TheVariants as modes;
 ghost use Rattle.hd_terms.specs.declared.What.TheVariants as whats;
 ghost use Rattle.hd_terms.specs.declared.errors.LogFault.TheVariants as faults;
@@ -20,6 +21,8 @@ ghost use Rattle.hd_terms.specs.Dump.{object_at, name_in};
 ghost use Rattle.hd_terms.specs.Counts.{counts_of};
 ghost use Rattle.hd_terms.specs.SlotRows.{slot_rows};
 ghost use Rattle.hd_terms.specs.Fell.{FellCount};
+ghost use Rattle.hd_terms.specs.Totals.{IsGroupTotal, IsTotal};
+ghost use Rattle.hd_terms.specs.declared.Group.TheVariants as groups;
 ghost use Rattle.hd_terms.specs.Asking.{asked};
 ghost use Rattle.hd_terms.specs.Appending.{append_refusal};
 ghost use Rattle.hd_terms.specs.Log.{IsLawful, live_edits, last_live, log_fault};
@@ -192,6 +195,25 @@ pub fn edit_examples()
     ensures cycle_fell { FellCount examples.cycle_behind_one_edge [] (take 1 examples.cut_and_undo) 4 }
     ensures slots_of_a_cut { slot_rows examples.two_arrays (take 1 examples.cut_and_undo) (object_at examples.two_arrays 0) ≡ examples.shown (slots.Element 0) 2 modes.Cut
         ∷ examples.shown (slots.Element 1) 0 modes.Null ∷ examples.shown (slots.Element 2) 9 modes.Absent ∷ examples.shown slots.OfClass 0 modes.Null ∷ [] }
+{}
+
+/// How many objects of a strength there are, and their recorded bytes; of all objects and of groups.
+pub fn total_examples()
+    ensures all { IsTotal examples.two_arrays [] strengths.Strong 2 12 }
+    ensures group { IsGroupTotal examples.two_arrays [] (groups.Class 0) strengths.Strong 2 12 }
+    ensures no_such_group { IsGroupTotal examples.two_arrays [] (groups.Prim 10) strengths.Strong 0 0 }
+    ensures group_after_a_cut { IsGroupTotal examples.two_arrays (take 1 examples.cut_and_undo) (groups.Class 0) strengths.Strong 1 12 }
+    ensures unreachable_after_a_cut { IsGroupTotal examples.two_arrays (take 1 examples.cut_and_undo) (groups.Class 0) strengths.Unreachable 1 0 }
+    ensures classes { IsGroupTotal examples.opaque_and_repeated [] groups.Classes strengths.Strong 1 0 }
+    ensures opaque { IsGroupTotal examples.opaque_and_repeated [] (groups.Class 0x98) strengths.Strong 1 4 }
+    ensures array { IsGroupTotal examples.opaque_and_repeated [] (groups.Class 0x99) strengths.Strong 1 8 }
+{}
+
+/// What two analysts are answered who cut one slot, and what a line is answered that finds no memory.
+pub fn session_examples()
+    ensures first_analyst { IsSession examples.two_arrays 0 (beginning [] []) examples.turns_of_the_first }
+    ensures second_analyst { IsSession examples.two_arrays 1 (beginning [] []) examples.turns_of_the_second }
+    ensures out_of_memory { IsSession examples.two_arrays 0 (beginning [] []) (examples.turn_without_memory ∷ []) }
 {}
 
 /// What lines ask for, and why some ask for nothing.

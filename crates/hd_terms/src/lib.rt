@@ -21,7 +21,7 @@ pub use commands::{Command, LineFault};
 pub use errors::{Cause, LogFault, NoMemory, ReadFault, Refusal};
 pub use examples::{
     class_examples, edit_examples, file_examples, heap_examples, instance_examples, line_examples,
-    log_examples, reply_examples,
+    log_examples, reply_examples, session_examples, total_examples,
 };
 pub use laws::{
     class_chains, lawful_logs, one_reading, one_strength, settled_supports_give_strengths,
