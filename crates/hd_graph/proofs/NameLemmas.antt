@@ -1,5 +1,5 @@
 -- Lemmas on the names of classes: copies of texts, and one loaded class after another.
-use Rattle.std.proofs.Common.{◌≡◌, ◌≢◌, ◌∙◌, ◌⊎◌, inl, inr, ℕ, ◌+◌, ◌<◌, ◌≤◌, List, [], ◌∷◌, ◌++◌, length, get_or, map, take, drop, Option, Some, None, is_some, Bool, true, false, ◌||◌, cond, eqb, eqb-true, refl, sym, ap, subst, arith, All, length-append}
+use Rattle.std.proofs.Common.{◌≡◌, ◌≢◌, ◌∙◌, ◌⊎◌, inl, inr, ℕ, ◌+◌, ◌<◌, ◌≤◌, List, [], ◌∷◌, ◌++◌, length, get_or, take, drop, Option, Some, None, is_some, Bool, true, false, ◌||◌, cond, eqb, eqb-true, refl, sym, ap, subst, arith, All, length-append}
 use Rattle.std.specs.Option.{option_map, option_and_then}
 use Rattle.std.specs.List.{find, filter_map, cons_option, list_any}
 use Rattle.std.specs.Map.{lookup}
@@ -9,13 +9,12 @@ use Rattle.std.proofs.lemmas.List.Elements.{filter_map-append, All-nil, All-cons
 use Rattle.std.proofs.lemmas.List.Folds.{list_any-append}
 use Rattle.std.proofs.Math.Seq.{drop-append_seam}
 use Rattle.hd_terms.specs.declared.Span.{Span}
-use Rattle.hd_terms.specs.declared.Text.{Text}
 use Rattle.hd_terms.specs.declared.Load.{Load}
 use Rattle.hd_terms.specs.Classes.{ClassTable, text_of_id, bytes_of_span}
 use Rattle.hd_terms.specs.Objects.{loaded_name, names_of}
 use Rattle.hd_classes.specs.Known.{Known, name_at, AreClassesOf, IsTextWithin}
 use Rattle.hd_classes.specs.Firsts.{firsts}
-use Rattle.hd_classes.proofs.FirstLemmas.{is_known, if_new, firsts-push, first_of_each-firsts}
+use Rattle.hd_classes.proofs.FirstLemmas.{if_new, firsts-push, first_of_each-firsts}
 use Rattle.hd_classes.proofs.SearchLemmas.{text-within}
 use Rattle.hd_graph.specs.declared.names.CopiedNames.{CopiedNames}
 use Rattle.hd_graph.specs.Names.{known_name, known_names, first_names, IsCopy, AreCopies, CopiesText, names_by, ArePartsOf, HasNames, AddsName}

@@ -1,6 +1,6 @@
 -- The names of classes while they are copied from the file.
 -- Source: this project.
-use Rattle.std.specs.Prelude.{◌≡◌, ℕ, ◌+◌, ◌==◌, ◌≤◌, Bool, is_some, List, [], ◌∷◌, ◌++◌, length, map, Option, Some, All}
+use Rattle.std.specs.Prelude.{◌≡◌, ℕ, ◌+◌, ◌==◌, ◌≤◌, is_some, List, [], ◌∷◌, ◌++◌, length, map, Option, Some, All}
 use Rattle.std.specs.Option.{option_map}
 use Rattle.std.specs.List.{filter_map, list_any}
 use Rattle.std.specs.Map.{lookup}

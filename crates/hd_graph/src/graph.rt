@@ -75,31 +75,13 @@ fn index_in_row(len: u32, slot: Slot) -> Option<u32>
     }
 }
 
-/// Whether two slots are one.
-fn is_same_slot(a: Slot, b: Slot) -> bool
-    ensures { result ≡ same_slot a b }
-{
-    match (a, b) {
-        (Slot::Field(i), Slot::Field(j))
-        | (Slot::Element(i), Slot::Element(j))
-        | (Slot::Static(i), Slot::Static(j))
-        | (Slot::Const(i), Slot::Const(j)) => i == j,
-        (Slot::OfClass, Slot::OfClass)
-        | (Slot::Super, Slot::Super)
-        | (Slot::Loader, Slot::Loader)
-        | (Slot::Signers, Slot::Signers)
-        | (Slot::Domain, Slot::Domain) => true,
-        _ => false,
-    }
-}
-
 /// The index of a slot among names, if it is there.
 fn index_among(names: &[Slot], slot: Slot) -> Option<u32>
     requires { length names.now < 2 ^ 32 }
     ensures { result ≡ position (λ (name : Slot). same_slot name slot) names.now }
 {
     for i in 0..names.len() {
-        if is_same_slot(names[i], slot) {
+        if names[i] == slot {
             return Some(i as u32);
         }
     }
@@ -151,7 +133,7 @@ fn kind_of_slot(shape: Shape<'_>, slot: Slot) -> EdgeKind
 {
     if let Shape::Instance(layout) = shape
         && let Some(referent) = layout.referent
-        && is_same_slot(slot, referent)
+        && slot == referent
     {
         return layout.kind;
     }

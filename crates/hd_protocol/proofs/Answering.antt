@@ -8,7 +8,7 @@ use Rattle.hd_terms.specs.declared.errors.Refusal.{Refusal}
 use Rattle.hd_terms.specs.Edges.{index_of}
 use Rattle.hd_terms.specs.Lines.{command_of, is_quit, is_quit_command}
 use Rattle.hd_terms.specs.Asking.{asked}
-use Rattle.hd_terms.specs.Replies.{RepliesTo, RepliesSlots, RepliesDone, answered, event_line, refused, refusal_name, out_of_memory_reply, takes_memory}
+use Rattle.hd_terms.specs.Replies.{RepliesTo, RepliesSlots, answered, event_line, refused, refusal_name, out_of_memory_reply, takes_memory}
 use Rattle.hd_terms.specs.Sessions.{IsTurn, event_by, with_event}
 use Rattle.hd_terms.specs.Sessions as sessions
 use Rattle.hd_state.specs.declared.state.Done.{Done}

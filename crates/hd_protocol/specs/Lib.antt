@@ -1,4 +1,5 @@
 pub mod Words
+pub mod SlotWords
 pub mod Replying
 pub mod Editing
 pub mod Answering

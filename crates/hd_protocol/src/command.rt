@@ -1,10 +1,12 @@
 //! The commands that lines spell.
-ghost use Rattle.std.specs.Prelude.{◌≡◌, ◌≢◌, ℕ, ◌<◌, ◌≤◌, [], ◌∷◌, length, drop, slice_index, MatchOption, IfSome};
+ghost use Rattle.std.specs.Prelude.{◌≡◌, ◌≢◌, ℕ, ◌<◌, ◌≤◌, [], ◌∷◌, length, drop, slice_index, MatchOption};
 ghost use Rattle.std.specs.Io.BufRead.{strip_last};
 ghost use Rattle.std.specs.Option.{option_and_then, option_copied};
-ghost use Rattle.hd_terms.specs.Lines.{command_of, strength_command, slots_command, cut_command, undo_command, quit_command, only_word, id_of_word, number_of_word, slot_of_word, numbered_slot, hex_digit, digit_in, number_in};
+ghost use Rattle.hd_terms.specs.Lines.{command_of, strength_command, slots_command, cut_command, undo_command, quit_command, only_word, id_of_word, number_of_word, slot_of_word};
 ghost use Rattle.hd_protocol.specs.Words.{words_between};
 
+use crate::numbers::{read_number, read_small};
+use crate::slot_words::read_slot;
 use hd_terms::{Command, Edit, LineFault, Slot};
 
 /// The most bytes of a line before its newline.
@@ -183,89 +185,4 @@ fn read_id(word: &[u8]) -> Option<u64>
         return None;
     }
     read_number(16, &word[2..])
-}
-
-/// The slot that a word spells.
-fn read_slot(word: &[u8]) -> Option<Slot>
-    ensures { result ≡ slot_of_word word.now }
-{
-    if word == b"class".as_slice() {
-        Some(Slot::OfClass)
-    } else if word == b"super".as_slice() {
-        Some(Slot::Super)
-    } else if word == b"loader".as_slice() {
-        Some(Slot::Loader)
-    } else if word == b"signers".as_slice() {
-        Some(Slot::Signers)
-    } else if word == b"domain".as_slice() {
-        Some(Slot::Domain)
-    } else {
-        read_numbered_slot(word)
-    }
-}
-
-/// The slot that a letter and a number spell.
-fn read_numbered_slot(word: &[u8]) -> Option<Slot>
-    ensures { result ≡ numbered_slot word.now }
-{
-    let (letter, digits) = word.split_first()?;
-    let number = read_small(digits)?;
-    match *letter {
-        b'f' => Some(Slot::Field(number)),
-        b'e' => Some(Slot::Element(number)),
-        b's' => Some(Slot::Static(number)),
-        b'k' => Some(Slot::Const(number)),
-        _ => None,
-    }
-}
-
-/// The number of at most 32 bits that 1 to 10 decimal digits spell.
-fn read_small(word: &[u8]) -> Option<u32>
-    ensures { result ≡ number_of_word word.now }
-{
-    if word.is_empty() || word.len() > 10 {
-        return None;
-    }
-    let number = read_number(10, word)?;
-    if number > u64::from(u32::MAX) {
-        return None;
-    }
-    Some(number as u32)
-}
-
-/// The number that digits of a base of at most 16 spell.
-fn read_number(base: u64, digits: &[u8]) -> Option<u64>
-    requires base { base ≤ 16 }
-    requires few { length digits.now ≤ 16 }
-    ensures { result ≡ number_in base digits.now }
-{
-    let mut number = 0;
-    for byte in digits {
-        let Some(digit) = digit_of(base, *byte) else {
-            return None;
-        };
-        number = base * number + digit;
-    }
-    Some(number)
-}
-
-/// The value of a digit in a base of at most 16.
-fn digit_of(base: u64, byte: u8) -> Option<u64>
-    ensures value { result ≡ digit_in base byte }
-    ensures small { IfSome result (λ digit. digit < base) }
-{
-    let digit = hexadecimal(byte)?;
-    if digit < base { Some(digit) } else { None }
-}
-
-/// The value of a hexadecimal digit of either case.
-fn hexadecimal(byte: u8) -> Option<u64>
-    ensures { result ≡ hex_digit byte }
-{
-    match byte {
-        b'0'..=b'9' => Some(u64::from(byte - b'0')),
-        b'a'..=b'f' => Some(u64::from(byte - b'a' + 10)),
-        b'A'..=b'F' => Some(u64::from(byte - b'A' + 10)),
-        _ => None,
-    }
 }

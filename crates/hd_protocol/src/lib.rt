@@ -4,10 +4,12 @@
 mod command;
 mod edit;
 mod fixed_buffer;
+mod numbers;
 mod reply;
 mod run;
 mod sample;
 mod serving;
+mod slot_words;
 mod slots;
 mod stat;
 

@@ -2,10 +2,11 @@
 ghost use Rattle.std.specs.Prelude.{◌≡◌, ◌<◌, ◌++◌, ◌∷◌, [], length, map, string_bytes, IfOk, OnOk};
 ghost use Rattle.hd_terms.specs.Dump.{object_at};
 ghost use Rattle.hd_terms.specs.SlotRows.{slot_rows};
-ghost use Rattle.hd_terms.specs.Replies.{answered, slot_line, slot_name, kind_name, mode_name};
+ghost use Rattle.hd_terms.specs.Replies.{answered, slot_line, kind_name, mode_name};
 
+use crate::slot_words::put_slot;
 use hd_state::State;
-use hd_terms::{EdgeKind, NoMemory, Slot, SlotMode, SlotRow};
+use hd_terms::{EdgeKind, NoMemory, SlotMode, SlotRow};
 use std::alloc::{AllocError, Global};
 use std::fmt::Write;
 
@@ -41,24 +42,6 @@ fn put_row(text: &mut String, row: SlotRow) -> Result<(), AllocError>
     let id = row.id;
     let mode = mode_text(row.mode);
     writeln!(text, " {kind} 0x{id:x} {mode}")?;
-    Ok(())
-}
-
-/// Puts the name of a slot behind a text.
-fn put_slot(text: &mut String, slot: Slot) -> Result<(), AllocError>
-    ensures { OnOk result (string_bytes text.new ≡ string_bytes text.old ++ slot_name slot) }
-{
-    match slot {
-        Slot::Field(i) => write!(text, "f{i}")?,
-        Slot::Element(i) => write!(text, "e{i}")?,
-        Slot::Static(i) => write!(text, "s{i}")?,
-        Slot::Const(i) => write!(text, "k{i}")?,
-        Slot::OfClass => text.push_str("class")?,
-        Slot::Super => text.push_str("super")?,
-        Slot::Loader => text.push_str("loader")?,
-        Slot::Signers => text.push_str("signers")?,
-        Slot::Domain => text.push_str("domain")?,
-    }
     Ok(())
 }
 

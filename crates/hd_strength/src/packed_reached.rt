@@ -1,26 +1,19 @@
 //! What is kept of one object, in 24 bytes.
-ghost use Rattle.std.specs.Prelude.{◌≡◌, ℕ};
+ghost use Rattle.std.specs.Prelude.{◌≡◌};
 ghost use Rattle.hd_terms.specs.Settled.{unreached};
 ghost use Rattle.hd_terms.specs.declared.Support.TheVariants as supports;
-ghost use Rattle.hd_strength.specs.PackedReached.{reached_by_root, support_by, IsSlotNumber};
+ghost use Rattle.hd_strength.specs.PackedReached.{reached_by_root};
 
-use hd_terms::{Slot, Strength, Support};
+use hd_terms::{Slot, SlotKind, Strength, Support};
 use std::marker::Model;
 
-/// What an object owes its strength to: nothing, a root, or an edge from a slot of this kind.
+/// What an object owes its strength to.
 #[derive(Clone, Copy, Debug)]
 enum How {
     Nothing,
     Root,
-    Field,
-    Element,
-    Static,
-    Const,
-    OfClass,
-    Super,
-    Loader,
-    Signers,
-    Domain,
+    /// An edge from a slot.
+    Edge,
 }
 
 /// What is kept of one object. The number is that of the root or of the slot.
@@ -30,6 +23,8 @@ pub struct PackedReached {
     number: u64,
     source: u32,
     how: How,
+    /// The kind of the slot that the edge is from, any kind where there is no edge.
+    slot: SlotKind,
     strength: Strength,
 }
 
@@ -42,7 +37,7 @@ impl Model for PackedReached {
 
     ghost use Rattle.hd_strength.specs.PackedReached.{support_by, IsSlotNumber};
 
-    ghost view = { λ h. record { strength = h.strength; support = support_by h.how h.source h.number; stamp = h.stamp } };
+    ghost view = { λ h. record { strength = h.strength; support = support_by h.how h.source h.slot h.number; stamp = h.stamp } };
 
     ghost invariant = { λ h. IsSlotNumber h.how h.number };
 }
@@ -57,6 +52,7 @@ impl PackedReached {
             number: 0,
             source: 0,
             how: How::Nothing,
+            slot: SlotKind::OfClass,
             strength: Strength::Unreachable,
         }
     }
@@ -70,6 +66,7 @@ impl PackedReached {
             number: root,
             source: 0,
             how: How::Root,
+            slot: SlotKind::OfClass,
             strength: Strength::Strong,
         }
     }
@@ -78,12 +75,13 @@ impl PackedReached {
     pub fn by_edge(strength: Strength, source: u32, slot: Slot, stamp: u64) -> PackedReached
         ensures { result ≡ record { strength = strength; support = supports.Edge source slot; stamp = stamp } }
     {
-        let (how, number) = slot_parts(slot);
+        let (slot, number) = slot.parts();
         PackedReached {
             stamp,
             number: u64::from(number),
             source,
-            how,
+            how: How::Edge,
+            slot,
             strength,
         }
     }
@@ -99,21 +97,14 @@ impl PackedReached {
     pub fn support(&self) -> Support
         ensures { result ≡ self.now.support }
     {
-        let source = self.source;
-        let slot = match self.how {
-            How::Nothing => return Support::Nothing,
-            How::Root => return Support::Root(self.number),
-            How::Field => Slot::Field(self.number as u32),
-            How::Element => Slot::Element(self.number as u32),
-            How::Static => Slot::Static(self.number as u32),
-            How::Const => Slot::Const(self.number as u32),
-            How::OfClass => Slot::OfClass,
-            How::Super => Slot::Super,
-            How::Loader => Slot::Loader,
-            How::Signers => Slot::Signers,
-            How::Domain => Slot::Domain,
-        };
-        Support::Edge { source, slot }
+        match self.how {
+            How::Nothing => Support::Nothing,
+            How::Root => Support::Root(self.number),
+            How::Edge => Support::Edge {
+                source: self.source,
+                slot: self.slot.slot(self.number as u32),
+            },
+        }
     }
 
     /// The number that orders objects of one strength.
@@ -121,23 +112,5 @@ impl PackedReached {
         ensures { result ≡ self.now.stamp }
     {
         self.stamp
-    }
-}
-
-/// A slot's kind and number.
-fn slot_parts(slot: Slot) -> (How, u32)
-    ensures support { (source : ℕ) → support_by result.0 source result.1 ≡ supports.Edge source slot }
-    ensures number { IsSlotNumber result.0 result.1 }
-{
-    match slot {
-        Slot::Field(number) => (How::Field, number),
-        Slot::Element(number) => (How::Element, number),
-        Slot::Static(number) => (How::Static, number),
-        Slot::Const(number) => (How::Const, number),
-        Slot::OfClass => (How::OfClass, 0),
-        Slot::Super => (How::Super, 0),
-        Slot::Loader => (How::Loader, 0),
-        Slot::Signers => (How::Signers, 0),
-        Slot::Domain => (How::Domain, 0),
     }
 }

@@ -12,6 +12,7 @@ pub mod HeapFaults
 pub mod Dump
 pub mod Groups
 pub mod Slots
+pub mod SlotKinds
 pub mod Edges
 pub mod Roots
 pub mod Objects

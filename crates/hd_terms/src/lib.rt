@@ -9,6 +9,7 @@ mod commands;
 mod errors;
 mod examples;
 mod laws;
+mod slots;
 mod types;
 
 ghost use Rattle.std.specs.Prelude.{◌≡◌, ◌≤◌, length};
@@ -26,6 +27,7 @@ pub use examples::{
 pub use laws::{
     class_chains, lawful_logs, one_reading, one_strength, settled_supports_give_strengths,
 };
+pub use slots::SlotKind;
 pub use types::{element_len, is_id_type, value_len};
 
 /// How well an object can be reached, the worst first.

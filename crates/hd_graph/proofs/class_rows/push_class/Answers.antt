@@ -1,4 +1,4 @@
-use Rattle.std.proofs.Common.{◌∙◌, ℕ, ◌+◌, List, ◌++◌, length, map, ap, sym, subst, arith}
+use Rattle.std.proofs.Common.{◌∙◌, ℕ, List, ◌++◌, length, map, ap, sym, subst, arith}
 use Rattle.std.proofs.lemmas.List.{length-map}
 use Rattle.hd_terms.specs.declared.IdSize.{IdSize}
 use Rattle.hd_terms.specs.declared.Slot.{Slot}
