@@ -1,5 +1,3 @@
-pub mod Words
-pub mod Digits
 pub mod Writing
 pub mod Lines
 pub mod Turns

@@ -1,5 +1,3 @@
-pub mod Words
-pub mod SlotWords
 pub mod Replying
 pub mod Editing
 pub mod Answering

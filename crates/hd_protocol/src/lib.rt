@@ -1,19 +1,16 @@
 //! What an analyst says and hears: lines become commands, commands run over a dump's state, and each is replied to.
 #![tactic(auto)]
 
-mod command;
 mod edit;
 mod fixed_buffer;
-mod numbers;
 mod reply;
 mod run;
 mod sample;
 mod serving;
-mod slot_words;
 mod slots;
 mod stat;
 
-pub use command::{LONGEST_LINE, read_command};
+pub use hd_words::{LONGEST_LINE, read_command};
 pub use run::{RunFault, open_bytes, run_bytes};
 pub use sample::SAMPLE;
 pub use serving::{ServeFault, serve};

@@ -4,11 +4,11 @@ ghost use Rattle.std.specs.Io.KnownBytes.{Keeps, Appends, Consumes, IsAtEnd};
 ghost use Rattle.hd_terms.specs.Lines.{is_quit_command};
 ghost use Rattle.hd_protocol.specs.Serving.{kept_of, midway, RunsLine, RunsBytes, RunsEnd, Serves};
 
-use crate::command::{LONGEST_LINE, read_command};
 use crate::fixed_buffer::FixedBuffer;
 use crate::reply::{LONGEST_REPLY, answer};
 use hd_state::State;
 use hd_terms::{Command, LineFault};
+use hd_words::{LONGEST_LINE, read_command};
 use std::alloc::{AllocError, Global};
 use std::io::{BufRead, Write};
 use thiserror::Error;

@@ -4,9 +4,9 @@ ghost use Rattle.hd_terms.specs.Dump.{object_at};
 ghost use Rattle.hd_terms.specs.SlotRows.{slot_rows};
 ghost use Rattle.hd_terms.specs.Replies.{answered, slot_line, kind_name, mode_name};
 
-use crate::slot_words::put_slot;
 use hd_state::State;
 use hd_terms::{EdgeKind, NoMemory, SlotMode, SlotRow};
+use hd_words::put_slot;
 use std::alloc::{AllocError, Global};
 use std::fmt::Write;
 

@@ -6,7 +6,7 @@ use Rattle.std.proofs.lemmas.Bool.{cases_lt, lt-ltb}
 use Rattle.std.proofs.lemmas.List.{drop_more, drop_all, take_rest}
 use Rattle.std.proofs.lemmas.List.Elements.{All-from_get_or}
 use Rattle.std.proofs.lemmas.List.Splits.{slice_split_none, slice_split_at, slice_split-cons_yes}
-use Rattle.hd_protocol.specs.Words.{words_between}
+use Rattle.hd_words.specs.Words.{words_between}
 
 -- a space before the words changes nothing
 pub words_after_space : (b : ℕ) (bs : List ℕ) → b ≡ 32 → words_between (b ∷ bs) ≡ words_between bs

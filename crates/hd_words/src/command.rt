@@ -3,7 +3,7 @@ ghost use Rattle.std.specs.Prelude.{◌≡◌, ◌≢◌, ℕ, ◌<◌, ◌≤�
 ghost use Rattle.std.specs.Io.BufRead.{strip_last};
 ghost use Rattle.std.specs.Option.{option_and_then, option_copied};
 ghost use Rattle.hd_terms.specs.Lines.{command_of, strength_command, slots_command, cut_command, undo_command, quit_command, only_word, id_of_word, number_of_word, slot_of_word};
-ghost use Rattle.hd_protocol.specs.Words.{words_between};
+ghost use Rattle.hd_words.specs.Words.{words_between};
 
 use crate::numbers::{read_number, read_small};
 use crate::slot_words::read_slot;

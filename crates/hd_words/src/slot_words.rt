@@ -4,7 +4,7 @@ ghost use Rattle.std.specs.Option.{option_map};
 ghost use Rattle.hd_terms.specs.SlotKinds.{slot_of};
 ghost use Rattle.hd_terms.specs.Lines.{slot_of_word, numbered_slot, lettered_slot};
 ghost use Rattle.hd_terms.specs.Replies.{slot_name};
-ghost use Rattle.hd_protocol.specs.SlotWords.{kind_word, has_number};
+ghost use Rattle.hd_words.specs.SlotWords.{kind_word, has_number};
 
 use crate::numbers::read_small;
 use hd_terms::{Slot, SlotKind};
@@ -39,7 +39,7 @@ fn is_numbered(kind: SlotKind) -> bool
 }
 
 /// Puts the name of a slot behind a text.
-pub(crate) fn put_slot(text: &mut String, slot: Slot) -> Result<(), AllocError>
+pub fn put_slot(text: &mut String, slot: Slot) -> Result<(), AllocError>
     ensures { OnOk result (string_bytes text.new ≡ string_bytes text.old ++ slot_name slot) }
 {
     let (kind, number) = slot.parts();

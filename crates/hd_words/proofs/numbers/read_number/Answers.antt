@@ -1,7 +1,7 @@
 use Rattle.std.proofs.Common.{◌<◌, ◌≤◌, ◌*◌, ◌∙◌, sym, arith}
 use Rattle.std.proofs.Math.Nat.{mul-le-mul_right}
-use Rattle.hd_protocol.proofs.Digits.{digit_next, digit_none, digits_fit, digits_grow, least_growth}
-use Rattle.hd_protocol.proofs.numbers.read_number.Goals as goal
+use Rattle.hd_words.proofs.Digits.{digit_next, digit_none, digits_fit, digits_grow, least_growth}
+use Rattle.hd_words.proofs.numbers.read_number.Goals as goal
 
 pub returns-in_default : goal.returns-in_default
 returns-in_default c =
