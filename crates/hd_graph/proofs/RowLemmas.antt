@@ -14,9 +14,9 @@ use Rattle.hd_slots.specs.Table.{Table, id_at}
 use Rattle.hd_graph.specs.Shapes.{ObjectShape, ObjectArray, PrimitiveArray, ClassObject}
 use Rattle.hd_terms.specs.Types.{element_len}
 use Rattle.hd_terms.specs.FirstRecords.{id_of_item}
-use Rattle.hd_terms.specs.Classes.{ResolvedClass}
+use Rattle.hd_terms.specs.Classes.{ResolvedClass, KnownClasses}
 use Rattle.hd_classes.specs.Firsts.{firsts, firsts_from}
-use Rattle.hd_graph.specs.ArrayRows.{ObjectEntry, KnownBy, fitting, instance_entry, object_id, object_ids, entry_of, entry_of_item, array_row, entries_of, id_count, ids_in, item_weight, class_row, class_names, static_bytes, weight}
+use Rattle.hd_graph.specs.ArrayRows.{ObjectEntry, fitting, instance_entry, object_id, object_ids, entry_of, entry_of_item, array_row, entries_of, id_count, ids_in, item_weight, class_row, class_names, static_bytes, weight}
 use Rattle.hd_terms.specs.Records.{id_len}
 use Rattle.hd_graph.proofs.NumberLemmas.{take-next}
 use Rattle.hd_graph.specs.Building.{Columns, AddsNext, FillsItem}
@@ -41,7 +41,7 @@ id-of-instance bytes size id class values None = refl
 id-of-instance bytes size id class values (Some k) = refl
 
 -- the rows and shapes of the objects so far, over the file, and how many IDs they have at most
-pub record IsFilledSoFar (known : KnownBy) (bytes : List ℕ) (size : IdSize) (front : List Sub) (ids : List ℕ) (c : Columns) : Type 0 where
+pub record IsFilledSoFar (known : KnownClasses) (bytes : List ℕ) (size : IdSize) (front : List Sub) (ids : List ℕ) (c : Columns) : Type 0 where
   pub bytes_are : c.table.bytes ≡ bytes
   pub size_is : c.table.size ≡ size
   pub ids_are : c.table.ids ≡ ids
@@ -51,7 +51,7 @@ pub record IsFilledSoFar (known : KnownBy) (bytes : List ℕ) (size : IdSize) (f
   pub few : c.table.count ≤ weight front
 
 -- the IDs of the objects are those of the sub-records
-pub ids-of-entries : (known : KnownBy) (bytes : List ℕ) (size : IdSize) (list : List Sub) → filter_map object_id list ≡ map id_of_entry (filter_map (entry_of known bytes size) list)
+pub ids-of-entries : (known : KnownClasses) (bytes : List ℕ) (size : IdSize) (list : List Sub) → filter_map object_id list ≡ map id_of_entry (filter_map (entry_of known bytes size) list)
 ids-of-entries known bytes size [] = refl
 ids-of-entries known bytes size (s ∷ list) = by_item s.item (ids-of-entries known bytes size list)
   where
@@ -115,12 +115,12 @@ id_count-le sizes.Eight span = omega arith
 pub weight-push : (front : List Sub) (s : Sub) → weight (front ++ s ∷ []) ≡ weight front + item_weight s.item
 weight-push front s = omega (arith, sum_by-append (λ (x : Sub). item_weight x.item) front (s ∷ []))
 
-arrays-push : (known : KnownBy) (bytes : List ℕ) (size : IdSize) (front : List Sub) (at : ℕ) (i : Item)
+arrays-push : (known : KnownClasses) (bytes : List ℕ) (size : IdSize) (front : List Sub) (at : ℕ) (i : Item)
     → filter_map (entry_of known bytes size) (front ++ (record { offset = at; item = i }) ∷ []) ≡ filter_map (entry_of known bytes size) front ++ cons_option (entry_of_item known bytes size i) []
 arrays-push known bytes size front at i = filter_map-append (entry_of known bytes size) front ((record { offset = at; item = i }) ∷ [])
 
 -- one more sub-record
-module _ (known : KnownBy) (bytes : List ℕ) (size : IdSize) (front : List Sub) (at : ℕ) (after : List Sub) (old new : Columns) where
+module _ (known : KnownClasses) (bytes : List ℕ) (size : IdSize) (front : List Sub) (at : ℕ) (after : List Sub) (old new : Columns) where
   abbrev sub : Item → Sub
   sub i = record { offset = at; item = i }
 
@@ -201,7 +201,7 @@ module _ (known : KnownBy) (bytes : List ℕ) (size : IdSize) (front : List Sub)
   fill-push (PrimArray id element count) h adds = fill-object (PrimArray id element count) (id, [], PrimitiveArray element (count * element_len element)) refl refl h adds
 
 -- there are no more shapes than sub-records
-pub few-shapes : (known : KnownBy) (bytes : List ℕ) (size : IdSize) (front : List Sub) (ids : List ℕ) (c : Columns) → IsFilledSoFar known bytes size front ids c → length c.shapes ≤ length front
+pub few-shapes : (known : KnownClasses) (bytes : List ℕ) (size : IdSize) (front : List Sub) (ids : List ℕ) (c : Columns) → IsFilledSoFar known bytes size front ids c → length c.shapes ≤ length front
 few-shapes known bytes size front ids c h =
     omega (
       arith,
@@ -215,7 +215,7 @@ few-shapes known bytes size front ids c h =
 pub split-at-place : (list : List Sub) (i : ℕ) (s : Sub) → slice_get list i ≡ Some s → list ≡ take i list ++ s ∷ drop (i + 1) list
 split-at-place list i s is = sym (take-append-drop (i + 1) list) ∙ ap (λ (xs : List Sub). xs ++ drop (i + 1) list) (take-next list i s is) ∙ append_assoc (take i list) (s ∷ []) (drop (i + 1) list)
 
-pub fill-next : (known : KnownBy) (bytes : List ℕ) (size : IdSize) (list : List Sub) (i : ℕ) (s : Sub) → slice_get list i ≡ Some s → (old new : Columns)
+pub fill-next : (known : KnownClasses) (bytes : List ℕ) (size : IdSize) (list : List Sub) (i : ℕ) (s : Sub) → slice_get list i ≡ Some s → (old new : Columns)
     → IsFilledSoFar known bytes size (take i list) (object_ids list) old → FillsItem known old.table.bytes old.table.size s.item old new → IsFilledSoFar known bytes size (take (i + 1) list) (object_ids list) new
 fill-next known bytes size list i s is old new h fills =
     let whole : object_ids list ≡ object_ids (take i list ++ s ∷ drop (i + 1) list) = ap object_ids (split-at-place list i s is) in
