@@ -209,7 +209,7 @@ module _ (known : KnownClasses) (size : IdSize) where
       (ap (λ (b : Bool). cond b (fault_if true causes.NullObject s) (fault_if (is_size_mismatch known size s.item) causes.InstanceSize s)) (ne_eqb id 0 (λ e. omega (arith, e, some)))
       ∙ ap (λ (m : Bool). fault_if m causes.InstanceSize s) wrong))
 
--- the sub-record at a place is the one after those before it
+-- the sub-record at an index is the one after those before it
 pub take-next : (list : List Sub) (i : ℕ) (s : Sub) → slice_get list i ≡ Some s → take (i + 1) list ≡ take i list ++ s ∷ []
 take-next list i s is = take_more list i s (slice_get_within list i s is) ∙ ap (λ (x : Sub). take i list ++ x ∷ []) (get_or_from_slice_get list i s s is)
 
@@ -224,11 +224,11 @@ pub null-stop : (known : KnownClasses) (size : IdSize) (item : Item) (id offset 
 null-stop known size item id offset ids f (inl e) = subst (IsObjectStop known size item id offset ids) (sym e) memory
 null-stop known size item id offset ids f (inr (zero_id, e)) = subst (IsObjectStop known size item id offset ids) (sym e) (null zero_id)
 
--- a list is what stands before a place, what stands there, and what stands after it
+-- a list is what stands before an index, what stands there, and what stands after it
 pub split-here : (list : List Sub) (i : ℕ) (s : Sub) → slice_get list i ≡ Some s → list ≡ take i list ++ s ∷ drop (i + 1) list
 split-here list i s is = sym (take-append-drop (i + 1) list) ∙ ap (λ (xs : List Sub). xs ++ drop (i + 1) list) (take-next list i s is) ∙ append_assoc (take i list) (s ∷ []) (drop (i + 1) list)
 
--- a fault of the sub-record at a place is the first of all
+-- a fault of the sub-record at an index is the first of all
 pub lifted : (known : KnownClasses) (size : IdSize) (list : List Sub) (i : ℕ) (s : Sub) (ids : List ℕ) (roots : List RootRow) (tally : Tally) (f : ReadFault) → slice_get list i ≡ Some s
     → IsNumbered known size (take i list) ids roots tally → StopsAt known size s ids f → IsObjectFaultOrMemory known size list f
 lifted known size list i s ids roots tally f is h (inl out_of_memory_reply) = inl out_of_memory_reply
