@@ -78,8 +78,8 @@ fn answer(rt: &impl Print, state: &State, id: u64) -> Result<()> {
 /// The first slot of an object that refers to an object.
 fn first_reference(graph: &Graph, id: u64) -> Option<Slot> {
     let o = graph.index_of(id)?;
-    for place in 0..graph.slots_len(o) {
-        let read = graph.slots(o, place);
+    for index in 0..graph.slots_len(o) {
+        let read = graph.slots(o, index);
         if read.target.is_some() {
             return Some(read.slot);
         }

@@ -4,3 +4,4 @@ pub mod Spans
 pub mod FewLemmas
 pub mod JoinLemmas
 pub mod PartLemmas
+pub mod ShareLemmas

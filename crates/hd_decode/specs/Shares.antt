@@ -1,5 +1,5 @@
 -- How segments are shared out among workers, and what the workers' parts come to.
-use Rattle.std.specs.Prelude.{◌≡◌, ◌⊎◌, ℕ, ◌+◌, ◌/◌, List, [], ◌∷◌, ◌++◌, length, map, take, sum_by, slice_index_or, Result, Ok, Err}
+use Rattle.std.specs.Prelude.{◌≡◌, ◌⊎◌, ℕ, zero, suc, ◌+◌, ◌/◌, ◌<◌, ◌≤◌, List, [], ◌∷◌, ◌++◌, length, map, take, drop, sum_by, slice_index_or, Result, Ok, Err}
 use Rattle.std.specs.List.{flat_map}
 use denote.Ref.{Bor}
 use Rattle.hd_terms.specs.declared.IdSize.{IdSize}
@@ -26,6 +26,24 @@ shared shares = flat_map (λ (share : Bor (List Span)). share.now) shares
 pub record AreShares (spans : List Span) (workers : ℕ) (shares : List (Bor (List Span))) : Type 0 where
   pub many : length shares ≡ workers
   pub all : shared shares ≡ spans
+
+-- the longest front of segments whose middles lie within so many bytes
+pub record IsLongestFront (spans : List Span) (bytes : ℕ) (front : List Span) : Type 0 where
+  pub is : front ≡ take (length front) spans
+  pub within : (i : ℕ) → i < length front → middle spans i ≤ bytes
+  pub longest : length front < length spans → bytes < middle spans (length front)
+
+-- the share of a worker with so many others behind it: the last has all segments; one before others has the longest front
+-- whose middles lie within its part of the bytes, which is as large as each of theirs
+abbrev pub IsFirstShare : List Span → ℕ → List Span → Type 0
+IsFirstShare spans zero share = share ≡ spans
+IsFirstShare spans (suc others) share = IsLongestFront spans (span_total spans / (others + 2)) share
+
+-- segments are shared out among workers: the first has its share, and what is behind it is shared out among the others
+abbrev pub IsSharedOut : List Span → ℕ → List (Bor (List Span)) → Type 0
+IsSharedOut spans zero shares = shares ≡ []
+IsSharedOut spans (suc others) [] = ⊥
+IsSharedOut spans (suc others) (share ∷ shares) = IsFirstShare spans others share.now × IsSharedOut (drop (length share.now) spans) others shares
 
 -- the share of a worker
 abbrev pub share_at : List (Bor (List Span)) → ℕ → List Span

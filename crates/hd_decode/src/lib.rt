@@ -7,3 +7,4 @@ mod shares;
 
 pub use decoding::decode;
 pub use gate::{Gate, NoGate};
+pub use shares::shares_of;

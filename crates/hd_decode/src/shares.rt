@@ -1,7 +1,7 @@
 //! Sharing segments out among workers, by their bytes.
 ghost use Rattle.std.specs.Prelude.{◌≡◌, ◌≤◌, ◌<◌, ℕ, length, IfOk};
 ghost use Rattle.hd_decode.specs.Bodies.{span_total};
-ghost use Rattle.hd_decode.specs.Shares.{AreShares, middle};
+ghost use Rattle.hd_decode.specs.Shares.{AreShares, IsSharedOut, middle};
 
 use hd_terms::Span;
 use std::alloc::{AllocError, Global};
@@ -37,14 +37,18 @@ fn share_len(spans: &[Span], bytes: u64) -> usize
 }
 
 /// The segments that each worker decodes, in file order, about as many bytes for one as for another. A worker may get none.
-pub(crate) fn shares_of(
-    alloc: Global,
-    spans: &[Span],
-    workers: u32,
-) -> Result<Vec<&[Span]>, AllocError>
+///
+/// A worker's part is the bytes that are left, divided by the workers that are left. Its share ends before the first segment
+/// whose middle lies past that part. The last worker has the rest.
+///
+/// # Errors
+///
+/// Memory ran out.
+pub fn shares_of(alloc: Global, spans: &[Span], workers: u32) -> Result<Vec<&[Span]>, AllocError>
     requires few { span_total spans.now ≤ 2147483647 }
     requires some { 1 ≤ workers }
-    ensures { IfOk result (λ shares. AreShares spans.now workers shares.items) }
+    ensures all { IfOk result (λ shares. AreShares spans.now workers shares.items) }
+    ensures parts { IfOk result (λ shares. IsSharedOut spans.now workers shares.items) }
 {
     let mut shares = Vec::with_capacity(alloc, workers as usize)?;
     let mut rest = spans;

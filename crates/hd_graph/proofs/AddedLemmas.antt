@@ -18,7 +18,7 @@ use Rattle.hd_graph.proofs.ValueLemmas.{ids-le, length-static-values, length-con
 pub grown-room : (bytes : List ℕ) (size : IdSize) (vs : List (ℕ × Span)) (t u : Table) → GrowsBy (value_ids bytes size vs) t u → (length u.ids ≡ length t.ids) × (u.count ≤ t.count + length vs)
 grown-room bytes size vs t u e = (ap (λ (x : Table). length x.ids) e, omega (arith, ap (λ (x : Table). x.count) e, ids-le bytes size vs))
 
-module _ (c : ClassDump) (place : ℕ) (first second third fourth last : Table) (shapes shapes' : List ObjectShape) (ns ks all : List Slot) (b : ℕ) where
+module _ (c : ClassDump) (offset : ℕ) (first second third fourth last : Table) (shapes shapes' : List ObjectShape) (ns ks all : List Slot) (b : ℕ) where
   abbrev bytes : List ℕ
   bytes = first.bytes
 
@@ -38,12 +38,12 @@ module _ (c : ClassDump) (place : ℕ) (first second third fourth last : Table) 
   names = slots.Super ∷ slots.Loader ∷ slots.Signers ∷ slots.Domain ∷ []
 
   -- the links of the class, where they are read by the third table's file
-  links-are : HasLinks bytes size place (class_view c) → IsOver first third → GrowsBy (links_at third.bytes third.size place) third fourth → GrowsBy ids third fourth
+  links-are : HasLinks bytes size offset (class_view c) → IsOver first third → GrowsBy (links_at third.bytes third.size offset) third fourth → GrowsBy ids third fourth
   links-are links over grows =
-      subst (λ (xs : List ℕ). GrowsBy xs third fourth) links.are (over-same (λ (bs : List ℕ) (n : IdSize). GrowsBy (links_at bs n place) third fourth) first third over grows)
+      subst (λ (xs : List ℕ). GrowsBy xs third fourth) links.are (over-same (λ (bs : List ℕ) (n : IdSize). GrowsBy (links_at bs n offset) third fourth) first third over grows)
 
-  pub class-added : first.filling ≡ [] → HasLinks bytes size place (class_view c) → GrowsBy (value_ids bytes size statics) first second → GrowsBy (value_ids second.bytes second.size constants) second third
-      → GrowsBy (links_at third.bytes third.size place) third fourth
+  pub class-added : first.filling ≡ [] → HasLinks bytes size offset (class_view c) → GrowsBy (value_ids bytes size statics) first second → GrowsBy (value_ids second.bytes second.size constants) second third
+      → GrowsBy (links_at third.bytes third.size offset) third fourth
       → last ≡ record fourth { rows = fourth.rows ++ fourth.filling ∷ []; filling = [] }
       → ns ≡ value_names (λ i. slots.Static i) 0 statics → ks ≡ ns ++ value_names (λ i. slots.Const i) 0 constants → all ≡ ks ++ names
       → b ≡ static_bytes (map static_view c.statics.items) → shapes' ≡ shapes ++ ClassObject b all ∷ []
@@ -86,14 +86,14 @@ module _ (c : ClassDump) (place : ℕ) (first second third fourth last : Table) 
       }
 
 -- an instance's row and shape, once the IDs in its fields were added
-pub instance-added : (ids : List ℕ) (place weight : ℕ) (shape : ObjectShape) (first second third last : Table) (shapes shapes' : List ObjectShape) → first.filling ≡ [] → GrowsBy ids first second
-    → third ≡ record second { filling = second.filling ++ id_at second.bytes second.size place ∷ []; count = second.count + 1 } → last ≡ record third { rows = third.rows ++ third.filling ∷ []; filling = [] }
-    → length ids + 1 ≤ weight → shapes' ≡ shapes ++ shape ∷ [] → Adds (0, ids ++ id_at first.bytes first.size place ∷ [], shape) weight (columns first shapes) (columns last shapes')
-instance-added ids place weight shape first second third last shapes shapes' empty to_second grows_third to_last few shapes_are =
-    let class = id_at first.bytes first.size place in
+pub instance-added : (ids : List ℕ) (offset weight : ℕ) (shape : ObjectShape) (first second third last : Table) (shapes shapes' : List ObjectShape) → first.filling ≡ [] → GrowsBy ids first second
+    → third ≡ record second { filling = second.filling ++ id_at second.bytes second.size offset ∷ []; count = second.count + 1 } → last ≡ record third { rows = third.rows ++ third.filling ∷ []; filling = [] }
+    → length ids + 1 ≤ weight → shapes' ≡ shapes ++ shape ∷ [] → Adds (0, ids ++ id_at first.bytes first.size offset ∷ [], shape) weight (columns first shapes) (columns last shapes')
+instance-added ids offset weight shape first second third last shapes shapes' empty to_second grows_third to_last few shapes_are =
+    let class = id_at first.bytes first.size offset in
     let over = grown-over ids first second to_second in
     let to_third : third ≡ record second { filling = second.filling ++ class ∷ []; count = second.count + 1 } =
-    over-same (λ (bytes : List ℕ) (size : IdSize). third ≡ record second { filling = second.filling ++ id_at bytes size place ∷ []; count = second.count + 1 }) first second over grows_third in
+    over-same (λ (bytes : List ℕ) (size : IdSize). third ≡ record second { filling = second.filling ++ id_at bytes size offset ∷ []; count = second.count + 1 }) first second over grows_third in
     let filling : third.filling ≡ ids ++ class ∷ [] = ap (λ (t : Table). t.filling) to_third ∙ ap (λ (f : List ℕ). f ++ class ∷ []) (ap (λ (t : Table). t.filling) to_second ∙ ap (λ (f : List ℕ). f ++ ids) empty) in
     let rows : third.rows ≡ first.rows = ap (λ (t : Table). t.rows) to_third ∙ ap (λ (t : Table). t.rows) to_second in
     record {

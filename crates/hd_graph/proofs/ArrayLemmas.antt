@@ -38,7 +38,7 @@ prefix-row_objects wanted [] (id ∷ ids) (row ∷ rows) h = absurd (omega (arit
 prefix-row_objects wanted (shape ∷ shapes) (id ∷ ids) (row ∷ rows) h =
     ap (λ (n : ℕ). cond (not (eqb wanted id)) (1 + n) 0) (prefix-row_objects wanted shapes ids rows (rest-columns shape shapes id ids row rows h))
 
--- an ID has the place among the objects that it has among their IDs
+-- an ID has the index among the objects that it has among their IDs
 pub index_of-row_objects : (shapes : List ObjectShape) (wanted : ℕ) (ids : List ℕ) (rows : List (List ℕ)) → AreColumns shapes ids rows
     → index_of (row_objects shapes ids rows) wanted ≡ position (λ x. eqb wanted x) ids
 index_of-row_objects shapes wanted ids rows h =

@@ -68,7 +68,7 @@ some-bytes : (size : IdSize) → 1 ≤ id_len size
 some-bytes sizes.Four = omega arith
 some-bytes sizes.Eight = omega arith
 
--- an ID lies behind some bytes at a place
+-- an ID lies behind some bytes at an offset
 pub id-behind : (bytes : List ℕ) (size : IdSize) (at : ℕ) (front id rest : List ℕ) → drop at bytes ≡ front ++ (id ++ rest) → length id ≡ id_len size → HasIdAt bytes size (at + length front) (big_number (id_len size) id)
 id-behind bytes size at front id rest whole long =
     let there : drop (at + length front) bytes ≡ id ++ rest = sym (drop-drop (length front) at bytes) ∙ ap (drop (length front)) whole ∙ drop-append_seam front (id ++ rest) in
@@ -86,7 +86,7 @@ length-array_head size id serial count class a b c d =
     omega (arith, length-append (0x22 ∷ id ++ serial ++ count) class, length-append (0x22 ∷ id ++ serial) count, length-append (0x22 ∷ id) serial)
 
 module _ (bytes : List ℕ) (size : IdSize) where
-  -- an object array at a place
+  -- an object array at an offset
   module _ (at : ℕ) (id serial count class : List ℕ) (elements : List (List ℕ)) (rest : List ℕ) (is : IsSubRecord size (ObjectArray id serial count class elements))
       (whole : drop at bytes ≡ sub_record_text (ObjectArray id serial count class elements) ++ rest) where
     abbrev class_id : ℕ
@@ -99,8 +99,8 @@ module _ (bytes : List ℕ) (size : IdSize) where
     from_elements =
         let h = array_head id serial count class in
         let long = length-array_head size id serial count class is.0 is.1 is.2 is.3 in
-        let place : at + 9 + 2 * id_len size ≡ at + length h = omega arith in
-        ap (λ (n : ℕ). drop n bytes) place ∙ sym (drop-drop (length h) at bytes) ∙ ap (drop (length h)) (whole ∙ append_assoc h (concat elements) rest) ∙ drop-append_seam h (concat elements ++ rest)
+        let offset : at + 9 + 2 * id_len size ≡ at + length h = omega arith in
+        ap (λ (n : ℕ). drop n bytes) offset ∙ sym (drop-drop (length h) at bytes) ∙ ap (drop (length h)) (whole ∙ append_assoc h (concat elements) rest) ∙ drop-append_seam h (concat elements ++ rest)
 
     row_is : array_row bytes size class_id span ≡ map (big_number (id_len size)) elements ++ class_id ∷ []
     row_is =
@@ -133,14 +133,14 @@ module _ (bytes : List ℕ) (size : IdSize) where
     pub array-class : HasIdAt bytes size (at + 9 + id_len size) class_id
     array-class =
         let h : List ℕ = 0x22 ∷ id ++ serial ++ count in
-        let place : at + length h ≡ at + 9 + id_len size = omega (arith, length-append (0x22 ∷ id ++ serial) count, length-append (0x22 ∷ id) serial, is.0, is.1, is.2) in
-        subst (λ (p : ℕ). HasIdAt bytes size p class_id) place
+        let offset : at + length h ≡ at + 9 + id_len size = omega (arith, length-append (0x22 ∷ id ++ serial) count, length-append (0x22 ∷ id) serial, is.0, is.1, is.2) in
+        subst (λ (p : ℕ). HasIdAt bytes size p class_id) offset
         (id-behind bytes size at h class (concat elements ++ rest) (whole ∙ append_assoc (h ++ class) (concat elements) rest ∙ append_assoc h class (concat elements ++ rest)) is.3)
 
     pub array-weight : 1 + span.len ≤ length (sub_record_text (ObjectArray id serial count class elements))
     array-weight = omega (arith, text-long)
 
-  -- a primitive array at a place
+  -- a primitive array at an offset
   module _ (at : ℕ) (id serial count : List ℕ) (element : ℕ) (elements : List ℕ) (rest : List ℕ) (is : IsSubRecord size (PrimitiveArray id serial count element elements))
       (whole : drop at bytes ≡ sub_record_text (PrimitiveArray id serial count element elements) ++ rest) where
     elements-long : length elements ≡ big_number 4 count * element_len element

@@ -1,4 +1,4 @@
--- The class object of a CLASS DUMP at a place of the file.
+-- The class object of a CLASS DUMP at an offset of the file.
 use Rattle.std.proofs.Common.{◌≡◌, ◌∙◌, ℕ, suc, ◌+◌, ◌*◌, ◌≤◌, List, [], ◌∷◌, ◌++◌, length, drop, Bool, true, false, cond, Some, None, refl, sym, ap, subst, arith, append_assoc, length-append, All}
 use Rattle.std.specs.List.{AllByRecursion, flat_map}
 use Rattle.std.proofs.lemmas.List.{length-drop, drop-drop}
@@ -37,11 +37,11 @@ same_links : (a b c d a' b' c' d' : ℕ) → a ≡ a' → b ≡ b' → c ≡ c' 
 same_links a b c d a' b' c' d' p q r s = cc
 
 module _ (bytes : List ℕ) (size : IdSize) where
-  -- what stands behind some bytes at a place
+  -- what stands behind some bytes at an offset
   behind : (at : ℕ) (h x : List ℕ) → drop at bytes ≡ h ++ x → drop (at + length h) bytes ≡ x
   behind at h x whole = sym (drop-drop (length h) at bytes) ∙ ap (drop (length h)) whole ∙ drop-append_seam h x
 
-  -- types and values at a place, whose keys have n bytes
+  -- types and values at an offset, whose keys have n bytes
   located : ℕ → ℕ → List ClassValue → List (ℕ × Span)
   located n p [] = []
   located n p (v ∷ vs) = (v.code, record { start = p + n + 1; len = value_len size v.code }) ∷ located n (p + length (value_text v)) vs
@@ -55,8 +55,8 @@ module _ (bytes : List ℕ) (size : IdSize) where
   unfolding located
   constants-located p [] = refl
   constants-located p (v ∷ vs) =
-      let place : p + 3 ≡ p + 2 + 1 = omega arith in
-      ap (λ (at : ℕ). (v.code, record { start = at; len = value_len size v.code }) ∷ values_of_constants (constants_at size (p + length (value_text v)) vs)) place
+      let offset : p + 3 ≡ p + 2 + 1 = omega arith in
+      ap (λ (at : ℕ). (v.code, record { start = at; len = value_len size v.code }) ∷ values_of_constants (constants_at size (p + length (value_text v)) vs)) offset
       ∙ ap (λ (xs : List (ℕ × Span)). (v.code, record { start = p + 2 + 1; len = value_len size v.code }) ∷ xs) (constants-located (p + length (value_text v)) vs)
 
   -- the value of one, and what stands behind it
@@ -65,8 +65,8 @@ module _ (bytes : List ℕ) (size : IdSize) where
     value-there =
         let h : List ℕ = v.key ++ v.code ∷ [] in
         let long : length h ≡ n + 1 = omega (arith, length-append v.key (v.code ∷ []), is.key) in
-        let place : p + n + 1 ≡ p + length h = omega arith in
-        ap (λ (k : ℕ). drop k bytes) place ∙ behind p h (v.value ++ rest) (whole ∙ append_assoc v.key (v.code ∷ v.value) rest ∙ sym (append_assoc v.key (v.code ∷ []) (v.value ++ rest)))
+        let offset : p + n + 1 ≡ p + length h = omega arith in
+        ap (λ (k : ℕ). drop k bytes) offset ∙ behind p h (v.value ++ rest) (whole ∙ append_assoc v.key (v.code ∷ v.value) rest ∙ sym (append_assoc v.key (v.code ∷ []) (v.value ++ rest)))
 
     value-long : length (value_text v) ≡ n + 1 + value_len size v.code
     value-long = omega (arith, length-append v.key (v.code ∷ v.value), is.key, is.value)
@@ -79,7 +79,7 @@ module _ (bytes : List ℕ) (size : IdSize) where
         let long : length v.value ≡ id_len size = is.value ∙ ap (λ (b : Bool). cond b (id_len size) (element_len v.code)) id in
         ap (big_number (id_len size)) value-there ∙ big_from-append (id_len size) v.value rest (omega (arith, long))
 
-  -- the slots of values at a place
+  -- the slots of values at an offset
   slots-located : (slot : ℕ → Slot) (n i p : ℕ) (vs : List ClassValue) (rest : List ℕ) → drop p bytes ≡ flat_map value_text vs ++ rest → AllByRecursion (IsClassValue size n) vs
       → named_slots (value_names slot i (located n p vs)) (value_ids bytes size (located n p vs)) ≡ value_slots size slot i vs
   unfolding located
@@ -134,7 +134,7 @@ module _ (bytes : List ℕ) (size : IdSize) where
   values-heavy (v ∷ vs) =
       omega (arith, values-heavy vs, class_bytes-cons v vs, length-append (value_text v) (flat_map value_text vs), length-append v.key (v.code ∷ v.value))
 
-  -- a CLASS DUMP at a place
+  -- a CLASS DUMP at an offset
   module _ (at : ℕ) (head : ClassHead) (constants statics : Counted ClassValue) (fields : Counted ClassField) (rest : List ℕ) (is : IsSubRecord size (ClassDump head constants statics fields))
       (whole : drop at bytes ≡ sub_record_text (ClassDump head constants statics fields) ++ rest) where
     abbrev H : List ℕ
@@ -152,11 +152,11 @@ module _ (bytes : List ℕ) (size : IdSize) where
     abbrev item : ClassItem
     item = class_item size at head constants statics fields
 
-    abbrev constants_place : ℕ
-    constants_place = at + 1 + length (class_head_text head) + 2
+    abbrev constants_offset : ℕ
+    constants_offset = at + 1 + length (class_head_text head) + 2
 
-    abbrev statics_place : ℕ
-    statics_place = at + 1 + length (class_head_text head) + length C + 2
+    abbrev statics_offset : ℕ
+    statics_offset = at + 1 + length (class_head_text head) + length C + 2
 
     grouped : drop at bytes ≡ H ++ (C ++ (S ++ (F ++ rest)))
     grouped = whole ∙ append_assoc ((H ++ C) ++ S) F rest ∙ append_assoc (H ++ C) S (F ++ rest) ∙ append_assoc H C (S ++ (F ++ rest))
@@ -167,27 +167,27 @@ module _ (bytes : List ℕ) (size : IdSize) where
     from_statics : drop (at + length H + length C) bytes ≡ S ++ (F ++ rest)
     from_statics = behind (at + length H) C (S ++ (F ++ rest)) from_constants
 
-    constants-there : drop constants_place bytes ≡ flat_map value_text constants.items ++ (S ++ (F ++ rest))
+    constants-there : drop constants_offset bytes ≡ flat_map value_text constants.items ++ (S ++ (F ++ rest))
     constants-there =
-        let place : constants_place ≡ at + length H + length constants.count = omega (arith, is.1.count) in
-        ap (λ (k : ℕ). drop k bytes) place
+        let offset : constants_offset ≡ at + length H + length constants.count = omega (arith, is.1.count) in
+        ap (λ (k : ℕ). drop k bytes) offset
         ∙ behind (at + length H) constants.count (flat_map value_text constants.items ++ (S ++ (F ++ rest))) (from_constants ∙ append_assoc constants.count (flat_map value_text constants.items) (S ++ (F ++ rest)))
 
-    statics-there : drop statics_place bytes ≡ flat_map value_text statics.items ++ (F ++ rest)
+    statics-there : drop statics_offset bytes ≡ flat_map value_text statics.items ++ (F ++ rest)
     statics-there =
-        let place : statics_place ≡ at + length H + length C + length statics.count = omega (arith, is.2.count) in
-        ap (λ (k : ℕ). drop k bytes) place
+        let offset : statics_offset ≡ at + length H + length C + length statics.count = omega (arith, is.2.count) in
+        ap (λ (k : ℕ). drop k bytes) offset
         ∙ behind (at + length H + length C) statics.count (flat_map value_text statics.items ++ (F ++ rest)) (from_statics ∙ append_assoc statics.count (flat_map value_text statics.items) (F ++ rest))
 
     static-slots : named_slots (value_names (λ i. slots.Static i) 0 (values_of_statics item.statics)) (value_ids bytes size (values_of_statics item.statics)) ≡ value_slots size (λ i. slots.Static i) 0 statics.items
     static-slots =
-        ap (λ (vs : List (ℕ × Span)). named_slots (value_names (λ i. slots.Static i) 0 vs) (value_ids bytes size vs)) (statics-located statics_place statics.items)
-        ∙ slots-located (λ i. slots.Static i) (id_len size) 0 statics_place statics.items (F ++ rest) statics-there is.2.each
+        ap (λ (vs : List (ℕ × Span)). named_slots (value_names (λ i. slots.Static i) 0 vs) (value_ids bytes size vs)) (statics-located statics_offset statics.items)
+        ∙ slots-located (λ i. slots.Static i) (id_len size) 0 statics_offset statics.items (F ++ rest) statics-there is.2.each
 
     constant-slots : named_slots (value_names (λ i. slots.Const i) 0 (values_of_constants item.constants)) (value_ids bytes size (values_of_constants item.constants)) ≡ value_slots size (λ i. slots.Const i) 0 constants.items
     constant-slots =
-        ap (λ (vs : List (ℕ × Span)). named_slots (value_names (λ i. slots.Const i) 0 vs) (value_ids bytes size vs)) (constants-located constants_place constants.items)
-        ∙ slots-located (λ i. slots.Const i) 2 0 constants_place constants.items (S ++ (F ++ rest)) constants-there is.1.each
+        ap (λ (vs : List (ℕ × Span)). named_slots (value_names (λ i. slots.Const i) 0 vs) (value_ids bytes size vs)) (constants-located constants_offset constants.items)
+        ∙ slots-located (λ i. slots.Const i) 2 0 constants_offset constants.items (S ++ (F ++ rest)) constants-there is.1.each
 
     abbrev links : List SlotEntry
     links = strong_slot slots.Super item.super ∷ strong_slot slots.Loader item.loader ∷ strong_slot slots.Signers item.signers ∷ strong_slot slots.Domain item.domain ∷ []
@@ -208,7 +208,7 @@ module _ (bytes : List ℕ) (size : IdSize) where
     pub class-object : (t : ClassTable) → Some (row_object (ClassObject (static_bytes item.statics) (class_names item)) item.id (class_row bytes size item)) ≡ object_of t size (ClassDump head constants statics fields)
     class-object t =
         let x : ℕ → List SlotEntry → Object = λ b ss. record { id = item.id; group = groups.Classes; bytes = b; slots = ss; referent = None } in
-        ap (λ (b : ℕ). Some (x b (named_slots (class_names item) (class_row bytes size item)))) (bytes-of-statics statics_place statics.items is.2.each)
+        ap (λ (b : ℕ). Some (x b (named_slots (class_names item) (class_row bytes size item)))) (bytes-of-statics statics_offset statics.items is.2.each)
         ∙ ap (λ (ss : List SlotEntry). Some (x (class_bytes statics.items) ss)) slots-are
 
     text-long : length (sub_record_text (ClassDump head constants statics fields)) ≡ length H + length C + length S + length F
@@ -234,9 +234,9 @@ module _ (bytes : List ℕ) (size : IdSize) where
           arith,
           text-long,
           head-long,
-          length-statics statics_place statics.items,
-          length-constants constants_place constants.items,
-          bytes-of-statics statics_place statics.items is.2.each,
+          length-statics statics_offset statics.items,
+          length-constants constants_offset constants.items,
+          bytes-of-statics statics_offset statics.items is.2.each,
           values-heavy statics.items,
           values-heavy constants.items,
           length-append constants.count (flat_map value_text constants.items),
@@ -245,8 +245,8 @@ module _ (bytes : List ℕ) (size : IdSize) where
 
     pub class-within : IsClassWithin size (length bytes) item
     class-within = record {
-      statics = subst (All (IsValueWithin size (length bytes))) (sym (statics-located statics_place statics.items)) (values-within (id_len size) statics_place statics.items (F ++ rest) statics-there is.2.each);
-      constants = subst (All (IsValueWithin size (length bytes))) (sym (constants-located constants_place constants.items)) (values-within 2 constants_place constants.items (S ++ (F ++ rest)) constants-there is.1.each);
+      statics = subst (All (IsValueWithin size (length bytes))) (sym (statics-located statics_offset statics.items)) (values-within (id_len size) statics_offset statics.items (F ++ rest) statics-there is.2.each);
+      constants = subst (All (IsValueWithin size (length bytes))) (sym (constants-located constants_offset constants.items)) (values-within 2 constants_offset constants.items (S ++ (F ++ rest)) constants-there is.1.each);
       bytes = omega (arith, class-heavy, length-drop at bytes, ap (λ (xs : List ℕ). length xs) whole, length-append (sub_record_text (ClassDump head constants statics fields)) rest);
     }
 
@@ -295,25 +295,25 @@ module _ (bytes : List ℕ) (size : IdSize) where
     length-to_domain : length to_domain ≡ 5 + id_len size + 3 * id_len size
     length-to_domain = omega (arith, length-append to_signers head.signers, is.0.signers, length-to_signers)
 
-    abbrev links_place : ℕ
-    links_place = at + 5 + id_len size
+    abbrev links_offset : ℕ
+    links_offset = at + 5 + id_len size
 
-    pub class-links : HasLinks bytes size links_place item
+    pub class-links : HasLinks bytes size links_offset item
     class-links =
         let n = id_len size in
         let super = id-behind bytes size at to_super head.super _ by_super is.0.super in
         let loader = id-behind bytes size at to_loader head.loader _ by_loader is.0.loader in
         let signers = id-behind bytes size at to_signers head.signers _ by_signers is.0.signers in
         let domain = id-behind bytes size at to_domain head.domain _ by_domain is.0.domain in
-        let super_place : links_place ≡ at + length to_super = omega (arith, length-to_super) in
-        let loader_place : links_place + n ≡ at + length to_loader = omega (arith, length-to_loader) in
-        let signers_place : links_place + 2 * n ≡ at + length to_signers = omega (arith, length-to_signers) in
-        let domain_place : links_place + 3 * n ≡ at + length to_domain = omega (arith, length-to_domain) in
-        let super_is : id_at bytes size links_place ≡ item.super = ap (id_at bytes size) super_place ∙ super.is in
-        let loader_is : id_at bytes size (links_place + n) ≡ item.loader = ap (id_at bytes size) loader_place ∙ loader.is in
-        let signers_is : id_at bytes size (links_place + 2 * n) ≡ item.signers = ap (id_at bytes size) signers_place ∙ signers.is in
-        let domain_is : id_at bytes size (links_place + 3 * n) ≡ item.domain = ap (id_at bytes size) domain_place ∙ domain.is in
+        let super_offset : links_offset ≡ at + length to_super = omega (arith, length-to_super) in
+        let loader_offset : links_offset + n ≡ at + length to_loader = omega (arith, length-to_loader) in
+        let signers_offset : links_offset + 2 * n ≡ at + length to_signers = omega (arith, length-to_signers) in
+        let domain_offset : links_offset + 3 * n ≡ at + length to_domain = omega (arith, length-to_domain) in
+        let super_is : id_at bytes size links_offset ≡ item.super = ap (id_at bytes size) super_offset ∙ super.is in
+        let loader_is : id_at bytes size (links_offset + n) ≡ item.loader = ap (id_at bytes size) loader_offset ∙ loader.is in
+        let signers_is : id_at bytes size (links_offset + 2 * n) ≡ item.signers = ap (id_at bytes size) signers_offset ∙ signers.is in
+        let domain_is : id_at bytes size (links_offset + 3 * n) ≡ item.domain = ap (id_at bytes size) domain_offset ∙ domain.is in
         record {
-          within = omega (arith, domain.within, domain_place);
+          within = omega (arith, domain.within, domain_offset);
           are = same_links _ _ _ _ _ _ _ _ super_is loader_is signers_is domain_is;
         }

@@ -1,4 +1,4 @@
--- Instances: their rows and shapes, and what an INSTANCE DUMP at a place of the file comes to.
+-- Instances: their rows and shapes, and what an INSTANCE DUMP at an offset of the file comes to.
 use Rattle.std.proofs.Common.{◌≡◌, ◌∙◌, ℕ, zero, suc, ◌+◌, ◌*◌, ◌<◌, ◌≤◌, inl, inr, List, [], ◌∷◌, ◌++◌, length, map, drop, Option, Some, None, Bool, true, false, cond, eqb, eqb-true, refl, sym, ap, subst, arith, append_assoc, length-append}
 use Rattle.std.specs.Option.{option_map, option_and_then}
 use Rattle.std.specs.List.{AllByRecursion}
@@ -144,7 +144,7 @@ module _ (bytes : List ℕ) (size : IdSize) where
       ∙ ap (λ (x : ℕ). (let s : SlotEntry = record { slot = slots.Field i; kind = field_kind referent kind i; id = x } in s) ∷ map (with_kind R kind) (named_slots (names ++ slots.OfClass ∷ []) (ids ++ class ∷ []))) id
       ∙ ap (λ (ss : List SlotEntry). (let s : SlotEntry = record { slot = slots.Field i; kind = field_kind referent kind i; id = big_number (id_len size) values } in s) ∷ ss) e
 
-  -- the slots of fields whose values stand at a place
+  -- the slots of fields whose values stand at an offset
   fields-are : (referent : Option ℕ) (kind : EdgeKind) (class i at : ℕ) (layout : List LayoutField) (values rest : List ℕ) → drop at bytes ≡ values ++ rest → layout_len size layout ≤ length values
       → map (with_kind (option_map (λ (r : ℕ). slots.Field r) referent) kind) (named_slots (field_names i layout ++ slots.OfClass ∷ []) (value_ids bytes size (placed_fields size at layout) ++ class ∷ []))
       ≡ field_slots size referent kind i layout values ++ strong_slot slots.OfClass class ∷ []
@@ -156,7 +156,7 @@ module _ (bytes : List ℕ) (size : IdSize) where
       field-is referent kind class i at f (field_names (i + 1) fs) (value_ids bytes size (placed_fields size (at + n) fs)) (field_slots size referent kind (i + 1) fs (drop n values)) values rest whole
       (is_id_type f.code) (λ is. omega (arith, id-value size f.code is, long)) (fields-are referent kind class (i + 1) (at + n) fs (drop n values) rest next (omega (arith, length-drop n values)))
 
-  -- an instance at a place
+  -- an instance at an offset
   module _ (t : ClassTable) (at : ℕ) (id serial class count values rest : List ℕ) (is : IsSubRecord size (InstanceDump id serial class count values))
       (whole : drop at bytes ≡ sub_record_text (InstanceDump id serial class count values) ++ rest) where
     abbrev instance_head : List ℕ
@@ -174,8 +174,8 @@ module _ (bytes : List ℕ) (size : IdSize) where
     from_values : drop (at + 9 + 2 * id_len size) bytes ≡ values ++ rest
     from_values =
         let h = instance_head in
-        let place : at + 9 + 2 * id_len size ≡ at + length h = omega (arith, length-instance_head) in
-        ap (λ (n : ℕ). drop n bytes) place ∙ sym (drop-drop (length h) at bytes) ∙ ap (drop (length h)) (whole ∙ append_assoc h values rest) ∙ drop-append_seam h (values ++ rest)
+        let offset : at + 9 + 2 * id_len size ≡ at + length h = omega (arith, length-instance_head) in
+        ap (λ (n : ℕ). drop n bytes) offset ∙ sym (drop-drop (length h) at bytes) ∙ ap (drop (length h)) (whole ∙ append_assoc h values rest) ∙ drop-append_seam h (values ++ rest)
 
     object-by : (k : Option ResolvedClass) → fitting size span.len (resolved_class t class_id) ≡ k
         → object_of_entry (instance_entry bytes size (big_number (id_len size) id) class_id span k)
@@ -211,8 +211,8 @@ module _ (bytes : List ℕ) (size : IdSize) where
     pub instance-class : HasIdAt bytes size (at + 5 + id_len size) class_id
     instance-class =
         let h : List ℕ = 0x21 ∷ id ++ serial in
-        let place : at + length h ≡ at + 5 + id_len size = omega (arith, length-append (0x21 ∷ id) serial, is.0, is.1) in
-        subst (λ (p : ℕ). HasIdAt bytes size p class_id) place
+        let offset : at + length h ≡ at + 5 + id_len size = omega (arith, length-append (0x21 ∷ id) serial, is.0, is.1) in
+        subst (λ (p : ℕ). HasIdAt bytes size p class_id) offset
         (id-behind bytes size at h class (count ++ (values ++ rest)) (whole ∙ append_assoc (h ++ class ++ count) values rest ∙ append_assoc (h ++ class) count (values ++ rest) ∙ append_assoc h class (count ++ (values ++ rest))) is.2)
 
     pub instance-weight : 1 + span.len ≤ length (sub_record_text (InstanceDump id serial class count values))

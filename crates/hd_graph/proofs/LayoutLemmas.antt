@@ -57,8 +57,8 @@ name_of i code = cond (is_id_type code) (slots.Field i ∷ []) []
 names-push : (k : ℕ) (fs : List classes_of.LayoutField) (f : classes_of.LayoutField) → field_names k (fs ++ f ∷ []) ≡ field_names k fs ++ name_of (k + length fs) f.code
 names-push k [] f = ap (λ (n : ℕ). name_of n f.code) (sym (add-zero k))
 names-push k (x ∷ fs) f =
-    let place : k + 1 + length fs ≡ k + suc (length fs) = omega arith in
-    by_type (is_id_type x.code) (names-push (k + 1) fs f ∙ ap (λ (n : ℕ). field_names (k + 1) fs ++ name_of n f.code) place)
+    let index : k + 1 + length fs ≡ k + suc (length fs) = omega arith in
+    by_type (is_id_type x.code) (names-push (k + 1) fs f ∙ ap (λ (n : ℕ). field_names (k + 1) fs ++ name_of n f.code) index)
   where
     by_type : (b : Bool) → field_names (k + 1) (fs ++ f ∷ []) ≡ field_names (k + 1) fs ++ name_of (k + suc (length fs)) f.code
         → cond b (slots.Field k ∷ field_names (k + 1) (fs ++ f ∷ [])) (field_names (k + 1) (fs ++ f ∷ [])) ≡ cond b (slots.Field k ∷ field_names (k + 1) fs) (field_names (k + 1) fs) ++ name_of (k + suc (length fs)) f.code
@@ -69,10 +69,10 @@ names-push k (x ∷ fs) f =
 pub names-more : (xs : List LayoutField) (i : ℕ) (d : LayoutField) → i < length xs → (b : Bool) → is_id_type (get_or xs i d).code ≡ b
     → field_names 0 (first_fields xs (i + 1)) ≡ field_names 0 (first_fields xs i) ++ cond b (slots.Field i ∷ []) []
 names-more xs i d lt b is =
-    let place : 0 + length (first_fields xs i) ≡ i = omega (arith, length-first xs i lt) in
+    let index : 0 + length (first_fields xs i) ≡ i = omega (arith, length-first xs i lt) in
     ap (field_names 0) (one-more xs i d lt)
     ∙ names-push 0 (first_fields xs i) (field_view (get_or xs i d))
-    ∙ ap (λ (n : ℕ). field_names 0 (first_fields xs i) ++ name_of n (get_or xs i d).code) place
+    ∙ ap (λ (n : ℕ). field_names 0 (first_fields xs i) ++ name_of n (get_or xs i d).code) index
     ∙ ap (λ (c : Bool). field_names 0 (first_fields xs i) ++ cond c (slots.Field i ∷ []) []) is
 
 module _ (bytes : List ℕ) (size : IdSize) where
@@ -80,10 +80,10 @@ module _ (bytes : List ℕ) (size : IdSize) where
       → placed_fields size at (fs ++ f ∷ []) ≡ placed_fields size at fs ++ (f.code, record { start = at + layout_len size fs; len = value_len size f.code }) ∷ []
   placed-push at [] f = ap (λ (n : ℕ). (let p : ℕ × Span = (f.code, record { start = n; len = value_len size f.code }) in p) ∷ []) (sym (add-zero at))
   placed-push at (x ∷ fs) f =
-      let place : at + value_len size x.code + layout_len size fs ≡ at + layout_len size (x ∷ fs) = omega (arith, layout_len-cons size x fs) in
+      let offset : at + value_len size x.code + layout_len size fs ≡ at + layout_len size (x ∷ fs) = omega (arith, layout_len-cons size x fs) in
       let here : ℕ × Span = (x.code, record { start = at; len = value_len size x.code }) in
       ap (λ (ps : List (ℕ × Span)). here ∷ ps) (placed-push (at + value_len size x.code) fs f)
-      ∙ ap (λ (n : ℕ). here ∷ (placed_fields size (at + value_len size x.code) fs ++ (f.code, record { start = n; len = value_len size f.code }) ∷ [])) place
+      ∙ ap (λ (n : ℕ). here ∷ (placed_fields size (at + value_len size x.code) fs ++ (f.code, record { start = n; len = value_len size f.code }) ∷ [])) offset
 
   -- the IDs in the first fields
   abbrev pub ids_so_far : ℕ → List LayoutField → ℕ → List ℕ

@@ -233,7 +233,7 @@ no-names bytes k c none_copied none = record {
   seen = λ (id : ℕ). ap (λ (es : List (ℕ × Span)). is_some (lookup (λ (x : ℕ). eqb id x) es)) none;
 }
 
--- the load at a place, after those before it
+-- the load at an index, after those before it
 pub load-next : (bytes : List ℕ) (k : Known) (xs : List Load) (i : ℕ) (d : Load) (name : Option Span) (c c' : CopiedNames) → i < length xs → name ≡ name_at k (get_or xs i d).class
     → AddsName bytes (get_or xs i d).class name c c' → HasNames bytes k (take i xs) c → HasNames bytes k (take (i + 1) xs) c'
 load-next bytes k xs i d name c c' lt is adds h =

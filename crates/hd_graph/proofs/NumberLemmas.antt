@@ -13,15 +13,17 @@ use Rattle.hd_terms.specs.declared.errors.ReadFault.{ReadFault}
 use Rattle.hd_terms.specs.SubRecords.{Sub, Item}
 use Rattle.hd_terms.specs.SubRecords as subs
 use Rattle.hd_terms.specs.FirstRecords.{id_of_item, object_sub, first_subs, repeats}
-use Rattle.hd_terms.specs.HeapFaults.{fault_if}
+use Rattle.hd_terms.specs.HeapFaults.{fault_if, is_size_mismatch, object_fault, object_faults}
+use Rattle.hd_terms.specs.Classes.{KnownClasses}
+use Rattle.hd_terms.specs.Objects.{is_opaque}
 use Rattle.hd_graph.specs.declared.graph.RootRow.{RootRow}
 use Rattle.hd_graph.specs.declared.number.Tally.{Tally}
 use Rattle.hd_graph.specs.GraphInside.{root_of_row}
-use Rattle.hd_graph.specs.ArrayRows.{KnownBy, object_id, roots_in}
+use Rattle.hd_graph.specs.ArrayRows.{object_id, roots_in}
 use Rattle.hd_classes.specs.Firsts.{firsts, firsts_from}
 use Rattle.hd_ids.specs.Noted.{is_noted}
 use Rattle.hd_graph.specs.Noted.{NotesId}
-use Rattle.hd_graph.specs.Numbering.{is_size_mismatch, is_opaque, object_fault, object_faults, IsNumbered, NotesObject, IsNullIdOrMemory, IsObjectStop, memory, null, size_mismatch, StopsAt, IsObjectFaultOrMemory}
+use Rattle.hd_graph.specs.Numbering.{IsNumbered, NotesObject, IsNullIdOrMemory, IsObjectStop, memory, null, size_mismatch, StopsAt, IsObjectFaultOrMemory}
 use Rattle.hd_classes.proofs.FirstLemmas.{first_of_each-firsts, firsts-push, firsts_from-append, firsts-le, is_known, if_new, known-map, filter_map-le}
 use Rattle.hd_graph.proofs.RepeatLemmas.{noted-push, repeats-le}
 
@@ -66,7 +68,7 @@ standing-root front s is =
     filter_map-append object_sub front (s ∷ []) ∙ ap (λ (o : Option ℕ). object_subs front ++ cons_option (option_map (λ (x : ℕ). let p : ℕ × Sub = (x, s) in p) o) []) is ∙ append-nil (object_subs front) in
     standing-firsts (front ++ s ∷ []) ∙ ap (λ (xs : List (ℕ × Sub)). firsts sub_key xs) none ∙ sym (standing-firsts front)
 
-module _ (known : KnownBy) (size : IdSize) where
+module _ (known : KnownClasses) (size : IdSize) where
   abbrev opaque_one : ℕ × Sub → Bool
   opaque_one p = is_opaque known p.1.item
 
@@ -207,7 +209,7 @@ module _ (known : KnownBy) (size : IdSize) where
       (ap (λ (b : Bool). cond b (fault_if true causes.NullObject s) (fault_if (is_size_mismatch known size s.item) causes.InstanceSize s)) (ne_eqb id 0 (λ e. omega (arith, e, some)))
       ∙ ap (λ (m : Bool). fault_if m causes.InstanceSize s) wrong))
 
--- the sub-record at a place is the one after those before it
+-- the sub-record at an index is the one after those before it
 pub take-next : (list : List Sub) (i : ℕ) (s : Sub) → slice_get list i ≡ Some s → take (i + 1) list ≡ take i list ++ s ∷ []
 take-next list i s is = take_more list i s (slice_get_within list i s is) ∙ ap (λ (x : Sub). take i list ++ x ∷ []) (get_or_from_slice_get list i s s is)
 
@@ -218,27 +220,27 @@ not-noted true false e f = refl
 not-noted false noted e f = absurd cc
 
 -- the ID 0 stops an object of any kind
-pub null-stop : (known : KnownBy) (size : IdSize) (item : Item) (id offset : ℕ) (ids : List ℕ) (f : ReadFault) → IsNullIdOrMemory id offset f → IsObjectStop known size item id offset ids f
+pub null-stop : (known : KnownClasses) (size : IdSize) (item : Item) (id offset : ℕ) (ids : List ℕ) (f : ReadFault) → IsNullIdOrMemory id offset f → IsObjectStop known size item id offset ids f
 null-stop known size item id offset ids f (inl e) = subst (IsObjectStop known size item id offset ids) (sym e) memory
 null-stop known size item id offset ids f (inr (zero_id, e)) = subst (IsObjectStop known size item id offset ids) (sym e) (null zero_id)
 
--- a list is what stands before a place, what stands there, and what stands after it
+-- a list is what stands before an index, what stands there, and what stands after it
 pub split-here : (list : List Sub) (i : ℕ) (s : Sub) → slice_get list i ≡ Some s → list ≡ take i list ++ s ∷ drop (i + 1) list
 split-here list i s is = sym (take-append-drop (i + 1) list) ∙ ap (λ (xs : List Sub). xs ++ drop (i + 1) list) (take-next list i s is) ∙ append_assoc (take i list) (s ∷ []) (drop (i + 1) list)
 
--- a fault of the sub-record at a place is the first of all
-pub lifted : (known : KnownBy) (size : IdSize) (list : List Sub) (i : ℕ) (s : Sub) (ids : List ℕ) (roots : List RootRow) (tally : Tally) (f : ReadFault) → slice_get list i ≡ Some s
+-- a fault of the sub-record at an index is the first of all
+pub lifted : (known : KnownClasses) (size : IdSize) (list : List Sub) (i : ℕ) (s : Sub) (ids : List ℕ) (roots : List RootRow) (tally : Tally) (f : ReadFault) → slice_get list i ≡ Some s
     → IsNumbered known size (take i list) ids roots tally → StopsAt known size s ids f → IsObjectFaultOrMemory known size list f
 lifted known size list i s ids roots tally f is h (inl out_of_memory_reply) = inl out_of_memory_reply
 lifted known size list i s ids roots tally f is h (inr (id, at, stop)) =
     subst (λ (l : List Sub). IsObjectFaultOrMemory known size l f) (sym (split-here list i s is)) (stop-fault known size (take i list) s (drop (i + 1) list) ids roots tally h id at f stop)
 
 -- no more are repeated or opaque than there are sub-records
-pub repeated-le : (known : KnownBy) (size : IdSize) (list : List Sub) (i : ℕ) (ids : List ℕ) (roots : List RootRow) (tally : Tally) → IsNumbered known size (take i list) ids roots tally → tally.repeated ≤ i
+pub repeated-le : (known : KnownClasses) (size : IdSize) (list : List Sub) (i : ℕ) (ids : List ℕ) (roots : List RootRow) (tally : Tally) → IsNumbered known size (take i list) ids roots tally → tally.repeated ≤ i
 repeated-le known size list i ids roots tally h =
     omega (arith, h.repeated_is, repeats-le same (filter_map object_id (take i list)), filter_map-le object_id (take i list), length-take i list)
 
-pub opaque-le : (known : KnownBy) (size : IdSize) (list : List Sub) (i : ℕ) (ids : List ℕ) (roots : List RootRow) (tally : Tally) → IsNumbered known size (take i list) ids roots tally → tally.opaque ≤ i
+pub opaque-le : (known : KnownClasses) (size : IdSize) (list : List Sub) (i : ℕ) (ids : List ℕ) (roots : List RootRow) (tally : Tally) → IsNumbered known size (take i list) ids roots tally → tally.opaque ≤ i
 opaque-le known size list i ids roots tally h =
     omega (
       arith,

@@ -1,6 +1,5 @@
 -- What opening a file comes to: its dump, or its fault.
-use Rattle.std.proofs.Common.{◌≡◌, ◌∙◌, ℕ, suc, ◌+◌, ◌<◌, ◌≤◌, ◌^◌, inl, inr, List, [], ◌∷◌, ◌++◌, length, map, Option, Some, Bool, true, cond, eqb, refl, sym, ap, subst, arith, All}
-use Rattle.std.specs.Prelude.{count_by}
+use Rattle.std.proofs.Common.{◌≡◌, ◌∙◌, ℕ, suc, ◌+◌, ◌<◌, ◌≤◌, ◌^◌, inl, inr, List, [], ◌∷◌, ◌++◌, length, map, Some, refl, sym, ap, subst, arith, All}
 use Rattle.std.specs.List.{AllZip, filter, filter_map, slice_get}
 use Rattle.std.proofs.lemmas.List.{length-map}
 use Rattle.hd_terms.specs.declared.IdSize.{IdSize}
@@ -8,18 +7,15 @@ use Rattle.hd_terms.specs.declared.IdSize.TheVariants as sizes
 use Rattle.hd_terms.specs.declared.Span.{Span}
 use Rattle.hd_terms.specs.declared.Text.{Text}
 use Rattle.hd_terms.specs.declared.Load.{Load}
-use Rattle.hd_terms.specs.declared.errors.Cause.TheVariants as causes
 use Rattle.hd_terms.specs.declared.errors.ReadFault.{ReadFault}
 use Rattle.hd_terms.specs.Records.{Record, header_len, segment_spans, is_segment, texts, loads}
 use Rattle.hd_terms.specs.SubRecords.{SubRecord, Sub, Item, ObjArray, PrimArray, AreSubRecords, AreDumpSubRecords, dump_subs_at}
 use Rattle.hd_terms.specs.SubRecords as subs
 use Rattle.hd_terms.specs.FirstRecords.{object_sub, first_subs, repeats}
-use Rattle.hd_terms.specs.Classes.{ClassTable, class_table, class_of_item, resolved_class}
-use Rattle.hd_terms.specs.HeapFaults as heap
-use Rattle.hd_terms.specs.HeapFaults.{fault_if, class_faults}
+use Rattle.hd_terms.specs.Classes.{ClassTable, class_table, class_of_item, resolved_class, KnownClasses}
+use Rattle.hd_terms.specs.HeapFaults.{class_faults, object_faults}
 use Rattle.hd_terms.specs.Roots.{roots_of}
 use Rattle.hd_terms.specs.Dump.{Object, Root, Repeated}
-use Rattle.hd_terms.specs.Objects as objects
 use Rattle.hd_terms.specs.declared.Mode.TheVariants as modes
 use Rattle.hd_terms.specs.Objects.{classes_of, object_of, objects_of, opaque_in, names_of, IsDumpOf, repeated_of}
 use Rattle.hd_terms.specs.ReadFaults.{in_records, in_sub_records, in_classes, in_objects, IsSubRecordsFault, IsSegmentFault}
@@ -31,10 +27,10 @@ use Rattle.hd_graph.specs.GraphInside.{root_of_row}
 use Rattle.hd_slots.specs.Table.{Table}
 use Rattle.hd_classes.specs.Firsts.{firsts}
 use Rattle.hd_graph.specs.Shapes.{ObjectShape, IsSmall, AreColumns, row_objects, HasShape}
-use Rattle.hd_graph.specs.ArrayRows.{ObjectEntry, KnownBy, object_id, entry_of, entries_of, weight, item_weight, AreWithin, root_of_item, roots_in}
+use Rattle.hd_graph.specs.ArrayRows.{ObjectEntry, object_id, entry_of, entries_of, weight, item_weight, AreWithin, root_of_item, roots_in}
 use Rattle.hd_terms.specs.Classes.{bytes_of_span}
 use Rattle.hd_decode.specs.Bodies.{AreBodies, ReadsBodies, IsBodiesFault, IsBodiesFaultOrMemory}
-use Rattle.hd_graph.specs.Numbering.{is_size_mismatch, is_opaque, object_fault, object_faults, IsNumbered, IsObjectFaultOrMemory}
+use Rattle.hd_graph.specs.Numbering.{IsNumbered, IsObjectFaultOrMemory}
 use Rattle.hd_graph.specs.Building.{Columns, HasRowsOf, IsReadFaultOrMemory, AreFewAndShort}
 use Rattle.hd_classes.proofs.FirstLemmas.{firsts-map, first_of_each-firsts, firsts-le, filter_map-le}
 use Rattle.hd_graph.proofs.NumberLemmas.{sub_key, object_subs, standing-firsts}
@@ -52,27 +48,6 @@ use Rattle.hd_graph.proofs.NameLemmas.{first-names, names-in-file}
 -- functions of one value everywhere are one
 fun_ext : {A B : Type 0} {f g : A → B} → ((x : A) → f x ≡ g x) → f ≡ g
 fun_ext h = λ i x. h x i
-
--- misfits and opaque instances are those of the definition
-same-size_mismatch : (t : ClassTable) (size : IdSize) (i : Item) → is_size_mismatch (resolved_class t) size i ≡ heap.is_size_mismatch t size i
-same-size_mismatch t size (subs.Root kind id) = refl
-same-size_mismatch t size (subs.Class c) = refl
-same-size_mismatch t size (subs.Instance id class values) = refl
-same-size_mismatch t size (ObjArray id class elements) = refl
-same-size_mismatch t size (PrimArray id element count) = refl
-
-same-opaque : (t : ClassTable) (i : Item) → is_opaque (resolved_class t) i ≡ objects.is_opaque t i
-same-opaque t (subs.Root kind id) = refl
-same-opaque t (subs.Class c) = refl
-same-opaque t (subs.Instance id class values) = refl
-same-opaque t (ObjArray id class elements) = refl
-same-opaque t (PrimArray id element count) = refl
-
-same-fault : (t : ClassTable) (size : IdSize) (p : ℕ × Sub) → object_fault (resolved_class t) size p ≡ heap.object_fault t size p
-same-fault t size (id, s) = ap (λ (m : Bool). cond (eqb id 0) (fault_if true causes.NullObject s) (fault_if m causes.InstanceSize s)) (same-size_mismatch t size s.item)
-
-same-faults : (t : ClassTable) (size : IdSize) (list : List Sub) → object_faults (resolved_class t) size list ≡ heap.object_faults t size list
-same-faults t size list = ap (λ (f : ℕ × Sub → Option ReadFault). filter_map f (first_subs list)) (fun_ext (same-fault t size))
 
 abbrev same : ℕ → ℕ
 same id = id
@@ -175,7 +150,7 @@ module _ (bytes : List ℕ) (size : IdSize) (strings : List Text) (classes : Lis
     class-fault f (inr h) = inr (in_classes size r.records b.segments r.header r.whole dump_bodies (ap (λ (fs : List ReadFault). slice_get fs 0) (sym faults-are) ∙ h))
 
     module _ (k : Known) (h : AreClassesOf table k) (no_cycle : class_faults table list ≡ []) where
-      abbrev known : KnownBy
+      abbrev known : KnownClasses
       known = known_at k
 
       known-is : known ≡ resolved_class real
@@ -202,8 +177,8 @@ module _ (bytes : List ℕ) (size : IdSize) (strings : List Text) (classes : Lis
       no-cycle : class_faults real placed ≡ []
       no-cycle = sym faults-are ∙ no_cycle
 
-      object-faults-are : object_faults known size list ≡ heap.object_faults real size placed
-      object-faults-are = ap (λ (kn : KnownBy). object_faults kn size list) known-is ∙ ap (λ (l : List Sub). object_faults (resolved_class real) size l) list_of_records ∙ same-faults real size placed
+      object-faults-are : object_faults known size list ≡ object_faults (resolved_class real) size placed
+      object-faults-are = ap (λ (kn : KnownClasses). object_faults kn size list) known-is ∙ ap (object_faults (resolved_class real) size) list_of_records
 
       -- an object with ID 0, or one that doesn't fit
       pub object-fault : (f : ReadFault) → IsObjectFaultOrMemory known size list f → IsReadFaultOrMemory bytes f
@@ -252,7 +227,7 @@ module _ (bytes : List ℕ) (size : IdSize) (strings : List Text) (classes : Lis
               ∙ ap (λ (ss : List ObjectShape). row_objects ss (map id_of_entry entries) (map row_of_entry entries)) has.shapes_are
               ∙ row_objects-entries entries
               ∙ sym (firsts-map (λ (x : Object). x.id) object_of_entry (filter_map (entry_of known bytes size) list))
-              ∙ ap (λ (xs : List Object). firsts (λ (x : Object). x.id) xs) (ap (λ (kn : KnownBy). map object_of_entry (filter_map (entry_of kn bytes size) list)) known-is ∙ ap (λ (l : List Sub). map object_of_entry (filter_map (entry_of (resolved_class real) bytes size) l)) b.list_is ∙ objects_in real bytes size spans b.segments b.whole)
+              ∙ ap (λ (xs : List Object). firsts (λ (x : Object). x.id) xs) (ap (λ (kn : KnownClasses). map object_of_entry (filter_map (entry_of kn bytes size) list)) known-is ∙ ap (λ (l : List Sub). map object_of_entry (filter_map (entry_of (resolved_class real) bytes size) l)) b.list_is ∙ objects_in real bytes size spans b.segments b.whole)
               ∙ sym (first_of_each-firsts (λ (x : Object). x.id) (filter_map (object_of real size) (all_of real bytes size b.segments)))
 
           roots_are : map root_of_row roots ≡ roots_of size (all_of real bytes size b.segments)
@@ -262,14 +237,10 @@ module _ (bytes : List ℕ) (size : IdSize) (strings : List Text) (classes : Lis
           objects_again =
               n.repeated_is ∙ ap (repeats same) (ids-of-entries known bytes size list) ∙ repeats-map same id_of_entry (filter_map (entry_of known bytes size) list)
               ∙ sym (repeats-map (λ (x : Object). x.id) object_of_entry (filter_map (entry_of known bytes size) list))
-              ∙ ap (repeats (λ (x : Object). x.id)) (ap (λ (kn : KnownBy). map object_of_entry (filter_map (entry_of kn bytes size) list)) known-is ∙ ap (λ (l : List Sub). map object_of_entry (filter_map (entry_of (resolved_class real) bytes size) l)) b.list_is ∙ objects_in real bytes size spans b.segments b.whole)
+              ∙ ap (repeats (λ (x : Object). x.id)) (ap (λ (kn : KnownClasses). map object_of_entry (filter_map (entry_of kn bytes size) list)) known-is ∙ ap (λ (l : List Sub). map object_of_entry (filter_map (entry_of (resolved_class real) bytes size) l)) b.list_is ∙ objects_in real bytes size spans b.segments b.whole)
 
-          opaque_are : tally.opaque ≡ opaque_in real placed
-          opaque_are =
-              n.opaque_is
-              ∙ ap (λ (kn : KnownBy). count_by (λ (x : ℕ × Sub). is_opaque kn x.1.item) (first_subs list)) known-is
-              ∙ ap (λ (test : Item → Bool). count_by (λ (x : ℕ × Sub). test x.1.item) (first_subs list)) (fun_ext (same-opaque real))
-              ∙ ap (opaque_in real) list_of_records
+          opaque_are : tally.opaque ≡ opaque_in (resolved_class real) placed
+          opaque_are = n.opaque_is ∙ ap (λ (kn : KnownClasses). opaque_in kn list) known-is ∙ ap (opaque_in (resolved_class real)) list_of_records
 
           -- what is repeated, and the names of classes
           module _ (names : List (ℕ × List ℕ)) (names_are : names ≡ first_names bytes k classes) (texts_again loads_again : ℕ) (texts_are : texts_again ≡ repeats (λ (x : Text). x.id) strings) (loads_are : loads_again ≡ repeats (λ (x : Load). x.class) classes) where
@@ -302,7 +273,7 @@ module _ (bytes : List ℕ) (size : IdSize) (strings : List Text) (classes : Lis
                   ∙ ap (λ (xs : List Root). record { mode = modes.Direct; objects = objects_of real size (all_of real bytes size b.segments); roots = xs; repeated = again; opaque = tally.opaque; names = names }) roots_are
                   ∙ ap (λ (x : Repeated). record { mode = modes.Direct; objects = objects_of real size (all_of real bytes size b.segments); roots = roots_of size (all_of real bytes size b.segments); repeated = x; opaque = tally.opaque; names = names }) again_is
                   ∙ ap (λ (m : ℕ). record { mode = modes.Direct; objects = objects_of real size (all_of real bytes size b.segments); roots = roots_of size (all_of real bytes size b.segments); repeated = repeated_of real size r.records (all_of real bytes size b.segments); opaque = m; names = names }) opaque_are
-                  ∙ ap (λ (ns : List (ℕ × List ℕ)). record { mode = modes.Direct; objects = objects_of real size (all_of real bytes size b.segments); roots = roots_of size (all_of real bytes size b.segments); repeated = repeated_of real size r.records (all_of real bytes size b.segments); opaque = opaque_in real placed; names = ns }) class-names-are;
+                  ∙ ap (λ (ns : List (ℕ × List ℕ)). record { mode = modes.Direct; objects = objects_of real size (all_of real bytes size b.segments); roots = roots_of size (all_of real bytes size b.segments); repeated = repeated_of real size r.records (all_of real bytes size b.segments); opaque = opaque_in (resolved_class real) placed; names = ns }) class-names-are;
             }
 
 pub records-fault : (bytes : List ℕ) (f : ReadFault) → IsRecordsFaultOrMemory bytes f → IsReadFaultOrMemory bytes f

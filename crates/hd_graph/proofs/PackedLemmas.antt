@@ -9,11 +9,11 @@ use Rattle.hd_graph.specs.declared.shape.PackedShape.TheVariants as kept
 use Rattle.hd_graph.specs.Shapes.{ObjectShape}
 use Rattle.hd_graph.specs.PackedShapes.{class_shape_view, shape_at, kept_shape, IsPackedOver}
 
--- the shape of a class at a place
+-- the shape of a class at an index
 abbrev class_shape_at : List ClassShape → ℕ → ObjectShape
 class_shape_at cs k = shape_at (map class_shape_view cs) k
 
--- a class stays at its place
+-- a class stays at its index
 at-kept : (cs : List ClassShape) (c : ClassShape) (k : ℕ) → k < length cs → class_shape_at (cs ++ c ∷ []) k ≡ class_shape_at cs k
 at-kept [] c k lt = absurd (omega arith)
 at-kept (x ∷ cs) c zero lt = refl
@@ -28,7 +28,7 @@ module _ (ls : List LayoutShape) where
   shape-kept : (cs : List ClassShape) (c : ClassShape) (k : PackedShape) → IsPackedOver (length cs) (length ls) k → kept_shape (cs ++ c ∷ []) ls k ≡ kept_shape cs ls k
   shape-kept cs c (kept.ObjectArray bytes) over = refl
   shape-kept cs c (kept.PrimitiveArray element bytes) over = refl
-  shape-kept cs c (kept.Class place) over = at-kept cs c place over
+  shape-kept cs c (kept.Class index) over = at-kept cs c index over
   shape-kept cs c (kept.Instance class) over = refl
 
   shapes-kept : (cs : List ClassShape) (c : ClassShape) (ks : List PackedShape) → All (IsPackedOver (length cs) (length ls)) ks → map (kept_shape (cs ++ c ∷ []) ls) ks ≡ map (kept_shape cs ls) ks
@@ -38,9 +38,9 @@ module _ (ls : List LayoutShape) where
       ∙ ap (λ (ss : List ObjectShape). kept_shape cs ls k ∷ ss) (shapes-kept cs c ks (All-tail (IsPackedOver (length cs) (length ls)) k ks all))
 
   -- a class at the end
-  pub class-push : (cs : List ClassShape) (c : ClassShape) (ks : List PackedShape) (place : ℕ) → All (IsPackedOver (length cs) (length ls)) ks → place ≡ length cs
-      → map (kept_shape (cs ++ c ∷ []) ls) (ks ++ kept.Class place ∷ []) ≡ map (kept_shape cs ls) ks ++ class_shape_view c ∷ []
-  class-push cs c ks place all is =
-      map-append (kept_shape (cs ++ c ∷ []) ls) ks (kept.Class place ∷ [])
-      ∙ ap (λ (ss : List ObjectShape). ss ++ class_shape_at (cs ++ c ∷ []) place ∷ []) (shapes-kept cs c ks all)
+  pub class-push : (cs : List ClassShape) (c : ClassShape) (ks : List PackedShape) (index : ℕ) → All (IsPackedOver (length cs) (length ls)) ks → index ≡ length cs
+      → map (kept_shape (cs ++ c ∷ []) ls) (ks ++ kept.Class index ∷ []) ≡ map (kept_shape cs ls) ks ++ class_shape_view c ∷ []
+  class-push cs c ks index all is =
+      map-append (kept_shape (cs ++ c ∷ []) ls) ks (kept.Class index ∷ [])
+      ∙ ap (λ (ss : List ObjectShape). ss ++ class_shape_at (cs ++ c ∷ []) index ∷ []) (shapes-kept cs c ks all)
       ∙ ap (λ (s : ObjectShape). map (kept_shape cs ls) ks ++ s ∷ []) (ap (class_shape_at (cs ++ c ∷ [])) is ∙ at-new cs c)

@@ -82,7 +82,7 @@ noted-push key xs x ids repeated ids' repeated' h more = record {
       ∙ sym (repeats-push key xs x);
 }
 
--- the element at a place is the one after those before it
+-- the element at an index is the one after those before it
 pub noted-next : {X : Type 0} (key : X → ℕ) (xs : List X) (i : ℕ) (d : X) (ids : List ℕ) (repeated : ℕ) (ids' : List ℕ) (repeated' : ℕ) → i < length xs
     → AreNoted key (take i xs) ids repeated → NotesId (key (get_or xs i d)) ids repeated ids' repeated' → AreNoted key (take (i + 1) xs) ids' repeated'
 noted-next key xs i d ids repeated ids' repeated' lt h more = rw (take_more xs i d lt) (noted-push key (take i xs) (get_or xs i d) ids repeated ids' repeated' h more)

@@ -14,9 +14,9 @@ use Rattle.hd_slots.specs.Table.{Table, id_at}
 use Rattle.hd_graph.specs.Shapes.{ObjectShape, ObjectArray, PrimitiveArray, ClassObject}
 use Rattle.hd_terms.specs.Types.{element_len}
 use Rattle.hd_terms.specs.FirstRecords.{id_of_item}
-use Rattle.hd_terms.specs.Classes.{ResolvedClass}
+use Rattle.hd_terms.specs.Classes.{ResolvedClass, KnownClasses}
 use Rattle.hd_classes.specs.Firsts.{firsts, firsts_from}
-use Rattle.hd_graph.specs.ArrayRows.{ObjectEntry, KnownBy, fitting, instance_entry, object_id, object_ids, entry_of, entry_of_item, array_row, entries_of, id_count, ids_in, item_weight, class_row, class_names, static_bytes, weight}
+use Rattle.hd_graph.specs.ArrayRows.{ObjectEntry, fitting, instance_entry, object_id, object_ids, entry_of, entry_of_item, array_row, entries_of, id_count, ids_in, item_weight, class_row, class_names, static_bytes, weight}
 use Rattle.hd_terms.specs.Records.{id_len}
 use Rattle.hd_graph.proofs.NumberLemmas.{take-next}
 use Rattle.hd_graph.specs.Building.{Columns, AddsNext, FillsItem}
@@ -41,7 +41,7 @@ id-of-instance bytes size id class values None = refl
 id-of-instance bytes size id class values (Some k) = refl
 
 -- the rows and shapes of the objects so far, over the file, and how many IDs they have at most
-pub record IsFilledSoFar (known : KnownBy) (bytes : List ℕ) (size : IdSize) (front : List Sub) (ids : List ℕ) (c : Columns) : Type 0 where
+pub record IsFilledSoFar (known : KnownClasses) (bytes : List ℕ) (size : IdSize) (front : List Sub) (ids : List ℕ) (c : Columns) : Type 0 where
   pub bytes_are : c.table.bytes ≡ bytes
   pub size_is : c.table.size ≡ size
   pub ids_are : c.table.ids ≡ ids
@@ -51,7 +51,7 @@ pub record IsFilledSoFar (known : KnownBy) (bytes : List ℕ) (size : IdSize) (f
   pub few : c.table.count ≤ weight front
 
 -- the IDs of the objects are those of the sub-records
-pub ids-of-entries : (known : KnownBy) (bytes : List ℕ) (size : IdSize) (list : List Sub) → filter_map object_id list ≡ map id_of_entry (filter_map (entry_of known bytes size) list)
+pub ids-of-entries : (known : KnownClasses) (bytes : List ℕ) (size : IdSize) (list : List Sub) → filter_map object_id list ≡ map id_of_entry (filter_map (entry_of known bytes size) list)
 ids-of-entries known bytes size [] = refl
 ids-of-entries known bytes size (s ∷ list) = by_item s.item (ids-of-entries known bytes size list)
   where
@@ -115,12 +115,12 @@ id_count-le sizes.Eight span = omega arith
 pub weight-push : (front : List Sub) (s : Sub) → weight (front ++ s ∷ []) ≡ weight front + item_weight s.item
 weight-push front s = omega (arith, sum_by-append (λ (x : Sub). item_weight x.item) front (s ∷ []))
 
-arrays-push : (known : KnownBy) (bytes : List ℕ) (size : IdSize) (front : List Sub) (at : ℕ) (i : Item)
+arrays-push : (known : KnownClasses) (bytes : List ℕ) (size : IdSize) (front : List Sub) (at : ℕ) (i : Item)
     → filter_map (entry_of known bytes size) (front ++ (record { offset = at; item = i }) ∷ []) ≡ filter_map (entry_of known bytes size) front ++ cons_option (entry_of_item known bytes size i) []
 arrays-push known bytes size front at i = filter_map-append (entry_of known bytes size) front ((record { offset = at; item = i }) ∷ [])
 
 -- one more sub-record
-module _ (known : KnownBy) (bytes : List ℕ) (size : IdSize) (front : List Sub) (at : ℕ) (after : List Sub) (old new : Columns) where
+module _ (known : KnownClasses) (bytes : List ℕ) (size : IdSize) (front : List Sub) (at : ℕ) (after : List Sub) (old new : Columns) where
   abbrev sub : Item → Sub
   sub i = record { offset = at; item = i }
 
@@ -201,7 +201,7 @@ module _ (known : KnownBy) (bytes : List ℕ) (size : IdSize) (front : List Sub)
   fill-push (PrimArray id element count) h adds = fill-object (PrimArray id element count) (id, [], PrimitiveArray element (count * element_len element)) refl refl h adds
 
 -- there are no more shapes than sub-records
-pub few-shapes : (known : KnownBy) (bytes : List ℕ) (size : IdSize) (front : List Sub) (ids : List ℕ) (c : Columns) → IsFilledSoFar known bytes size front ids c → length c.shapes ≤ length front
+pub few-shapes : (known : KnownClasses) (bytes : List ℕ) (size : IdSize) (front : List Sub) (ids : List ℕ) (c : Columns) → IsFilledSoFar known bytes size front ids c → length c.shapes ≤ length front
 few-shapes known bytes size front ids c h =
     omega (
       arith,
@@ -211,14 +211,14 @@ few-shapes known bytes size front ids c h =
       filter_map-le (entry_of known bytes size) front,
     )
 
--- a list is what stands before a place, what stands there, and what stands after it
-pub split-at-place : (list : List Sub) (i : ℕ) (s : Sub) → slice_get list i ≡ Some s → list ≡ take i list ++ s ∷ drop (i + 1) list
-split-at-place list i s is = sym (take-append-drop (i + 1) list) ∙ ap (λ (xs : List Sub). xs ++ drop (i + 1) list) (take-next list i s is) ∙ append_assoc (take i list) (s ∷ []) (drop (i + 1) list)
+-- a list is what stands before an index, what stands there, and what stands after it
+pub split-at-index : (list : List Sub) (i : ℕ) (s : Sub) → slice_get list i ≡ Some s → list ≡ take i list ++ s ∷ drop (i + 1) list
+split-at-index list i s is = sym (take-append-drop (i + 1) list) ∙ ap (λ (xs : List Sub). xs ++ drop (i + 1) list) (take-next list i s is) ∙ append_assoc (take i list) (s ∷ []) (drop (i + 1) list)
 
-pub fill-next : (known : KnownBy) (bytes : List ℕ) (size : IdSize) (list : List Sub) (i : ℕ) (s : Sub) → slice_get list i ≡ Some s → (old new : Columns)
+pub fill-next : (known : KnownClasses) (bytes : List ℕ) (size : IdSize) (list : List Sub) (i : ℕ) (s : Sub) → slice_get list i ≡ Some s → (old new : Columns)
     → IsFilledSoFar known bytes size (take i list) (object_ids list) old → FillsItem known old.table.bytes old.table.size s.item old new → IsFilledSoFar known bytes size (take (i + 1) list) (object_ids list) new
 fill-next known bytes size list i s is old new h fills =
-    let whole : object_ids list ≡ object_ids (take i list ++ s ∷ drop (i + 1) list) = ap object_ids (split-at-place list i s is) in
+    let whole : object_ids list ≡ object_ids (take i list ++ s ∷ drop (i + 1) list) = ap object_ids (split-at-index list i s is) in
     let old_so_far : IsFilledSoFar known bytes size (take i list) (object_ids (take i list ++ s ∷ drop (i + 1) list)) old = subst (λ (ids : List ℕ). IsFilledSoFar known bytes size (take i list) ids old) whole h in
     let filled : FillsItem known bytes size s.item old new =
     subst (λ (n : IdSize). FillsItem known bytes n s.item old new) h.size_is (subst (λ (bs : List ℕ). FillsItem known bs old.table.size s.item old new) h.bytes_are fills) in
@@ -226,34 +226,34 @@ fill-next known bytes size list i s is old new h fills =
     subst (λ (ids : List ℕ). IsFilledSoFar known bytes size (take (i + 1) list) ids new) (sym whole)
     (subst (λ (front : List Sub). IsFilledSoFar known bytes size front (object_ids (take i list ++ s ∷ drop (i + 1) list)) new) (sym (take-next list i s is)) new_so_far)
 
--- what stands before a place and at it weighs no more than all
+-- what stands before an index and at it weighs no more than all
 pub weight-at : (list : List Sub) (i : ℕ) (s : Sub) → slice_get list i ≡ Some s → weight (take i list) + item_weight s.item ≤ weight list
 weight-at list i s is =
     omega (arith, sum_by-append (λ (x : Sub). item_weight x.item) (take (i + 1) list) (drop (i + 1) list), ap weight (take-append-drop (i + 1) list), ap weight (take-next list i s is), weight-push (take i list) s)
 
--- of so many IDs that stand one after another the first were added, and those that are left lie from a place on
-pub record AreIdsPushed (first : Table) (start count i : ℕ) (now : Table) (place : ℕ) : Type 0 where
+-- of so many IDs that stand one after another the first were added, and those that are left lie from an offset on
+pub record AreIdsPushed (first : Table) (start count i : ℕ) (now : Table) (offset : ℕ) : Type 0 where
   pub table : now ≡ record first { filling = now.filling; count = first.count + i }
-  pub ids : now.filling ++ ids_in (id_len first.size) (count - i) (drop place first.bytes) ≡ first.filling ++ ids_in (id_len first.size) count (drop start first.bytes)
-  pub room : place + id_len first.size * (count - i) ≤ length first.bytes
+  pub ids : now.filling ++ ids_in (id_len first.size) (count - i) (drop offset first.bytes) ≡ first.filling ++ ids_in (id_len first.size) count (drop start first.bytes)
+  pub room : offset + id_len first.size * (count - i) ≤ length first.bytes
 
-room-step : (size : IdSize) (i count place n : ℕ) → i < count → place + id_len size * (count - i) ≤ n → place + id_len size + id_len size * (count - (i + 1)) ≤ n
-room-step sizes.Four i count place n lt h = omega arith
-room-step sizes.Eight i count place n lt h = omega arith
+room-step : (size : IdSize) (i count offset n : ℕ) → i < count → offset + id_len size * (count - i) ≤ n → offset + id_len size + id_len size * (count - (i + 1)) ≤ n
+room-step sizes.Four i count offset n lt h = omega arith
+room-step sizes.Eight i count offset n lt h = omega arith
 
-module _ (first : Table) (start count i : ℕ) (now : Table) (place : ℕ) (h : AreIdsPushed first start count i now place) where
+module _ (first : Table) (start count i : ℕ) (now : Table) (offset : ℕ) (h : AreIdsPushed first start count i now offset) where
   pushed-over : IsOver first now
   pushed-over = record { bytes = ap (λ (t : Table). t.bytes) h.table; size = ap (λ (t : Table). t.size) h.table; ids = ap (λ (t : Table). t.ids) h.table }
 
   -- one ID fewer is left
-  pub id-pushed : (next : Table) → i < count → next ≡ record now { filling = now.filling ++ id_at now.bytes now.size place ∷ []; count = now.count + 1 } → AreIdsPushed first start count (i + 1) next (place + id_len first.size)
+  pub id-pushed : (next : Table) → i < count → next ≡ record now { filling = now.filling ++ id_at now.bytes now.size offset ∷ []; count = now.count + 1 } → AreIdsPushed first start count (i + 1) next (offset + id_len first.size)
   id-pushed next lt pushed =
       let n = id_len first.size in
       let left = count - (i + 1) in
-      let id = id_at first.bytes first.size place in
+      let id = id_at first.bytes first.size offset in
       let filling = now.filling ++ id ∷ [] in
       let to_next : next ≡ record now { filling = filling; count = now.count + 1 } =
-      over-same (λ (bytes : List ℕ) (size : IdSize). next ≡ record now { filling = now.filling ++ id_at bytes size place ∷ []; count = now.count + 1 }) first now pushed-over pushed in
+      over-same (λ (bytes : List ℕ) (size : IdSize). next ≡ record now { filling = now.filling ++ id_at bytes size offset ∷ []; count = now.count + 1 }) first now pushed-over pushed in
       let filled : next.filling ≡ filling = ap (λ (t : Table). t.filling) to_next in
       let more : count - i ≡ suc left = omega arith in
       record {
@@ -261,10 +261,10 @@ module _ (first : Table) (start count i : ℕ) (now : Table) (place : ℕ) (h : 
             ∙ ap (λ (t : Table). record t { filling = filling; count = t.count + 1 }) h.table
             ∙ ap (λ (k : ℕ). record first { filling = filling; count = k }) (omega arith)
             ∙ ap (λ (f : List ℕ). record first { filling = f; count = first.count + (i + 1) }) (sym filled);
-        ids = ap (λ (f : List ℕ). f ++ ids_in n left (drop (place + n) first.bytes)) filled
-            ∙ ap (λ (xs : List ℕ). filling ++ ids_in n left xs) (sym (drop-drop n place first.bytes))
-            ∙ append_assoc now.filling (id ∷ []) (ids_in n left (drop n (drop place first.bytes)))
-            ∙ ap (λ (k : ℕ). now.filling ++ ids_in n k (drop place first.bytes)) (sym more)
+        ids = ap (λ (f : List ℕ). f ++ ids_in n left (drop (offset + n) first.bytes)) filled
+            ∙ ap (λ (xs : List ℕ). filling ++ ids_in n left xs) (sym (drop-drop n offset first.bytes))
+            ∙ append_assoc now.filling (id ∷ []) (ids_in n left (drop n (drop offset first.bytes)))
+            ∙ ap (λ (k : ℕ). now.filling ++ ids_in n k (drop offset first.bytes)) (sym more)
             ∙ h.ids;
-        room = room-step first.size i count place (length first.bytes) lt h.room;
+        room = room-step first.size i count offset (length first.bytes) lt h.room;
       }

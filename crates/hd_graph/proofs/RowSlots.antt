@@ -1,4 +1,4 @@
--- Lemmas on rows of object arrays: their slots, and the places of these.
+-- Lemmas on rows of object arrays: their slots, and the indexes of these.
 use Rattle.std.proofs.Common.{◌≡◌, ◌∙◌, ℕ, zero, suc, ◌+◌, ◌-◌, ◌<◌, inl, inr, List, [], ◌∷◌, length, get_or, Option, Some, None, Bool, true, true≢false, refl, sym, ap, arith, eqb-true, eq-eqb}
 use Rattle.std.specs.List.{position, prefix_len, slice_get}
 use Rattle.std.specs.Prelude.{not}
@@ -34,9 +34,9 @@ row_slots-element i (id ∷ next ∷ rest) zero before = ap (λ (n : ℕ). Some 
 row_slots-element i (id ∷ next ∷ rest) (suc k) before =
     row_slots-element (i + 1) (next ∷ rest) k (omega arith) ∙ ap (λ (n : ℕ). Some (strong_slot (slots.Element n) (get_or (next ∷ rest) k 0))) (omega arith)
 
--- a slot of a row stands at its place
-pub place-of-slot : (row : List ℕ) (slot : Slot) (i : ℕ) (s : SlotEntry) → slice_get (row_slots 0 row) i ≡ Some s → same_slot s.slot slot ≡ true → row_index (length row) slot ≡ Some i
-place-of-slot row slot i s at same = elim (cases_lt (suc i) (length row)) [
+-- a slot of a row stands at its index
+pub index-of-slot : (row : List ℕ) (slot : Slot) (i : ℕ) (s : SlotEntry) → slice_get (row_slots 0 row) i ≡ Some s → same_slot s.slot slot ≡ true → row_index (length row) slot ≡ Some i
+index-of-slot row slot i s at same = elim (cases_lt (suc i) (length row)) [
   | inl before ↦
       let is : strong_slot (slots.Element (0 + i)) (get_or row i 0) ≡ s = same_Some _ _ (sym (row_slots-element 0 row i before) ∙ at) in
       of_element slot before (ap (λ (e : SlotEntry). same_slot e.slot slot) is ∙ same)
@@ -70,36 +70,36 @@ place-of-slot row slot i s at same = elim (cases_lt (suc i) (length row)) [
     of_class slots.Signers last e = absurd cc
     of_class slots.Domain last e = absurd cc
 
--- the place of a slot has that slot
+-- the index of a slot has that slot
 pub record HasSlotAt (row : List ℕ) (slot : Slot) (i : ℕ) : Type 0 where
   pub entry : SlotEntry
   pub here : slice_get (row_slots 0 row) i ≡ Some entry
   pub same : same_slot entry.slot slot ≡ true
 
-pub slot-at-place : (row : List ℕ) (slot : Slot) (i : ℕ) → row_index (length row) slot ≡ Some i → HasSlotAt row slot i
-slot-at-place row (slots.Field k) i h = absurd cc
-slot-at-place row (slots.Element k) i h = elim (cases_lt k (length row - 1)) [
+pub slot-at-index : (row : List ℕ) (slot : Slot) (i : ℕ) → row_index (length row) slot ≡ Some i → HasSlotAt row slot i
+slot-at-index row (slots.Field k) i h = absurd cc
+slot-at-index row (slots.Element k) i h = elim (cases_lt k (length row - 1)) [
   | inl lt ↦
       let found : Some k ≡ Some i = rw (lt-ltb k (length row - 1) lt) at h in
       let is : k ≡ i = same_Some _ _ found in
       record { entry = strong_slot (slots.Element (0 + i)) (get_or row i 0); here = row_slots-element 0 row i (omega arith); same = eq-eqb (0 + i) k (omega arith) }
   | inr le ↦ let none : None ≡ Some i = rw (le-ltb k (length row - 1) le) at h in absurd cc
 ]
-slot-at-place row (slots.Static k) i h = absurd cc
-slot-at-place row (slots.Const k) i h = absurd cc
-slot-at-place row slots.OfClass i h = elim (cases_lt 0 (length row)) [
+slot-at-index row (slots.Static k) i h = absurd cc
+slot-at-index row (slots.Const k) i h = absurd cc
+slot-at-index row slots.OfClass i h = elim (cases_lt 0 (length row)) [
   | inl lt ↦
       let found : Some (length row - 1) ≡ Some i = rw (lt-ltb 0 (length row) lt) at h in
       let is : length row - 1 ≡ i = same_Some _ _ found in
       record { entry = strong_slot slots.OfClass (get_or row i 0); here = row_slots-class 0 row i (omega arith); same = refl }
   | inr le ↦ let none : None ≡ Some i = rw (le-ltb 0 (length row) le) at h in absurd cc
 ]
-slot-at-place row slots.Super i h = absurd cc
-slot-at-place row slots.Loader i h = absurd cc
-slot-at-place row slots.Signers i h = absurd cc
-slot-at-place row slots.Domain i h = absurd cc
+slot-at-index row slots.Super i h = absurd cc
+slot-at-index row slots.Loader i h = absurd cc
+slot-at-index row slots.Signers i h = absurd cc
+slot-at-index row slots.Domain i h = absurd cc
 
--- what passes a test nowhere passes it at no place
+-- what passes a test nowhere passes it at no index
 none-at : {X : Type 0} (p : X → Bool) (xs : List X) → position p xs ≡ None → (k : ℕ) (x : X) → slice_get xs k ≡ Some x → p x ≡ true → ⊥
 none-at p xs none k x here passes =
     let n = prefix_len (λ y. not (p y)) xs in
@@ -112,20 +112,20 @@ none-at p xs none k x here passes =
           absurd (true≢false (sym fails ∙ ap (λ y. not (p y)) is ∙ ap not passes))
     ]
 
--- the place of a slot in a row is the first that has it
+-- the index of a slot in a row is the first that has it
 module _ (row : List ℕ) (slot : Slot) where
   abbrev is_it : SlotEntry → Bool
   is_it s = same_slot s.slot slot
 
-  by_place : (a b : Option ℕ) → row_index (length row) slot ≡ a → position is_it (row_slots 0 row) ≡ b → a ≡ b
-  by_place a (Some i) place at =
+  by_index : (a b : Option ℕ) → row_index (length row) slot ≡ a → position is_it (row_slots 0 row) ≡ b → a ≡ b
+  by_index a (Some i) index at =
       let e = get_or (row_slots 0 row) i (strong_slot slot 0) in
       let f = position-Some is_it (row_slots 0 row) i (strong_slot slot 0) at in
-      sym place ∙ place-of-slot row slot i e (slice_get-get_or (row_slots 0 row) i (strong_slot slot 0) f.0) f.1
-  by_place None None place at = refl
-  by_place (Some i) None place at =
-      let f = slot-at-place row slot i place in
+      sym index ∙ index-of-slot row slot i e (slice_get-get_or (row_slots 0 row) i (strong_slot slot 0) f.0) f.1
+  by_index None None index at = refl
+  by_index (Some i) None index at =
+      let f = slot-at-index row slot i index in
       absurd (none-at is_it (row_slots 0 row) at i f.entry f.here f.same)
 
-  pub first-place : row_index (length row) slot ≡ position is_it (row_slots 0 row)
-  first-place = by_place (row_index (length row) slot) (position is_it (row_slots 0 row)) refl refl
+  pub first-index : row_index (length row) slot ≡ position is_it (row_slots 0 row)
+  first-index = by_index (row_index (length row) slot) (position is_it (row_slots 0 row)) refl refl

@@ -1,4 +1,4 @@
--- Lemmas on the slots of objects of any shape, and on their places.
+-- Lemmas on the slots of objects of any shape, and on their indexes.
 use Rattle.std.proofs.Common.{◌≡◌, ◌∙◌, ℕ, zero, suc, ◌+◌, ◌-◌, ◌<◌, ◌≤◌, ◌^◌, inl, inr, List, [], ◌∷◌, length, map, get_or, Option, Some, None, Bool, true, false, ◌&&◌, true≢false, refl, sym, ap, subst, arith, cond, eqb, eqb-true, eq-eqb, ne_eqb, ltb}
 use Rattle.std.specs.List.{position, prefix_len, slice_get, AllByRecursion}
 use Rattle.std.specs.Prelude.{not}
@@ -14,7 +14,7 @@ use Rattle.hd_terms.specs.EditedDump.{same_slot, slot_code}
 use Rattle.hd_terms.specs.Slots.{strong_slot}
 use Rattle.hd_graph.specs.Arrays.{row_slots}
 use Rattle.hd_graph.specs.Shapes.{ObjectShape, ObjectArray, PrimitiveArray, ClassObject, Instance, named_slots, with_kind, shape_slots, slot_name, slot_kind, shape_index, ComesBefore, IsRising, HasShape, IsNamedAt, HasFewNames}
-use Rattle.hd_graph.proofs.RowSlots.{length-row_slots, row_slots-class, row_slots-element, place-of-slot, first-place}
+use Rattle.hd_graph.proofs.RowSlots.{length-row_slots, row_slots-class, row_slots-element, index-of-slot, first-index}
 
 -- as many slots as IDs
 
@@ -30,7 +30,7 @@ length-shape_slots (PrimitiveArray element bytes) row fit = length-row_slots 0 r
 length-shape_slots (ClassObject bytes names) row fit = length-named_slots names row fit.0
 length-shape_slots (Instance bytes names referent kind) row fit = length-map (named_slots names row) (with_kind referent kind) ∙ length-named_slots names row fit.0
 
--- the slot at a place
+-- the slot at an index
 
 named-at : (names : List Slot) (ids : List ℕ) (i : ℕ) → length names ≡ length ids → i < length ids
     → slice_get (named_slots names ids) i ≡ Some (strong_slot (get_or names i slots.OfClass) (get_or ids i 0))
@@ -55,7 +55,7 @@ element-or-class row i lt = elim (cases_lt (suc i) (length row)) [
 abbrev pub slot_of : Slot → EdgeKind → ℕ → SlotEntry
 slot_of slot kind id = record { slot = slot; kind = kind; id = id }
 
--- the slot at a place, with the kind that its name has
+-- the slot at an index, with the kind that its name has
 get-map : {X Y : Type 0} (f : X → Y) (xs : List X) (i : ℕ) (x : X) → slice_get xs i ≡ Some x → slice_get (map f xs) i ≡ Some (f x)
 get-map f [] i x is = absurd cc
 get-map f (y ∷ xs) zero x is = ap (λ z. Some (f z)) (same_Some _ _ is)
@@ -85,7 +85,7 @@ few-names (PrimitiveArray element bytes) row fit few = tt
 few-names (ClassObject bytes names) row fit few = omega (arith, fit.0)
 few-names (Instance bytes names referent kind) row fit few = omega (arith, fit.0)
 
--- the place of a slot
+-- the index of a slot
 
 and-left : (a b : Bool) → (a && b) ≡ true → a ≡ true
 and-left true b e = refl
@@ -103,7 +103,7 @@ and-false-right : (a b : Bool) → b ≡ false → (a && b) ≡ false
 and-false-right true b e = e
 and-false-right false b e = refl
 
--- names of which those before a place are others, and the one at it is the slot
+-- names of which those before an index are others, and the one at it is the slot
 pub found-among : (names : List Slot) (slot : Slot) (i : ℕ) (d : Slot) → i < length names → i ≤ prefix_len (λ (name : Slot). not (same_slot name slot)) names → same_slot (get_or names i d) slot ≡ true
     → position (λ (name : Slot). same_slot name slot) names ≡ Some i
 found-among names slot i d lt before here =
@@ -145,7 +145,7 @@ differs a b c before same =
     by_case (inr (even, less)) kind number =
         and-false-right (eqb (slot_code a).0 (slot_code c).0) (eqb (slot_code a).1 (slot_code c).1) (ne_eqb (slot_code a).1 (slot_code c).1 (λ e. omega (arith, e, number, less)))
 
--- what holds of all names holds of the name at a place
+-- what holds of all names holds of the name at an index
 named-in : (P : Slot → Type 0) (names : List Slot) (ids : List ℕ) (i : ℕ) (e : SlotEntry) → AllByRecursion P names → slice_get (named_slots names ids) i ≡ Some e → P e.slot
 named-in P [] ids i e all at = absurd cc
 named-in P (name ∷ names) [] i e all at = absurd cc
@@ -165,9 +165,9 @@ prefix-at (name ∷ names) (id ∷ ids) slot (suc i) e rising at same =
     let other : same_slot name slot ≡ false = differs name e.slot slot (named-in (ComesBefore name) names ids i e rising.0 at) same in
     ap (λ (b : Bool). cond (not b) (1 + prefix_len (λ (n : Slot). not (same_slot n slot)) names) 0) other ∙ ap (λ (n : ℕ). 1 + n) (prefix-at names ids slot i e rising.1 at same) ∙ more
 
-place-of-named : (names : List Slot) (ids : List ℕ) (slot : Slot) (i : ℕ) (e : SlotEntry) → length names ≡ length ids → IsRising names → slice_get (named_slots names ids) i ≡ Some e → same_slot e.slot slot ≡ true
+index-of-named : (names : List Slot) (ids : List ℕ) (slot : Slot) (i : ℕ) (e : SlotEntry) → length names ≡ length ids → IsRising names → slice_get (named_slots names ids) i ≡ Some e → same_slot e.slot slot ≡ true
     → position (λ (name : Slot). same_slot name slot) names ≡ Some i
-place-of-named names ids slot i e many rising at same =
+index-of-named names ids slot i e many rising at same =
     let within : i < length names = omega (arith, slice_get_within (named_slots names ids) i e at, length-named_slots names ids many) in
     ap (λ (n : ℕ). cond (ltb n (length names)) (Some n) None) (prefix-at names ids slot i e rising at same)
     ∙ ap (λ (b : Bool). cond b (Some i) None) (lt-ltb i (length names) within)
@@ -185,29 +185,29 @@ first-named names ids slot many =
     ∙ ap (λ (m : ℕ). cond (ltb (prefix_len (λ (e : SlotEntry). not (same_slot e.slot slot)) (named_slots names ids)) m) (Some (prefix_len (λ (e : SlotEntry). not (same_slot e.slot slot)) (named_slots names ids))) None)
     (many ∙ sym (length-named_slots names ids many))
 
--- a kind makes no difference to a slot's place
+-- a kind makes no difference to a slot's index
 prefix-with-kind : (referent : Option Slot) (kind : EdgeKind) (slot : Slot) (es : List SlotEntry)
     → prefix_len (λ (e : SlotEntry). not (same_slot e.slot slot)) (map (with_kind referent kind) es) ≡ prefix_len (λ (e : SlotEntry). not (same_slot e.slot slot)) es
 prefix-with-kind referent kind slot [] = refl
 prefix-with-kind referent kind slot (e ∷ es) = ap (λ (n : ℕ). cond (not (same_slot e.slot slot)) (1 + n) 0) (prefix-with-kind referent kind slot es)
 
-place-with-kind : (referent : Option Slot) (kind : EdgeKind) (slot : Slot) (es : List SlotEntry)
+index-with-kind : (referent : Option Slot) (kind : EdgeKind) (slot : Slot) (es : List SlotEntry)
     → position (λ (e : SlotEntry). same_slot e.slot slot) (map (with_kind referent kind) es) ≡ position (λ (e : SlotEntry). same_slot e.slot slot) es
-place-with-kind referent kind slot es =
+index-with-kind referent kind slot es =
     ap (λ (n : ℕ). cond (ltb n (length (map (with_kind referent kind) es))) (Some n) None) (prefix-with-kind referent kind slot es)
     ∙ ap (λ (m : ℕ). cond (ltb (prefix_len (λ (e : SlotEntry). not (same_slot e.slot slot)) es) m) (Some (prefix_len (λ (e : SlotEntry). not (same_slot e.slot slot)) es)) None) (length-map es (with_kind referent kind))
 
-pub first-place-of : (shape : ObjectShape) (row : List ℕ) (slot : Slot) → HasShape shape row → shape_index shape (length row) slot ≡ position (λ (e : SlotEntry). same_slot e.slot slot) (shape_slots shape row)
-first-place-of (ObjectArray bytes) row slot fit = first-place row slot
-first-place-of (PrimitiveArray element bytes) row slot fit = first-place row slot
-first-place-of (ClassObject bytes names) row slot fit = first-named names row slot fit.0
-first-place-of (Instance bytes names referent kind) row slot fit = first-named names row slot fit.0 ∙ sym (place-with-kind referent kind slot (named_slots names row))
+pub first-slot_index : (shape : ObjectShape) (row : List ℕ) (slot : Slot) → HasShape shape row → shape_index shape (length row) slot ≡ position (λ (e : SlotEntry). same_slot e.slot slot) (shape_slots shape row)
+first-slot_index (ObjectArray bytes) row slot fit = first-index row slot
+first-slot_index (PrimitiveArray element bytes) row slot fit = first-index row slot
+first-slot_index (ClassObject bytes names) row slot fit = first-named names row slot fit.0
+first-slot_index (Instance bytes names referent kind) row slot fit = first-named names row slot fit.0 ∙ sym (index-with-kind referent kind slot (named_slots names row))
 
-pub place-of : (shape : ObjectShape) (row : List ℕ) (slot : Slot) (i : ℕ) (e : SlotEntry) → HasShape shape row → slice_get (shape_slots shape row) i ≡ Some e → same_slot e.slot slot ≡ true
+pub slot_index-of : (shape : ObjectShape) (row : List ℕ) (slot : Slot) (i : ℕ) (e : SlotEntry) → HasShape shape row → slice_get (shape_slots shape row) i ≡ Some e → same_slot e.slot slot ≡ true
     → shape_index shape (length row) slot ≡ Some i
-place-of (ObjectArray bytes) row slot i e fit at same = place-of-slot row slot i e at same
-place-of (PrimitiveArray element bytes) row slot i e fit at same = place-of-slot row slot i e at same
-place-of (ClassObject bytes names) row slot i e fit at same = place-of-named names row slot i e fit.0 fit.1 at same
-place-of (Instance bytes names referent kind) row slot i e fit at same =
+slot_index-of (ObjectArray bytes) row slot i e fit at same = index-of-slot row slot i e at same
+slot_index-of (PrimitiveArray element bytes) row slot i e fit at same = index-of-slot row slot i e at same
+slot_index-of (ClassObject bytes names) row slot i e fit at same = index-of-named names row slot i e fit.0 fit.1 at same
+slot_index-of (Instance bytes names referent kind) row slot i e fit at same =
     let plain = get-unmap (with_kind referent kind) (named_slots names row) i e at in
-    place-of-named names row slot i plain.0 fit.0 fit.1 plain.1 (ap (λ (x : SlotEntry). same_slot x.slot slot) plain.2 ∙ same)
+    index-of-named names row slot i plain.0 fit.0 fit.1 plain.1 (ap (λ (x : SlotEntry). same_slot x.slot slot) plain.2 ∙ same)

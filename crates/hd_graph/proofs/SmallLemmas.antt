@@ -6,10 +6,11 @@ use Rattle.hd_terms.specs.declared.IdSize.{IdSize}
 use Rattle.hd_terms.specs.Records.{largest_file}
 use Rattle.hd_terms.specs.SubRecords.{Sub, Item, ObjArray, PrimArray}
 use Rattle.hd_terms.specs.SubRecords as subs
+use Rattle.hd_terms.specs.Classes.{KnownClasses}
 use Rattle.hd_graph.specs.Shapes.{ObjectShape}
 use Rattle.hd_classes.specs.Firsts.{firsts_from}
 use Rattle.hd_graph.specs.Shapes.{IsSmall, HasShape}
-use Rattle.hd_graph.specs.ArrayRows.{ObjectEntry, KnownBy, fitting, entry_of, entry_of_item, entries_of, IsItemWithin, IsSubWithin, AreWithin}
+use Rattle.hd_graph.specs.ArrayRows.{ObjectEntry, fitting, entry_of, entry_of_item, entries_of, IsItemWithin, IsSubWithin, AreWithin}
 use Rattle.hd_classes.proofs.FirstLemmas.{is_known}
 use Rattle.hd_graph.proofs.RowLemmas.{row_of_entry, shape_of_entry}
 use Rattle.hd_graph.proofs.RisingLemmas.{class-names-many, class-names-rise}
@@ -21,7 +22,7 @@ small-at [] d o all lt = absurd (omega arith)
 small-at (shape ∷ shapes) d zero all lt = All-head IsSmall shape shapes all
 small-at (shape ∷ shapes) d (suc o) all lt = small-at shapes d o (All-tail IsSmall shape shapes all) (omega arith)
 
-module _ (known : KnownBy) (bytes : List ℕ) (size : IdSize) (fits : length bytes ≤ largest_file) where
+module _ (known : KnownClasses) (bytes : List ℕ) (size : IdSize) (fits : length bytes ≤ largest_file) where
   abbrev HasSmall : ObjectEntry → Type 0
   HasSmall a = IsSmall a.2
 
@@ -51,7 +52,7 @@ module _ (known : KnownBy) (bytes : List ℕ) (size : IdSize) (fits : length byt
   shapes-small list within = All-map IsSmall shape_of_entry (entries_of known bytes size list) (firsts-small _ [] (filter_map (entry_of known bytes size) list) (items-small list within.each))
 
 -- each object's shape fits its row
-module _ (known : KnownBy) (bytes : List ℕ) (size : IdSize) where
+module _ (known : KnownClasses) (bytes : List ℕ) (size : IdSize) where
   abbrev Fits : ObjectEntry → Type 0
   Fits a = HasShape a.2 a.1
 

@@ -17,7 +17,7 @@ use Rattle.hd_graph.specs.ArrayRows.{values_of_statics, values_of_constants, val
 use Rattle.hd_graph.specs.Building.{GrowsBy}
 use Rattle.hd_graph.proofs.GrownLemmas.{IsOver, grown-over, ids-over}
 
--- the type and the value at a place
+-- the type and the value at an index
 pub static-at : (xs : List Static) (i : ℕ) (d : Static) → get_or (values_of_statics (map static_view xs)) i (d.code, d.value) ≡ ((get_or xs i d).code, (get_or xs i d).value)
 static-at [] i d = refl
 static-at (x ∷ xs) zero d = refl
@@ -61,8 +61,8 @@ name_of slot code = cond (is_id_type code) (slot ∷ []) []
 names-push : (slot : ℕ → Slot) (k : ℕ) (xs : List (ℕ × Span)) (v : ℕ × Span) → value_names slot k (xs ++ v ∷ []) ≡ value_names slot k xs ++ name_of (slot (k + length xs)) v.0
 names-push slot k [] v = ap (λ (n : ℕ). name_of (slot n) v.0) (sym (add-zero k))
 names-push slot k (x ∷ xs) v =
-    let place : k + 1 + length xs ≡ k + suc (length xs) = omega arith in
-    by_type (is_id_type x.0) (names-push slot (k + 1) xs v ∙ ap (λ (n : ℕ). value_names slot (k + 1) xs ++ name_of (slot n) v.0) place)
+    let index : k + 1 + length xs ≡ k + suc (length xs) = omega arith in
+    by_type (is_id_type x.0) (names-push slot (k + 1) xs v ∙ ap (λ (n : ℕ). value_names slot (k + 1) xs ++ name_of (slot n) v.0) index)
   where
     by_type : (b : Bool) → value_names slot (k + 1) (xs ++ v ∷ []) ≡ value_names slot (k + 1) xs ++ name_of (slot (k + suc (length xs))) v.0
         → cond b (slot k ∷ value_names slot (k + 1) (xs ++ v ∷ [])) (value_names slot (k + 1) (xs ++ v ∷ [])) ≡ cond b (slot k ∷ value_names slot (k + 1) xs) (value_names slot (k + 1) xs) ++ name_of (slot (k + suc (length xs))) v.0

@@ -12,7 +12,7 @@ use Rattle.hd_terms.specs.SubRecords as subs
 use Rattle.hd_terms.specs.Types.{element_len, is_id_type, value_len}
 use Rattle.hd_subs.specs.Layout.{class_offset, array_class_offset}
 use Rattle.hd_terms.specs.FirstRecords.{id_of_item}
-use Rattle.hd_terms.specs.Classes.{LayoutField, ResolvedClass, layout_len}
+use Rattle.hd_terms.specs.Classes.{LayoutField, ResolvedClass, layout_len, KnownClasses}
 use Rattle.hd_terms.specs.Dump.{Root}
 use Rattle.hd_terms.specs.declared.Slot.{Slot}
 use Rattle.hd_terms.specs.declared.Slot.TheVariants as slots
@@ -92,10 +92,6 @@ layout_shape size k = Instance (layout_len size k.layout) (layout_names k.layout
 abbrev pub ObjectEntry : Type 0
 ObjectEntry = ℕ × List ℕ × ObjectShape
 
--- what is known of the class of an ID
-abbrev pub KnownBy : Type 0
-KnownBy = ℕ → Option ResolvedClass
-
 -- the class by whose layout so many bytes of values are read
 abbrev pub fitting : IdSize → ℕ → Option ResolvedClass → Option ResolvedClass
 fitting size len k = option_and_then (λ (x : ResolvedClass). if len == layout_len size x.layout then Some x else None) k
@@ -110,18 +106,18 @@ instance_entry bytes size id class values None = (id, class ∷ [], ObjectArray 
 instance_entry bytes size id class values (Some k) = (id, instance_row bytes size values.start class k.layout, layout_shape size k)
 
 -- the object of a sub-record. A primitive array has an empty row
-abbrev pub entry_of_item : KnownBy → List ℕ → IdSize → Item → Option ObjectEntry
+abbrev pub entry_of_item : KnownClasses → List ℕ → IdSize → Item → Option ObjectEntry
 entry_of_item known bytes size (subs.Root kind id) = None
 entry_of_item known bytes size (subs.Class c) = Some (c.id, class_row bytes size c, ClassObject (static_bytes c.statics) (class_names c))
 entry_of_item known bytes size (subs.Instance id class values) = Some (instance_entry bytes size id class values (fitting size values.len (known class)))
 entry_of_item known bytes size (ObjArray id class elements) = Some (id, array_row bytes size class elements, ObjectArray elements.len)
 entry_of_item known bytes size (PrimArray id element count) = Some (id, [], PrimitiveArray element (count * element_len element))
 
-abbrev pub entry_of : KnownBy → List ℕ → IdSize → Sub → Option ObjectEntry
+abbrev pub entry_of : KnownClasses → List ℕ → IdSize → Sub → Option ObjectEntry
 entry_of known bytes size s = entry_of_item known bytes size s.item
 
 -- the objects of sub-records, the first of each ID
-abbrev pub entries_of : KnownBy → List ℕ → IdSize → List Sub → List ObjectEntry
+abbrev pub entries_of : KnownClasses → List ℕ → IdSize → List Sub → List ObjectEntry
 entries_of known bytes size list = firsts (λ (a : ObjectEntry). a.0) (filter_map (entry_of known bytes size) list)
 
 abbrev pub object_id : Sub → Option ℕ

@@ -4,12 +4,12 @@ use Rattle.hd_terms.specs.declared.IdSize.{IdSize}
 use Rattle.hd_terms.specs.declared.errors.Cause.TheVariants as causes
 use Rattle.hd_terms.specs.declared.errors.ReadFault.{ReadFault}
 use Rattle.hd_terms.specs.SubRecords.{Sub, Item}
-use Rattle.hd_terms.specs.Classes.{ResolvedClass}
+use Rattle.hd_terms.specs.Classes.{ResolvedClass, KnownClasses}
 use Rattle.hd_terms.specs.ReadFaults.{fault, IsReadFault}
 use Rattle.hd_classes.specs.Known.{Known}
 use Rattle.hd_graph.specs.Shapes.{ObjectShape}
 use Rattle.hd_slots.specs.Table.{Table}
-use Rattle.hd_graph.specs.ArrayRows.{ObjectEntry, KnownBy, object_ids, entry_of_item, entries_of, item_weight, layout_shape}
+use Rattle.hd_graph.specs.ArrayRows.{ObjectEntry, object_ids, entry_of_item, entries_of, item_weight, layout_shape}
 
 -- out of memory, or the fault of the file
 abbrev pub IsReadFaultOrMemory : List ℕ → ReadFault → Type 0
@@ -51,11 +51,11 @@ FillsEntry None weight old new = new ≡ old
 FillsEntry (Some a) weight old new = AddsNext a weight old new
 
 -- so is the object of a sub-record, if it is one
-abbrev pub FillsItem : KnownBy → List ℕ → IdSize → Item → Columns → Columns → Type 0
+abbrev pub FillsItem : KnownClasses → List ℕ → IdSize → Item → Columns → Columns → Type 0
 FillsItem known bytes size item old new = FillsEntry (entry_of_item known bytes size item) (item_weight item) old new
 
 -- the rows and shapes are those of the objects of sub-records
-pub record HasRowsOf (known : KnownBy) (bytes : List ℕ) (size : IdSize) (list : List Sub) (c : Columns) : Type 0 where
+pub record HasRowsOf (known : KnownClasses) (bytes : List ℕ) (size : IdSize) (list : List Sub) (c : Columns) : Type 0 where
   pub ids_are : c.table.ids ≡ object_ids list
   pub rows_are : c.table.rows ≡ map (λ (a : ObjectEntry). a.1) (entries_of known bytes size list)
   pub shapes_are : c.shapes ≡ map (λ (a : ObjectEntry). a.2) (entries_of known bytes size list)

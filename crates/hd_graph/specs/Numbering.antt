@@ -1,75 +1,51 @@
 -- What numbering the objects in file order comes to.
-use Rattle.std.specs.Prelude.{◌≡◌, ◌⊎◌, ◌<◌, ◌==◌, ◌+◌, ◌&&◌, not, if◌then◌else◌, ℕ, Bool, true, false, List, slice_get, [], ◌∷◌, ◌++◌, map, count_by, is_none, Option, Some, All}
-use Rattle.std.specs.Option.{option_map, option_map_or}
+use Rattle.std.specs.Prelude.{◌≡◌, ◌⊎◌, ◌<◌, ◌==◌, ◌+◌, ◌&&◌, not, if◌then◌else◌, ℕ, true, false, List, slice_get, [], ◌∷◌, ◌++◌, map, Option, Some, All}
+use Rattle.std.specs.Option.{option_map}
 use Rattle.std.specs.List.{list_any, filter_map}
 use Rattle.hd_terms.specs.declared.IdSize.{IdSize}
 use Rattle.hd_terms.specs.declared.errors.Cause.TheVariants as causes
 use Rattle.hd_terms.specs.declared.errors.ReadFault.{ReadFault}
-use Rattle.hd_terms.specs.SubRecords.{Sub, Item, ObjArray, PrimArray}
-use Rattle.hd_terms.specs.SubRecords as subs
-use Rattle.hd_terms.specs.FirstRecords.{repeats, first_subs}
-use Rattle.hd_terms.specs.Classes.{ResolvedClass, layout_len}
-use Rattle.hd_terms.specs.HeapFaults.{fault_if}
+use Rattle.hd_terms.specs.SubRecords.{Sub, Item}
+use Rattle.hd_terms.specs.FirstRecords.{repeats}
+use Rattle.hd_terms.specs.Classes.{ResolvedClass, layout_len, KnownClasses}
+use Rattle.hd_terms.specs.HeapFaults.{is_size_mismatch, object_faults}
+use Rattle.hd_terms.specs.Objects.{is_opaque, opaque_in}
 use Rattle.hd_terms.specs.ReadFaults.{fault}
 use Rattle.hd_graph.specs.declared.graph.RootRow.{RootRow}
 use Rattle.hd_graph.specs.declared.number.Tally.{Tally}
 use Rattle.hd_graph.specs.GraphInside.{root_of_row}
 use Rattle.hd_ids.specs.Noted.{is_noted}
 use Rattle.hd_graph.specs.Noted.{NotesId}
-use Rattle.hd_graph.specs.ArrayRows.{KnownBy, object_id, object_ids, roots_in}
-
--- the values of an instance have another number of bytes than its class's layout
-abbrev pub is_size_mismatch : KnownBy → IdSize → Item → Bool
-is_size_mismatch known size (subs.Root kind id) = false
-is_size_mismatch known size (subs.Class c) = false
-is_size_mismatch known size (subs.Instance id class values) = option_map_or (λ (k : ResolvedClass). not (values.len == layout_len size k.layout)) (known class) false
-is_size_mismatch known size (ObjArray id class elements) = false
-is_size_mismatch known size (PrimArray id element count) = false
-
--- nothing is known of an instance's class
-abbrev pub is_opaque : KnownBy → Item → Bool
-is_opaque known (subs.Root kind id) = false
-is_opaque known (subs.Class c) = false
-is_opaque known (subs.Instance id class values) = is_none (known class)
-is_opaque known (ObjArray id class elements) = false
-is_opaque known (PrimArray id element count) = false
-
--- an object with ID 0, or an instance that doesn't fit
-abbrev pub object_fault : KnownBy → IdSize → ℕ × Sub → Option ReadFault
-object_fault known size (id, s) = if id == 0 then fault_if true causes.NullObject s else fault_if (is_size_mismatch known size s.item) causes.InstanceSize s
-
--- the faults of objects, of each ID the first
-abbrev pub object_faults : KnownBy → IdSize → List Sub → List ReadFault
-object_faults known size list = filter_map (object_fault known size) (first_subs list)
+use Rattle.hd_graph.specs.ArrayRows.{object_id, object_ids, roots_in}
 
 -- out of memory, or the first fault of objects
-abbrev pub IsObjectFaultOrMemory : KnownBy → IdSize → List Sub → ReadFault → Type 0
+abbrev pub IsObjectFaultOrMemory : KnownClasses → IdSize → List Sub → ReadFault → Type 0
 IsObjectFaultOrMemory known size list f = (f ≡ fault causes.OutOfMemory 0) ⊎ (slice_get (object_faults known size list) 0 ≡ Some f)
 
 -- these are the IDs of the objects among sub-records, each once, and the roots, and what is counted of them; no ID is 0,
 -- and no instance has values of another size than its class
-pub record IsNumbered (known : KnownBy) (size : IdSize) (list : List Sub) (ids : List ℕ) (roots : List RootRow) (tally : Tally) : Type 0 where
+pub record IsNumbered (known : KnownClasses) (size : IdSize) (list : List Sub) (ids : List ℕ) (roots : List RootRow) (tally : Tally) : Type 0 where
   pub ids_are : ids ≡ object_ids list
   pub known_ids : (id : ℕ) → list_any (λ k. id == k) ids ≡ list_any (λ k. id == k) (filter_map object_id list)
   pub repeated_is : tally.repeated ≡ repeats (λ (id : ℕ). id) (filter_map object_id list)
-  pub opaque_is : tally.opaque ≡ count_by (λ (p : ℕ × Sub). is_opaque known p.1.item) (first_subs list)
+  pub opaque_is : tally.opaque ≡ opaque_in known list
   pub roots_are : map root_of_row roots ≡ roots_in list
   pub no_null : All (λ id. 0 < id) ids
   pub no_fault : object_faults known size list ≡ []
 
 -- one more sub-record is numbered
-abbrev pub NumbersOneMore : KnownBy → IdSize → Sub → List ℕ → List RootRow → Tally → List ℕ → List RootRow → Tally → Type 0
+abbrev pub NumbersOneMore : KnownClasses → IdSize → Sub → List ℕ → List RootRow → Tally → List ℕ → List RootRow → Tally → Type 0
 NumbersOneMore known size s ids roots tally ids' roots' tally' = (front : List Sub) → IsNumbered known size front ids roots tally → IsNumbered known size (front ++ s ∷ []) ids' roots' tally'
 
 -- one more sub-record of an object of an ID: it is noted, and if it is new it fits, and is counted if it is opaque
-pub record NotesObject (known : KnownBy) (size : IdSize) (item : Item) (id : ℕ) (ids : List ℕ) (tally : Tally) (ids' : List ℕ) (tally' : Tally) : Type 0 where
+pub record NotesObject (known : KnownClasses) (size : IdSize) (item : Item) (id : ℕ) (ids : List ℕ) (tally : Tally) (ids' : List ℕ) (tally' : Tally) : Type 0 where
   pub some : 0 < id
   pub noted : NotesId id ids tally.repeated ids' tally'.repeated
   pub fits : is_noted ids id ≡ false → is_size_mismatch known size item ≡ false
   pub opaque : tally'.opaque ≡ tally.opaque + (if not (is_noted ids id) && is_opaque known item then 1 else 0)
 
 -- out of memory, or a fault of an object of an ID at an offset: its ID is 0, or it is new and doesn't fit
-pub data IsObjectStop (known : KnownBy) (size : IdSize) (item : Item) (id offset : ℕ) (ids : List ℕ) : ReadFault → Type 0 where
+pub data IsObjectStop (known : KnownClasses) (size : IdSize) (item : Item) (id offset : ℕ) (ids : List ℕ) : ReadFault → Type 0 where
   memory : IsObjectStop known size item id offset ids (fault causes.OutOfMemory 0)
   null : id ≡ 0 → IsObjectStop known size item id offset ids (fault causes.NullObject offset)
   size_mismatch : 0 < id → is_noted ids id ≡ false → is_size_mismatch known size item ≡ true → IsObjectStop known size item id offset ids (fault causes.InstanceSize offset)
@@ -79,7 +55,7 @@ abbrev pub IsNullIdOrMemory : ℕ → ℕ → ReadFault → Type 0
 IsNullIdOrMemory id offset f = (f ≡ fault causes.OutOfMemory 0) ⊎ ((id ≡ 0) × (f ≡ fault causes.NullObject offset))
 
 -- out of memory, or a fault of a sub-record behind others that were numbered
-abbrev pub StopsAt : KnownBy → IdSize → Sub → List ℕ → ReadFault → Type 0
+abbrev pub StopsAt : KnownClasses → IdSize → Sub → List ℕ → ReadFault → Type 0
 StopsAt known size s ids f = (f ≡ fault causes.OutOfMemory 0) ⊎ ((id : ℕ) × (object_id s ≡ Some id) × IsObjectStop known size s.item id s.offset ids f)
 
 -- how many bytes the values of a class's instances have, if it is known

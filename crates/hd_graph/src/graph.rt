@@ -292,7 +292,7 @@ impl Graph {
     }
 
     /// The index of a slot among those of an object, if the object has it.
-    pub fn place_of(&self, o: u32, slot: Slot) -> Option<u32>
+    pub fn slot_index(&self, o: u32, slot: Slot) -> Option<u32>
         requires { o < length self.now.objects }
         ensures first { result ≡ position (λ (s : SlotEntry). same_slot s.slot slot) (object_at self.now o).slots }
         ensures only { (i : ℕ) (s : SlotEntry) → slice_get (object_at self.now o).slots i ≡ Some s → same_slot s.slot slot ≡ true → result ≡ Some i }

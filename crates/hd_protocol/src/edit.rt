@@ -57,7 +57,7 @@ fn refusal_of_cut(graph: &Graph, id: u64, slot: Slot) -> Option<Refusal>
     let Some(object) = graph.index_of(id) else {
         return Some(Refusal::NoSuchObject);
     };
-    let Some(index) = graph.place_of(object, slot) else {
+    let Some(index) = graph.slot_index(object, slot) else {
         return Some(Refusal::NoSuchSlot);
     };
     let refusal = refusal_of_empty(graph, object, index);
@@ -77,7 +77,7 @@ fn refusal_of_clear(graph: &Graph, id: u64) -> Option<Refusal>
     let Some(slot) = graph.referent_of(object) else {
         return Some(Refusal::NotReference);
     };
-    let Some(index) = graph.place_of(object, slot) else {
+    let Some(index) = graph.slot_index(object, slot) else {
         return Some(Refusal::NotReference);
     };
     refusal_of_empty(graph, object, index)

@@ -15,7 +15,7 @@ use Rattle.hd_strength.specs.Buckets.{bucket, TakesBest}
 use Rattle.hd_strength.specs.Growing.{rank_at, offered_strength, offer_at, IsBacked, IsGrowing, Every, AddsOffers}
 use Rattle.hd_strength.proofs.Lists.{Contains-nil}
 
--- places give the edges that stand, each from its own object
+-- indexes give the edges that stand, each from its own object
 pub record AreRows (g : Standing) (at : ℕ → ℕ → Option Edge) : Type 0 where
   pub stands : (o i : ℕ) (e : Edge) → at o i ≡ Some e → Contains g.edges e
   pub source : (o i : ℕ) (e : Edge) → at o i ≡ Some e → e.source ≡ o
@@ -70,17 +70,17 @@ takes old new s x h = record {
 offered_strength-le : (ks : List Reached) (e : Edge) → rank (offered_strength ks e) ≤ rank_at ks e.source
 offered_strength-le ks e = weaker-le_left (reached_at ks e.source).strength (given_by e.kind)
 
--- the offer at a place is that of its edge
-module _ (at : ℕ → ℕ → Option Edge) (x : Offer) (e : Edge) (is : at x.source x.place ≡ Some e) where
-  one_edge : (f : Edge) → at x.source x.place ≡ Some f → f ≡ e
+-- the offer at an index is that of its edge
+module _ (at : ℕ → ℕ → Option Edge) (x : Offer) (e : Edge) (is : at x.source x.index ≡ Some e) where
+  one_edge : (f : Edge) → at x.source x.index ≡ Some f → f ≡ e
   one_edge f there = let same : Some f ≡ Some e = sym there ∙ is in cc
 
   pub edge_at_offer : (o i : ℕ) (f : Edge) → offer_at o i ≡ x → at o i ≡ Some f → f ≡ e
-  edge_at_offer o i f same there = one_edge f (subst (λ (y : Offer). at y.source y.place ≡ Some f) same there)
+  edge_at_offer o i f same there = one_edge f (subst (λ (y : Offer). at y.source y.index ≡ Some f) same there)
 
 -- an offer to an object that is reached is let go
 pub decline : (g : Standing) (at : ℕ → ℕ → Option Edge) (ks : List Reached) (old new : Strength → List Offer) (count : ℕ) (s : Strength) (x : Offer) (e : Edge)
-    → IsGrowing g at ks old count Every → Takes old new s x → at x.source x.place ≡ Some e → 1 ≤ rank_at ks e.target → IsGrowing g at ks new count Every
+    → IsGrowing g at ks old count Every → Takes old new s x → at x.source x.index ≡ Some e → 1 ≤ rank_at ks e.target → IsGrowing g at ks new count Every
 decline g at ks old new count s x e h t is reached = record {
   supported = h.supported;
   by_roots = h.by_roots;
@@ -141,33 +141,33 @@ module _ (g : Standing) (at : ℕ → ℕ → Option Edge) (rows : AreRows g at)
       | inl before ↦ h.backed s y before
       | inr made ↦ record {
         edge = made.1;
-        is = subst (λ (p : ℕ). at p y.place ≡ Some made.1) (sym made.0) made.2;
+        is = subst (λ (p : ℕ). at p y.index ≡ Some made.1) (sym made.0) made.2;
         passes_on = subst (λ (p : ℕ). PassesOn g.mode (reached_at ks p)) (sym made.0) passes;
         gives = made.3;
       }
     ];
     least = λ s y c p reached. elim (adds.made s y c) [
       | inl before ↦ h.least s y before p reached
-      | inr made ↦ let gives : rank s ≡ rank (offered_strength ks made.1) = ap rank made.3 in omega (arith, gives-le y.place made.1 made.2, floor p reached)
+      | inr made ↦ let gives : rank s ≡ rank (offered_strength ks made.1) = ap rank made.3 in omega (arith, gives-le y.index made.1 made.2, floor p reached)
     ];
   }
 
 -- a best offer is taken
 module _ (g : Standing) (at : ℕ → ℕ → Option Edge) (rows : AreRows g at) (ks ks' : List Reached) (old new : Strength → List Offer) (count : ℕ) (s : Strength) (x : Offer) (e : Edge)
-    (h : IsGrowing g at ks old count Every) (t : Takes old new s x) (is : at x.source x.place ≡ Some e) (low : rank_at ks e.target ≡ 0)
+    (h : IsGrowing g at ks old count Every) (t : Takes old new s x) (is : at x.source x.index ≡ Some e) (low : rank_at ks e.target ≡ 0)
     (here : reached_at ks' e.target ≡ record { strength = s; support = supports.Edge e.source e.slot; stamp = count + 1 })
     (others : (o : ℕ) → o ≢ e.target → reached_at ks' o ≡ reached_at ks o) where
   back : IsBacked g.mode at ks s x
   back = h.backed s x t.offer.made
 
   source : e.source ≡ x.source
-  source = rows.source x.source x.place e is
+  source = rows.source x.source x.index e is
 
   passes : PassesOn g.mode (reached_at ks e.source)
   passes = subst (λ (o : ℕ). PassesOn g.mode (reached_at ks o)) (sym source) back.passes_on
 
   gives : s ≡ offered_strength ks e
-  gives = back.gives ∙ ap (offered_strength ks) (edge_at_offer at x e is x.source x.place back.edge refl back.is)
+  gives = back.gives ∙ ap (offered_strength ks) (edge_at_offer at x e is x.source x.index back.edge refl back.is)
 
   -- what is reached stays
   stays : (o : ℕ) → 1 ≤ rank_at ks o → reached_at ks' o ≡ reached_at ks o
@@ -201,7 +201,7 @@ module _ (g : Standing) (at : ℕ → ℕ → Option Edge) (rows : AreRows g at)
 
   new_support : SupportedBy g ks' e.target e.source e.slot e
   new_support = record {
-    stands = rows.stands x.source x.place e is;
+    stands = rows.stands x.source x.index e is;
     from_source = refl;
     from_slot = refl;
     to_object = refl;
@@ -246,7 +246,7 @@ module _ (g : Standing) (at : ℕ → ℕ → Option Edge) (rows : AreRows g at)
   still_backed : (r : Strength) (y : Offer) → IsBacked g.mode at ks r y → IsBacked g.mode at ks' r y
   still_backed r y b =
       let there : reached_at ks' y.source ≡ reached_at ks y.source = stays y.source (omega (arith, b.passes_on, least-positive g.mode)) in
-      let from : b.edge.source ≡ y.source = rows.source y.source y.place b.edge b.is in
+      let from : b.edge.source ≡ y.source = rows.source y.source y.index b.edge b.is in
       record {
         edge = b.edge;
         is = b.is;
@@ -287,9 +287,9 @@ settled_in_the_end g at rows ks offers count h none = record {
   supported = h.supported;
   by_roots = h.by_roots;
   by_edges = λ e c p.
-      let place : (i : ℕ) × (at e.source i ≡ Some e) = rows.all e c in
-      elim (h.by_edges e.source place.0 e tt place.1 p) [
+      let index : (i : ℕ) × (at e.source i ≡ Some e) = rows.all e c in
+      elim (h.by_edges e.source index.0 e tt index.1 p) [
         | inl le ↦ le
-        | inr offer ↦ absurd (Contains-nil (offer_at e.source place.0) (subst (λ (xs : List Offer). Contains xs (offer_at e.source place.0)) (none (offered_strength ks e)) offer))
+        | inr offer ↦ absurd (Contains-nil (offer_at e.source index.0) (subst (λ (xs : List Offer). Contains xs (offer_at e.source index.0)) (none (offered_strength ks e)) offer))
       ];
 }

@@ -22,7 +22,7 @@ Contains-cons_cases x xs y (suc k, lt, is) = inr (k, omega arith, is)
 pub Contains-nil : {X : Type 0} (y : X) → Contains [] y → ⊥
 Contains-nil y (k, lt, is) = omega arith
 
--- what stands at a place is in the list
+-- what stands at an index is in the list
 pub Contains-slice_get : {X : Type 0} (xs : List X) (i : ℕ) (y : X) → i < length xs → slice_get xs i ≡ Some y → Contains xs y
 Contains-slice_get xs i y lt e = (i, lt, get_or_from_slice_get xs i y y e)
 
@@ -104,7 +104,7 @@ filter_only p (z ∷ zs) x c = elim (cond_cases (p z) z (filter p zs) x c) [
   | inr later ↦ Contains-tail z zs x (filter_only p zs x later)
 ]
 
--- each element stands with its place in the numbered list
+-- each element stands with its index in the numbered list
 pub enumerate_contains : {X : Type 0} (xs : List X) (i : ℕ) (x : X) → slice_get xs i ≡ Some x → Contains (enumerate_from 0 xs) (i, x)
 enumerate_contains xs i x e =
     let lt : i < length xs = slice_get_within xs i x e in
@@ -118,9 +118,9 @@ pub enumerate_only : {X : Type 0} (xs : List X) (n : ℕ × X) → Contains (enu
 enumerate_only xs n (k, lt, is) =
     let k_lt : k < length xs = omega (arith, length-enumerate_from 0 xs) in
     let at : n ≡ (0 + k, get_or xs k n.1) = sym is ∙ get_or-enumerate_from 0 xs k n k_lt in
-    let place : n.0 ≡ k = ap (λ (p : ℕ × _). p.0) at ∙ zero-add k in
+    let index : n.0 ≡ k = ap (λ (p : ℕ × _). p.0) at ∙ zero-add k in
     let value : n.1 ≡ get_or xs k n.1 = ap (λ (p : ℕ × _). p.1) at in
-    rw place (slice_get-get_or xs k n.1 k_lt ∙ ap (λ (y : _). Some y) (sym value))
+    rw index (slice_get-get_or xs k n.1 k_lt ∙ ap (λ (y : _). Some y) (sym value))
 
 -- one more default changes no read
 pub push_default : {X : Type 0} (d : X) (xs : List X) → ((o : ℕ) → get_or xs o d ≡ d) → (o : ℕ) → get_or (xs ++ d ∷ []) o d ≡ d

@@ -25,11 +25,11 @@ use Rattle.hd_strength.proofs.Lists.{Contains-nil}
 use Rattle.hd_strength.proofs.RowLemmas.{root_stands_at, root_has_number}
 use Rattle.hd_strength.proofs.Grow.{extends, Extends, edge_at_offer}
 
--- no place is looked at yet
+-- no slot is looked at yet
 pub none_added : (at : ℕ → ℕ → Option Edge) (ks : List Reached) (o : ℕ) (offers : Strength → List Offer) → AddsOffers at ks o 0 offers offers
 none_added at ks o offers = record { kept = λ s x c. c; made = λ s x c. inl c; done = λ i e lt is. absurd (omega arith) }
 
--- one more place is looked at
+-- one more slot is looked at
 module _ (at : ℕ → ℕ → Option Edge) (ks : List Reached) (o i : ℕ) (old : Strength → List Offer) where
   pub skipped : (new : Strength → List Offer) → AddsOffers at ks o i old new → ((e : Edge) → at o i ≡ Some e → 1 ≤ rank_at ks e.target) → AddsOffers at ks o (i + 1) old new
   skipped new h reached = record {
@@ -47,15 +47,15 @@ module _ (at : ℕ → ℕ → Option Edge) (ks : List Reached) (o i : ℕ) (old
       record {
         kept = λ t y c. x.within t y (h.kept t y c);
         made = λ t y c. elim (x.left t y c) [
-          | inl both ↦ inr (ap (λ (y : Offer). y.source) both.1, e, subst (λ (j : ℕ). at o j ≡ Some e) (sym (ap (λ (y : Offer). y.place) both.1)) is, both.0 ∙ gives)
+          | inl both ↦ inr (ap (λ (y : Offer). y.source) both.1, e, subst (λ (j : ℕ). at o j ≡ Some e) (sym (ap (λ (y : Offer). y.index) both.1)) is, both.0 ∙ gives)
           | inr before ↦ h.made t y before
         ];
         done = λ j f lt there. elim (cases_eq j i) [
           | inl same ↦
               let edge : f ≡ e = edge_at_offer at (offer_at o i) e is o j f (ap (offer_at o) same) there in
               let offered_strength_is : offered_strength ks f ≡ s = ap (offered_strength ks) edge ∙ sym gives in
-              let place : offer_at o j ≡ offer_at o i = ap (offer_at o) same in
-              inr (subst (λ (r : Strength). Contains (bucket new' r) (offer_at o j)) (sym offered_strength_is) (subst (λ (y : Offer). Contains (bucket new' s) y) (sym place) x.made))
+              let offer : offer_at o j ≡ offer_at o i = ap (offer_at o) same in
+              inr (subst (λ (r : Strength). Contains (bucket new' r) (offer_at o j)) (sym offered_strength_is) (subst (λ (y : Offer). Contains (bucket new' s) y) (sym offer) x.made))
           | inr other ↦ elim (h.done j f (omega arith) there) [
             | inl reached ↦ inl reached
             | inr c ↦ inr (x.within (offered_strength ks f) (offer_at o j) c)
@@ -63,7 +63,7 @@ module _ (at : ℕ → ℕ → Option Edge) (ks : List Reached) (o i : ℕ) (old
         ];
       }
 
--- fewer places
+-- fewer slots
 pub all_added : (at : ℕ → ℕ → Option Edge) (ks : List Reached) (o m n : ℕ) (old new : Strength → List Offer) → AddsOffers at ks o n old new → m ≤ n → AddsOffers at ks o m old new
 all_added at ks o m n old new h le = record { kept = h.kept; made = h.made; done = λ i e lt is. h.done i e (omega arith) is }
 
@@ -188,7 +188,7 @@ begins dump log ks offers h empty =
     let none : (s : Strength) (x : Offer) → Contains (offers s) x → ⊥ = λ s x c. Contains-nil x (subst (λ (xs : List Offer). Contains xs x) (empty s) c) in
     record {
       supported = λ o. held_support dump log ks o (h.each o);
-      by_roots = λ x c. let place : (r : ℕ) × (r < root_count dump log) × (root_at dump log r ≡ Some x) = root_has_number dump log x c in h.by_roots place.0 place.1 x place.2;
+      by_roots = λ x c. let number : (r : ℕ) × (r < root_count dump log) × (root_at dump log r ≡ Some x) = root_has_number dump log x c in h.by_roots number.0 number.1 x number.2;
       stamps = λ o. held_stamp dump log ks o (h.each o);
       by_edges = λ o i e lt is p. absurd (omega arith);
       backed = λ s x c. absurd (none s x c);

@@ -20,7 +20,7 @@ use Rattle.hd_terms.specs.Edges.{index_of}
 use Rattle.hd_terms.specs.EditedDump.{takes_away, is_slot, same_slot, drops}
 use Rattle.hd_log.proofs.LastLemmas.{numbered_more, by_event}
 use Rattle.hd_terms.specs.Log.{stays, edit_of, live_edit, live_edits, is_live, live_flags}
-use Rattle.hd_strength.specs.Removed.{place_key, has_place, has_root, IsRemovedBy, ArePlaces, AreRoots, IsOnlyPlace, IsNamedPlace}
+use Rattle.hd_strength.specs.Removed.{slot_key, has_slot, has_root, IsRemovedBy, AreSlots, AreRoots, IsOnlySlot, IsNamedSlot}
 
 -- tests
 or-true_right : (a : Bool) → (a || true) ≡ true
@@ -90,38 +90,38 @@ root_removed numbers numbers' root r is =
     let same : nat_eq r root ≡ (root == r) = same_test (nat_eq r root) (root == r) (λ e. eq-eqb root r (sym (eqb-true r root e))) (λ e. eq-eqb r root (sym (eqb-true root r e))) in
     ap (list_any (nat_eq r)) is ∙ has-insert numbers root r ∙ ap (λ (b : Bool). list_any (nat_eq r) numbers || b) same
 
--- one more place is taken away, by its key
-key-cases : (b : Bool) (o i x j : ℕ) → nat_lt i 4294967296 ≡ b → j < 4294967296 → (b && nat_eq (place_key o i) (place_key x j)) ≡ true → (o ≡ x) × (i ≡ j)
+-- one more slot is taken away, by its key
+key-cases : (b : Bool) (o i x j : ℕ) → nat_lt i 4294967296 ≡ b → j < 4294967296 → (b && nat_eq (slot_key o i) (slot_key x j)) ≡ true → (o ≡ x) × (i ≡ j)
 key-cases false o i x j lt small h = absurd cc
 key-cases true o i x j lt small h =
     let within : i < 4294967296 = ltb-true i 4294967296 lt in
-    let same : o * 4294967296 + i ≡ x * 4294967296 + j = eqb-true (place_key o i) (place_key x j) h in
+    let same : o * 4294967296 + i ≡ x * 4294967296 + j = eqb-true (slot_key o i) (slot_key x j) h in
     (omega arith, omega arith)
 
-place-inserted : (keys : List ℕ) (o i x j : ℕ) → has_place (insert_key nat_eq keys (place_key x j)) o i ≡ (has_place keys o i || (nat_lt i 4294967296 && nat_eq (place_key o i) (place_key x j)))
-unfolding has_place
-place-inserted keys o i x j =
-    ap (λ (b : Bool). nat_lt i 4294967296 && b) (has-insert keys (place_key x j) (place_key o i))
-    ∙ and-or (nat_lt i 4294967296) (list_any (nat_eq (place_key o i)) keys) (nat_eq (place_key o i) (place_key x j))
+slot-inserted : (keys : List ℕ) (o i x j : ℕ) → has_slot (insert_key nat_eq keys (slot_key x j)) o i ≡ (has_slot keys o i || (nat_lt i 4294967296 && nat_eq (slot_key o i) (slot_key x j)))
+unfolding has_slot
+slot-inserted keys o i x j =
+    ap (λ (b : Bool). nat_lt i 4294967296 && b) (has-insert keys (slot_key x j) (slot_key o i))
+    ∙ and-or (nat_lt i 4294967296) (list_any (nat_eq (slot_key o i)) keys) (nat_eq (slot_key o i) (slot_key x j))
 
 key-same : (i j : ℕ) (k l : ℕ) → k ≡ l → i ≡ j → j < 4294967296 → (nat_lt i 4294967296 && nat_eq k l) ≡ true
 key-same i j k l keys same small = rw (lt-ltb i 4294967296 (omega arith), eq-eqb k l keys) refl
 
 -- what an edit takes away
-module _ (dump : Dump) (edit : Edit) (p : Option (ℕ × ℕ)) (only : IsOnlyPlace dump (λ x s. takes_away x s edit) p) (o i : ℕ) (s : SlotEntry)
+module _ (dump : Dump) (edit : Edit) (p : Option (ℕ × ℕ)) (only : IsOnlySlot dump (λ x s. takes_away x s edit) p) (o i : ℕ) (s : SlotEntry)
     (lt : o < length dump.objects) (at : slice_get (object_at dump o).slots i ≡ Some s) where
-  pub place_removed : (x j : ℕ) → p ≡ Some (x, j) → j < 4294967296 → (keys keys' : List ℕ) → keys' ≡ insert_key nat_eq keys (place_key x j) → has_place keys' o i ≡ (has_place keys o i || takes_away (object_at dump o) s edit)
-  place_removed x j is small keys keys' new =
-      let test : (nat_lt i 4294967296 && nat_eq (place_key o i) (place_key x j)) ≡ takes_away (object_at dump o) s edit =
-      same_test (nat_lt i 4294967296 && nat_eq (place_key o i) (place_key x j)) (takes_away (object_at dump o) s edit)
+  pub slot_removed : (x j : ℕ) → p ≡ Some (x, j) → j < 4294967296 → (keys keys' : List ℕ) → keys' ≡ insert_key nat_eq keys (slot_key x j) → has_slot keys' o i ≡ (has_slot keys o i || takes_away (object_at dump o) s edit)
+  slot_removed x j is small keys keys' new =
+      let test : (nat_lt i 4294967296 && nat_eq (slot_key o i) (slot_key x j)) ≡ takes_away (object_at dump o) s edit =
+      same_test (nat_lt i 4294967296 && nat_eq (slot_key o i) (slot_key x j)) (takes_away (object_at dump o) s edit)
       (λ h. let both = key-cases (nat_lt i 4294967296) o i x j refl small h in
       only.passes o i s (is ∙ ap (λ (n : ℕ). Some (n, j)) (sym both.0) ∙ ap (λ (n : ℕ). Some (o, n)) (sym both.1)) at)
       (λ h. let same : some_of x j ≡ some_of o i = sym is ∙ only.only o i s lt at h in
       let object : x ≡ o = first-of x j o i same in
-      let place : j ≡ i = second-of x j o i same in
-      key-same i j (place_key o i) (place_key x j) (ap (λ (n : ℕ). place_key n i) (sym object) ∙ ap (place_key x) (sym place)) (sym place) small)
+      let index : j ≡ i = second-of x j o i same in
+      key-same i j (slot_key o i) (slot_key x j) (ap (λ (n : ℕ). slot_key n i) (sym object) ∙ ap (slot_key x) (sym index)) (sym index) small)
       in
-      ap (λ (ks : List ℕ). has_place ks o i) new ∙ place-inserted keys o i x j ∙ ap (λ (b : Bool). has_place keys o i || b) test
+      ap (λ (ks : List ℕ). has_slot ks o i) new ∙ slot-inserted keys o i x j ∙ ap (λ (b : Bool). has_slot keys o i || b) test
 
 -- an edit of a slot of the object with an ID, by the object
 module _ (dump : Dump) (edit : Edit) (id : ℕ) (name : Object → Option Slot) (m : Option ℕ)
@@ -130,8 +130,8 @@ module _ (dump : Dump) (edit : Edit) (id : ℕ) (name : Object → Option Slot) 
   parts : (x : Object) (s : SlotEntry) → takes_away x s edit ≡ true → (x.id ≡ id) × (is_slot s.slot (name x) ≡ true)
   parts x s t = let both = and_parts (x.id == id) (is_slot s.slot (name x)) (sym (form x s) ∙ t) in (eqb-true x.id id both.0, both.1)
 
-  pub object_place : (o : ℕ) (p : Option (ℕ × ℕ)) → m ≡ Some o → m ≡ index_of dump.objects id → IsNamedPlace (object_at dump o).slots (name (object_at dump o)) o p → IsOnlyPlace dump (λ x s. takes_away x s edit) p
-  object_place o p is first named = record {
+  pub object_slot : (o : ℕ) (p : Option (ℕ × ℕ)) → m ≡ Some o → m ≡ index_of dump.objects id → IsNamedSlot (object_at dump o).slots (name (object_at dump o)) o p → IsOnlySlot dump (λ x s. takes_away x s edit) p
+  object_slot o p is first named = record {
     passes = λ x i s at there.
         let object : x ≡ o = named.object x i at in
         let same : object_at dump x ≡ object_at dump o = ap (object_at dump) object in
@@ -146,18 +146,18 @@ module _ (dump : Dump) (edit : Edit) (id : ℕ) (name : Object → Option Slot) 
         named.only i s (ap (λ (y : Object). slice_get y.slots i) (sym same) ∙ at) (ap (λ (y : Object). is_slot s.slot (name y)) (sym same) ∙ here.1) ∙ ap (λ (n : ℕ). Some (n, i)) (sym object);
   }
 
--- a named place of an object's slots
+-- a named slot of an object
 module _ (slots : List SlotEntry) (slot : Slot) (o : ℕ) (q : Option ℕ)
     (first : q ≡ position (λ (s : SlotEntry). same_slot s.slot slot) slots)
     (only : (i : ℕ) (s : SlotEntry) → slice_get slots i ≡ Some s → same_slot s.slot slot ≡ true → q ≡ Some i) where
-  pub some_named_place : (j : ℕ) → q ≡ Some j → IsNamedPlace slots (Some slot) o (Some (o, j))
-  some_named_place j is = record {
+  pub some_named_slot : (j : ℕ) → q ≡ Some j → IsNamedSlot slots (Some slot) o (Some (o, j))
+  some_named_slot j is = record {
     object = λ x i both. sym (first-of o j x i both);
     named = λ x i s both at.
-        let place : j ≡ i = second-of o j x i both in
-        let there : get_or slots j s ≡ s = get_or_from_slice_get slots j s s (ap (slice_get slots) place ∙ at) in
+        let index : j ≡ i = second-of o j x i both in
+        let there : get_or slots j s ≡ s = get_or_from_slice_get slots j s s (ap (slice_get slots) index ∙ at) in
         ap (λ (y : SlotEntry). same_slot y.slot slot) (sym there) ∙ (position-Some (λ (s : SlotEntry). same_slot s.slot slot) slots j s (sym first ∙ is)).1;
-    only = λ i s at t. let same : Some j ≡ Some i = sym is ∙ only i s at t in let place : j ≡ i = cc in ap (λ (n : ℕ). Some (o, n)) place;
+    only = λ i s at t. let same : Some j ≡ Some i = sym is ∙ only i s at t in let index : j ≡ i = cc in ap (λ (n : ℕ). Some (o, n)) index;
   }
 
 -- the live edits of the first k events
@@ -178,27 +178,27 @@ module _ (log : List Event) (k : ℕ) (r : Option Edit) (lt : k < length log) (i
   any-more : (p : Edit → Bool) (edit : Edit) → r ≡ Some edit → list_any p (edits_before log (k + 1)) ≡ (list_any p (edits_before log k) || p edit)
   any-more p edit some = ap (list_any p) (edits_by ∙ ap (λ (o : Option Edit). edits_before log k ++ cons_option o []) some) ∙ list_any-append p (edits_before log k) (edit ∷ []) ∙ ap (λ (b : Bool). list_any p (edits_before log k) || b) (or-false_right (p edit))
 
-  pub more_places : (dump : Dump) (edit : Edit) (keys keys' : List ℕ) → r ≡ Some edit → ArePlaces dump (edits_before log k) keys
-      → ((o i : ℕ) (s : SlotEntry) → o < length dump.objects → slice_get (object_at dump o).slots i ≡ Some s → has_place keys' o i ≡ (has_place keys o i || takes_away (object_at dump o) s edit))
-      → ArePlaces dump (edits_before log (k + 1)) keys'
-  more_places dump edit keys keys' some so_far new o i s o_lt at =
+  pub more_slots : (dump : Dump) (edit : Edit) (keys keys' : List ℕ) → r ≡ Some edit → AreSlots dump (edits_before log k) keys
+      → ((o i : ℕ) (s : SlotEntry) → o < length dump.objects → slice_get (object_at dump o).slots i ≡ Some s → has_slot keys' o i ≡ (has_slot keys o i || takes_away (object_at dump o) s edit))
+      → AreSlots dump (edits_before log (k + 1)) keys'
+  more_slots dump edit keys keys' some so_far new o i s o_lt at =
       new o i s o_lt at ∙ ap (λ (b : Bool). b || takes_away (object_at dump o) s edit) (so_far o i s o_lt at) ∙ sym (any-more (takes_away (object_at dump o) s) edit some)
 
   pub more_roots : (edit : Edit) (numbers numbers' : List ℕ) → r ≡ Some edit → AreRoots (edits_before log k) numbers → ((n : ℕ) → has_root numbers' n ≡ (has_root numbers n || drops n edit)) → AreRoots (edits_before log (k + 1)) numbers'
   more_roots edit numbers numbers' some so_far new n = new n ∙ ap (λ (b : Bool). b || drops n edit) (so_far n) ∙ sym (any-more (drops n) edit some)
 
 -- before any event
-pub no_places : (dump : Dump) (keys : List ℕ) → keys ≡ [] → ArePlaces dump [] keys
-unfolding has_place
-no_places dump keys none o i s lt at = ap (λ (ks : List ℕ). has_place ks o i) none ∙ and-false (nat_lt i 4294967296)
+pub no_slots : (dump : Dump) (keys : List ℕ) → keys ≡ [] → AreSlots dump [] keys
+unfolding has_slot
+no_slots dump keys none o i s lt at = ap (λ (ks : List ℕ). has_slot ks o i) none ∙ and-false (nat_lt i 4294967296)
 
 pub no_roots : (numbers : List ℕ) → numbers ≡ [] → AreRoots [] numbers
 unfolding has_root
 no_roots numbers none r = ap (λ (ns : List ℕ). has_root ns r) none
 
 -- after all events
-pub is_removed_by : (dump : Dump) (log : List Event) (k : ℕ) (places roots : List ℕ) → k ≡ length log → ArePlaces dump (edits_before log k) places → AreRoots (edits_before log k) roots → IsRemovedBy dump log (record { places = places; roots = roots })
-is_removed_by dump log k places roots end p r =
+pub is_removed_by : (dump : Dump) (log : List Event) (k : ℕ) (slots roots : List ℕ) → k ≡ length log → AreSlots dump (edits_before log k) slots → AreRoots (edits_before log k) roots → IsRemovedBy dump log (record { slots = slots; roots = roots })
+is_removed_by dump log k slots roots end p r =
     let all : edits_before log k ≡ live_edits log = ap (λ (es : List Event). filter_map (live_edit log) (enumerate_from 0 es)) (take_all k log (omega arith)) in
     record {
       slots = λ o i s lt at. p o i s lt at ∙ ap (list_any (takes_away (object_at dump o) s)) all ∙ sym (not-not (list_any (takes_away (object_at dump o) s) (live_edits log)));
@@ -222,7 +222,7 @@ is-none : (r : Option Edit) → is_some r ≡ false → None ≡ r
 is-none None h = refl
 is-none (Some edit) h = absurd cc
 
--- the live edit at a place, by its flag and what the event does
+-- the live edit at an index, by its flag and what the event does
 module _ (log : List Event) (k : ℕ) (x : Event) (live : List Bool) (d : Bool) (flags : live ≡ live_flags log) (read : slice_get log k ≡ Some x) (e : Event) (at : slice_get log k ≡ Some e) where
   flag : get_or live k d ≡ is_live log (k, e)
   flag = ap (λ (bs : List Bool). get_or bs k d) flags ∙ flag-at log k e d at
@@ -236,10 +236,10 @@ module _ (log : List Event) (k : ℕ) (x : Event) (live : List Bool) (d : Bool) 
   pub live_do : (edit : Edit) → get_or live k d ≡ true → x.what ≡ whats.Do edit → Some edit ≡ live_edit log (k, e)
   live_do edit has_flag is = live-by (stays log k) e.what edit (sym one ∙ is) (sym flag ∙ has_flag)
 
--- a look-up of a place
-pub place_found : (keys : List ℕ) (o i : ℕ) (found : Bool) → i < 4294967296 → found ≡ list_any (nat_eq (place_key o i)) keys → found ≡ has_place keys o i
-unfolding has_place
-place_found keys o i found small is = is ∙ sym (ap (λ (b : Bool). b && list_any (nat_eq (place_key o i)) keys) (lt-ltb i 4294967296 small))
+-- a look-up of a slot
+pub slot_found : (keys : List ℕ) (o i : ℕ) (found : Bool) → i < 4294967296 → found ≡ list_any (nat_eq (slot_key o i)) keys → found ≡ has_slot keys o i
+unfolding has_slot
+slot_found keys o i found small is = is ∙ sym (ap (λ (b : Bool). b && list_any (nat_eq (slot_key o i)) keys) (lt-ltb i 4294967296 small))
 
 -- a look-up of a root
 pub root_found : (numbers : List ℕ) (r : ℕ) (found : Bool) → found ≡ list_any (nat_eq r) numbers → found ≡ has_root numbers r

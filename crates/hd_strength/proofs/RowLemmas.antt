@@ -53,14 +53,14 @@ edge-by : (stands : Bool) (edge : Option Edge) (e : Edge) → cond stands edge N
 edge-by true edge e h = (refl, h)
 edge-by false edge e h = absurd cc
 
--- a place of an object's slots, with what stands there
+-- the index of a slot of an object, with what stands there
 module _ (dump : Dump) (log : List Event) (o i : ℕ) (s : SlotEntry) (entry : slice_get (object_at dump o).slots i ≡ Some s) where
-  at_place : edge_at dump log o i ≡ cond (is_untouched log (object_at dump o) s) (edge_of dump.objects o s) None
+  at_index : edge_at dump log o i ≡ cond (is_untouched log (object_at dump o) s) (edge_of dump.objects o s) None
   unfolding edge_at
-  at_place = ap (edge_by dump log o) entry
+  at_index = ap (edge_by dump log o) entry
 
   at_parts : (e : Edge) → edge_at dump log o i ≡ Some e → (is_untouched log (object_at dump o) s ≡ true) × (edge_of dump.objects o s ≡ Some e)
-  at_parts e is = edge-by (is_untouched log (object_at dump o) s) (edge_of dump.objects o s) e (sym at_place ∙ is)
+  at_parts e is = edge-by (is_untouched log (object_at dump o) s) (edge_of dump.objects o s) e (sym at_index ∙ is)
 
   pub at_none : index_of dump.objects s.id ≡ None → (e : Edge) → edge_at dump log o i ≡ Some e → ⊥
   at_none none e is =
@@ -72,13 +72,13 @@ module _ (dump : Dump) (log : List Event) (o i : ℕ) (s : SlotEntry) (entry : s
 
   pub at_some : (t : ℕ) → index_of dump.objects s.id ≡ Some t → is_untouched log (object_at dump o) s ≡ true → edge_at dump log o i ≡ Some (edge_to o s t)
   at_some t some stands =
-      at_place ∙ ap (λ (b : Bool). cond b (edge_of dump.objects o s) None) stands ∙ ap (option_map (λ (target : ℕ). edge_to o s target)) some
+      at_index ∙ ap (λ (b : Bool). cond b (edge_of dump.objects o s) None) stands ∙ ap (option_map (λ (target : ℕ). edge_to o s target)) some
 
-  -- an edge at a place is that of its slot
+  -- an edge at an index is that of its slot
   pub at_edge : (e : Edge) → edge_at dump log o i ≡ Some e → (index_of dump.objects s.id ≡ Some e.target) × (e ≡ edge_to o s e.target)
   at_edge e is = by_target o s (index_of dump.objects s.id) e (at_parts e is).1
 
-  -- an edge at a place leads to the object of its slot's ID
+  -- an edge at an index leads to the object of its slot's ID
   pub at_target : (t : ℕ) (e : Edge) → index_of dump.objects s.id ≡ Some t → edge_at dump log o i ≡ Some e → edge_to o s t ≡ e
   at_target t e some is =
       let found = at_edge e is in
@@ -89,10 +89,10 @@ module _ (dump : Dump) (log : List Event) (o i : ℕ) (s : SlotEntry) (entry : s
   pub at_stands : (e : Edge) → edge_at dump log o i ≡ Some e → is_untouched log (object_at dump o) s ≡ true
   at_stands e is = (at_parts e is).0
 
--- what is known of an edge at a place
+-- what is known of an edge at an index
 pub record IsAt (dump : Dump) (log : List Event) (o i : ℕ) (e : Edge) : Type 0 where
   pub object : o < length dump.objects
-  pub place : i < width dump o
+  pub within : i < width dump o
   pub target : e.target < length dump.objects
   pub entry : SlotEntry
   pub there : slice_get (object_at dump o).slots i ≡ Some entry
@@ -105,10 +105,10 @@ none_past : (dump : Dump) (log : List Event) (o i : ℕ) (e : Edge) → edge_at 
 unfolding edge_at
 none_past dump log o i e is none = let same : None ≡ Some e = sym (ap (edge_by dump log o) none) ∙ is in absurd (cc)
 
--- an edge at a place is one of the dump's
+-- an edge at an index is one of the dump's
 pub is_at : (dump : Dump) (log : List Event) (o i : ℕ) (e : Edge) → edge_at dump log o i ≡ Some e → IsAt dump log o i e
 is_at dump log o i e is =
-    let place : i < width dump o = elim (cases_lt i (width dump o)) [
+    let within : i < width dump o = elim (cases_lt i (width dump o)) [
       | inl lt ↦ lt
       | inr le ↦ absurd (none_past dump log o i e is (slice_get_past (object_at dump o).slots i le))
     ] in
@@ -117,11 +117,11 @@ is_at dump log o i e is =
       | inr le ↦ let none : width dump o ≡ 0 = ap (λ (x : Object). length x.slots) (get_or_past dump.objects o no_object le) in absurd (omega arith)
     ] in
     let s : SlotEntry = get_or (object_at dump o).slots i (record { slot = e.slot; kind = e.kind; id = 0 }) in
-    let there : slice_get (object_at dump o).slots i ≡ Some s = slice_get-get_or (object_at dump o).slots i (record { slot = e.slot; kind = e.kind; id = 0 }) place in
+    let there : slice_get (object_at dump o).slots i ≡ Some s = slice_get-get_or (object_at dump o).slots i (record { slot = e.slot; kind = e.kind; id = 0 }) within in
     let found : (index_of dump.objects s.id ≡ Some e.target) × (e ≡ edge_to o s e.target) = at_edge dump log o i s there e is in
     record {
       object = object;
-      place = place;
+      within = within;
       target = index_of_within dump.objects s.id e.target found.0;
       entry = s;
       there = there;
@@ -130,11 +130,11 @@ is_at dump log o i e is =
       stands = at_stands dump log o i s there e is;
     }
 
--- an edge at a place of an object starts there
+-- an edge at an index of an object starts there
 pub at_source : (dump : Dump) (log : List Event) (o i : ℕ) (e : Edge) → edge_at dump log o i ≡ Some e → e.source ≡ o
 at_source dump log o i e is = ap (λ (x : Edge). x.source) (is_at dump log o i e is).is
 
--- an edge at a place stands
+-- an edge at an index stands
 pub edge_stands_at : (dump : Dump) (log : List Event) (o i : ℕ) (e : Edge) → edge_at dump log o i ≡ Some e → Contains (standing dump log).edges e
 edge_stands_at dump log o i e is =
     let at : IsAt dump log o i e = is_at dump log o i e is in
@@ -142,7 +142,7 @@ edge_stands_at dump log o i e is =
     flat_map_contains (standing_from dump log) (enumerate_from 0 dump.objects) (o, x) e
     (enumerate_contains dump.objects o x (slice_get-get_or dump.objects o no_object at.object))
     (filter_map_contains (edge_of dump.objects o) (filter (is_untouched log x) x.slots) at.entry e
-    (filter_contains (is_untouched log x) x.slots at.entry (Contains-slice_get x.slots i at.entry at.place at.there) at.stands)
+    (filter_contains (is_untouched log x) x.slots at.entry (Contains-slice_get x.slots i at.entry at.within at.there) at.stands)
     (ap (option_map (λ (target : ℕ). edge_to o at.entry target)) at.index ∙ ap (λ (y : Edge). Some y) (sym at.is)))
 
 -- what is in the filtered list passes
@@ -154,10 +154,10 @@ filter_passes : {X : Type 0} (p : X → Bool) (xs : List X) (x : X) → Contains
 filter_passes p [] x c = absurd (Contains-nil x c)
 filter_passes p (z ∷ zs) x c = passes-cases p (p z) z zs x refl (filter_passes p zs x) c
 
--- each edge that stands is at a place
-pub edge_has_place : (dump : Dump) (log : List Event) (e : Edge) → Contains (standing dump log).edges e → (i : ℕ) × (edge_at dump log e.source i ≡ Some e)
+-- each edge that stands is at an index
+pub edge_has_index : (dump : Dump) (log : List Event) (e : Edge) → Contains (standing dump log).edges e → (i : ℕ) × (edge_at dump log e.source i ≡ Some e)
 unfolding edge_at
-edge_has_place dump log e c =
+edge_has_index dump log e c =
     let (n, numbered, from) = flat_map_only (standing_from dump log) (enumerate_from 0 dump.objects) e c in
     let (s, kept, gives) = filter_map_only (edge_of dump.objects n.0) (filter (is_untouched log n.1) n.1.slots) e from in
     let (i, lt, is) = filter_only (is_untouched log n.1) n.1.slots s kept in

@@ -14,17 +14,17 @@ use Rattle.hd_strength.specs.declared.buckets.Buckets.{Buckets}
 use Rattle.hd_strength.specs.Buckets.{bucket, pending, TakesBest}
 use Rattle.hd_strength.specs.Rows.{width, edge_at, root_count}
 use Rattle.hd_strength.specs.Growing.{rank_at, AreHeld, IsBacked, IsGrowing, Every, AddsOffers, IsDeclined, IsAccepted, unreached_count}
-use Rattle.hd_strength.proofs.RowLemmas.{edge_stands_at, at_source, edge_has_place, is_at, IsAt}
+use Rattle.hd_strength.proofs.RowLemmas.{edge_stands_at, at_source, edge_has_index, is_at, IsAt}
 use Rattle.hd_strength.proofs.Grow.{AreRows, Takes, takes, decline, weaken, offered, take, floor}
 use Rattle.hd_strength.proofs.Offering.{held_rank}
 
 -- the rows of a dump
 pub rows_of : (dump : Dump) (log : List Event) → AreRows (standing dump log) (edge_at dump log)
-rows_of dump log = record { stands = edge_stands_at dump log; source = at_source dump log; all = edge_has_place dump log }
+rows_of dump log = record { stands = edge_stands_at dump log; source = at_source dump log; all = edge_has_index dump log }
 
--- a place of an edge is one of the slots of its source
+-- the index of an edge is that of a slot of its source
 wide : (dump : Dump) (log : List Event) (o i : ℕ) (e : Edge) → edge_at dump log o i ≡ Some e → i < width dump o
-wide dump log o i e is = (is_at dump log o i e is).place
+wide dump log o i e is = (is_at dump log o i e is).within
 
 -- the objects below n that roots hold have offered what they give
 abbrev pub HasOffered : Dump → List Event → List Reached → Buckets → ℕ → Type 0
@@ -60,10 +60,10 @@ module _ (dump : Dump) (log : List Event) (ks : List Reached) (b b1 : Buckets) (
   pub backing : IsBacked dump.mode (edge_at dump log) ks s x
   backing = h.backed s x out.offer.made
 
-  pub at_offer : IsAt dump log x.source x.place backing.edge
-  at_offer = is_at dump log x.source x.place backing.edge backing.is
+  pub at_offer : IsAt dump log x.source x.index backing.edge
+  at_offer = is_at dump log x.source x.index backing.edge backing.is
 
-  module _ (ks' : List Reached) (b2 : Buckets) (e : Edge) (n' : ℕ) (is : edge_at dump log x.source x.place ≡ Some e) where
+  module _ (ks' : List Reached) (b2 : Buckets) (e : Edge) (n' : ℕ) (is : edge_at dump log x.source x.index ≡ Some e) where
     declined : IsDeclined ks ks' b1 b2 e n n' → IsGrowing (standing dump log) (edge_at dump log) ks' (bucket b2) n' Every
     declined d = rw (d.same_kept, d.same_offers, d.same_count) (decline (standing dump log) (edge_at dump log) ks (bucket b) (bucket b1) n s x e h out is d.reached)
 

@@ -24,9 +24,9 @@ rank_at ks o = rank (reached_at ks o).strength
 abbrev pub offered_strength : List Reached → Edge → Strength
 offered_strength ks e = weaker_of (reached_at ks e.source).strength (given_by e.kind)
 
--- the offer of a place
+-- the offer of a slot, by its object and its index
 abbrev pub offer_at : ℕ → ℕ → Offer
-offer_at o i = record { source = o; place = i }
+offer_at o i = record { source = o; index = i }
 
 -- an object is held by a root, or nothing is known to reach it
 abbrev pub IsHeldOrNot : Dump → List Event → List Reached → ℕ → Type 0
@@ -40,7 +40,7 @@ pub record AreHeld (dump : Dump) (log : List Event) (ks : List Reached) (n : ℕ
 -- an edge from an object that passes its strength on gives this strength
 pub record IsBacked (mode : Mode) (at : ℕ → ℕ → Option Edge) (ks : List Reached) (s : Strength) (x : Offer) : Type 0 where
   pub edge : Edge
-  pub is : at x.source x.place ≡ Some edge
+  pub is : at x.source x.index ≡ Some edge
   pub passes_on : PassesOn mode (reached_at ks x.source)
   pub gives : s ≡ offered_strength ks edge
 
@@ -58,10 +58,10 @@ pub record IsGrowing (g : Standing) (at : ℕ → ℕ → Option Edge) (ks : Lis
 abbrev pub Every : ℕ → Type 0
 Every o = Unit {0}
 
--- what the first n places of an object give that nothing reaches is offered too
+-- what the first n slots of an object give that nothing reaches is offered too
 pub record AddsOffers (at : ℕ → ℕ → Option Edge) (ks : List Reached) (o n : ℕ) (old new : Strength → List Offer) : Type 0 where
   pub kept : (s : Strength) (x : Offer) → Contains (old s) x → Contains (new s) x
-  pub made : (s : Strength) (x : Offer) → Contains (new s) x → Contains (old s) x ⊎ ((x.source ≡ o) × (e : Edge) × (at o x.place ≡ Some e) × (s ≡ offered_strength ks e))
+  pub made : (s : Strength) (x : Offer) → Contains (new s) x → Contains (old s) x ⊎ ((x.source ≡ o) × (e : Edge) × (at o x.index ≡ Some e) × (s ≡ offered_strength ks e))
   pub done : (i : ℕ) (e : Edge) → i < n → at o i ≡ Some e → (1 ≤ rank_at ks e.target) ⊎ Contains (new (offered_strength ks e)) (offer_at o i)
 
 -- how many objects nothing reaches yet

@@ -1,4 +1,4 @@
--- What the live edits of a log take away: references, by the places of their slots, and roots of the dump and added
+-- What the live edits of a log take away: references, by the indexes of their slots, and roots of the dump and added
 -- ones, by their numbers.
 -- Source: this project.
 use Rattle.std.specs.Prelude.{◌≡◌, ℕ, ◌+◌, ◌*◌, ◌<◌, Bool, true, ◌&&◌, not, nat_eq, nat_lt, List, length, Option, Some, slice_get}
@@ -9,26 +9,26 @@ use Rattle.hd_terms.specs.declared.Event.{Event}
 use Rattle.hd_terms.specs.Dump.{SlotEntry, Object, Dump, object_at}
 use Rattle.hd_terms.specs.EditedDump.{takes_away, is_untouched, is_slot, drops, is_dropped}
 
--- the key of a place of an object's slots
-abbrev pub place_key : ℕ → ℕ → ℕ
-place_key o i = o * 4294967296 + i
+-- the key of a slot, by its object and its index
+abbrev pub slot_key : ℕ → ℕ → ℕ
+slot_key o i = o * 4294967296 + i
 
--- the keys have that of a place, whose number has 32 bits
-unfoldable pub has_place : List ℕ → ℕ → ℕ → Bool
-has_place keys o i = nat_lt i 4294967296 && list_any (nat_eq (place_key o i)) keys
+-- the keys have that of a slot, whose index has 32 bits
+unfoldable pub has_slot : List ℕ → ℕ → ℕ → Bool
+has_slot keys o i = nat_lt i 4294967296 && list_any (nat_eq (slot_key o i)) keys
 
 -- the numbers have that of a root
 unfoldable pub has_root : List ℕ → ℕ → Bool
 has_root numbers r = list_any (nat_eq r) numbers
 
--- what is taken away: keys of places, and numbers of roots
+-- what is taken away: keys of slots, and numbers of roots
 pub record Removals : Type 0 where
-  pub places : List ℕ
+  pub slots : List ℕ
   pub roots : List ℕ
 
--- the reference at a place of an object's slots is taken away
+-- the reference at an index of an object's slots is taken away
 abbrev pub is_removed : Removals → ℕ → ℕ → Bool
-is_removed t o i = has_place t.places o i
+is_removed t o i = has_slot t.slots o i
 
 -- the root of a number is taken away
 abbrev pub is_root_removed : Removals → ℕ → Bool
@@ -39,21 +39,21 @@ pub record IsRemovedBy (dump : Dump) (log : List Event) (t : Removals) : Type 0 
   pub slots : (o i : ℕ) (s : SlotEntry) → o < length dump.objects → slice_get (object_at dump o).slots i ≡ Some s → is_removed t o i ≡ not (is_untouched log (object_at dump o) s)
   pub roots : (r : ℕ) → is_root_removed t r ≡ is_dropped log r
 
--- the places from which some edits take the references
-abbrev pub ArePlaces : Dump → List Edit → List ℕ → Type 0
-ArePlaces dump es keys = (o i : ℕ) (s : SlotEntry) → o < length dump.objects → slice_get (object_at dump o).slots i ≡ Some s → has_place keys o i ≡ list_any (takes_away (object_at dump o) s) es
+-- the slots from which some edits take the references
+abbrev pub AreSlots : Dump → List Edit → List ℕ → Type 0
+AreSlots dump es keys = (o i : ℕ) (s : SlotEntry) → o < length dump.objects → slice_get (object_at dump o).slots i ≡ Some s → has_slot keys o i ≡ list_any (takes_away (object_at dump o) s) es
 
 -- the roots that some edits drop
 abbrev pub AreRoots : List Edit → List ℕ → Type 0
 AreRoots es numbers = (r : ℕ) → has_root numbers r ≡ list_any (drops r) es
 
--- the one place of a dump whose object and slot entry pass a test, if there is one
-pub record IsOnlyPlace (dump : Dump) (test : Object → SlotEntry → Bool) (p : Option (ℕ × ℕ)) : Type 0 where
+-- the one slot of a dump that passes a test with its object, if there is one: the object, and the index of the slot
+pub record IsOnlySlot (dump : Dump) (test : Object → SlotEntry → Bool) (p : Option (ℕ × ℕ)) : Type 0 where
   pub passes : (o i : ℕ) (s : SlotEntry) → p ≡ Some (o, i) → slice_get (object_at dump o).slots i ≡ Some s → test (object_at dump o) s ≡ true
   pub only : (o i : ℕ) (s : SlotEntry) → o < length dump.objects → slice_get (object_at dump o).slots i ≡ Some s → test (object_at dump o) s ≡ true → p ≡ Some (o, i)
 
--- the one place of an object's slots that has a name, if there is one
-pub record IsNamedPlace (slots : List SlotEntry) (name : Option Slot) (o : ℕ) (p : Option (ℕ × ℕ)) : Type 0 where
+-- the one slot of an object that has a name, if there is one: the object, and the index of the slot
+pub record IsNamedSlot (slots : List SlotEntry) (name : Option Slot) (o : ℕ) (p : Option (ℕ × ℕ)) : Type 0 where
   pub object : (x i : ℕ) → p ≡ Some (x, i) → x ≡ o
   pub named : (x i : ℕ) (s : SlotEntry) → p ≡ Some (x, i) → slice_get slots i ≡ Some s → is_slot s.slot name ≡ true
   pub only : (i : ℕ) (s : SlotEntry) → slice_get slots i ≡ Some s → is_slot s.slot name ≡ true → p ≡ Some (o, i)

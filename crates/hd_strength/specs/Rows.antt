@@ -1,4 +1,4 @@
--- Rows of a dump under a log: what each place of an object's slots, and each root, is a standing reference to.
+-- Rows of a dump under a log: what each slot of an object, and each root, is a standing reference to.
 -- Source: this project.
 use Rattle.std.specs.Prelude.{ℕ, ◌+◌, ◌-◌, nat_lt, if◌then◌else◌, List, length, Option, Some, None, slice_get}
 use Rattle.std.specs.Option.{option_map}
@@ -20,7 +20,7 @@ abbrev pub edge_by : Dump → List Event → ℕ → Option SlotEntry → Option
 edge_by dump log o None = None
 edge_by dump log o (Some s) = if is_untouched log (object_at dump o) s then edge_of dump.objects o s else None
 
--- the standing edge at a place of an object's slots
+-- the standing edge at an index of an object's slots
 unfoldable pub edge_at : Dump → List Event → ℕ → ℕ → Option Edge
 edge_at dump log o i = edge_by dump log o (slice_get (object_at dump o).slots i)
 

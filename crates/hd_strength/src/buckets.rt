@@ -7,11 +7,11 @@ ghost use Rattle.hd_strength.specs.Buckets.{bucket, AddsTo, TakesBest};
 use hd_terms::{NoMemory, Strength};
 use std::alloc::Global;
 
-/// What the reference in a slot of an object would give its target: the object's number, and the slot's place.
+/// What the reference in a slot of an object would give its target: the object's number, and the slot's index.
 #[derive(Clone, Copy, Debug)]
 pub struct Offer {
     pub source: u32,
-    pub place: u32,
+    pub index: u32,
 }
 
 /// An offer, and what it gives.

@@ -4,7 +4,7 @@ ghost use Rattle.hd_terms.specs.declared.Event.{Event as OneEvent};
 ghost use Rattle.hd_terms.specs.Dump.{SlotEntry, object_at};
 ghost use Rattle.hd_terms.specs.EditedDump.{drops, takes_away};
 ghost use Rattle.hd_terms.specs.Log.{live_edit, live_flags};
-ghost use Rattle.hd_strength.specs.Removed.{has_place, has_root, is_root_removed, is_removed, place_key, IsNamedPlace, IsOnlyPlace, IsRemovedBy};
+ghost use Rattle.hd_strength.specs.Removed.{has_slot, has_root, is_root_removed, is_removed, slot_key, IsNamedSlot, IsOnlySlot, IsRemovedBy};
 
 use hd_graph::Graph;
 use hd_log::Front;
@@ -16,7 +16,7 @@ use std::marker::Model;
 /// What the live edits of a log take away from a graph: references in slots, and roots.
 #[derive(Drop)]
 pub struct Removed {
-    places: IndexSet<u64>,
+    slots: IndexSet<u64>,
     roots: IndexSet<u64>,
 }
 
@@ -25,15 +25,15 @@ impl Model for Removed {
 
     ghost Value = { Removals };
 
-    ghost view = { λ t. record { places = t.places.keys; roots = t.roots.keys } };
+    ghost view = { λ t. record { slots = t.slots.keys; roots = t.roots.keys } };
 }
 
-/// The key of a place of an object's slots.
-fn place_key(o: u32, place: u32) -> u64
-    ensures key { result ≡ place_key o place }
-    ensures small { place < 4294967296 }
+/// The key of a slot, by its object and its index.
+fn slot_key(o: u32, index: u32) -> u64
+    ensures key { result ≡ slot_key o index }
+    ensures small { index < 4294967296 }
 {
-    u64::from(o) * 4_294_967_296 + u64::from(place)
+    u64::from(o) * 4_294_967_296 + u64::from(index)
 }
 
 /// The edit of event k, where it is live. The flags say which events are.
@@ -52,39 +52,39 @@ pub(crate) fn live_edit(front: &Front, live: &[bool], k: u32) -> Option<Edit>
     }
 }
 
-/// The place of a named slot of an object, with the object, if it has that slot.
-fn named_place(graph: &Graph, o: u32, name: Option<Slot>) -> Option<(u32, u32)>
+/// The index of a named slot of an object, with the object, if it has that slot.
+fn named_slot_index(graph: &Graph, o: u32, name: Option<Slot>) -> Option<(u32, u32)>
     requires { o < length graph.now.objects }
-    ensures { IsNamedPlace (object_at graph.now o).slots name o result }
+    ensures { IsNamedSlot (object_at graph.now o).slots name o result }
 {
-    let place = graph.place_of(o, name?)?;
-    Some((o, place))
+    let index = graph.slot_index(o, name?)?;
+    Some((o, index))
 }
 
-/// The place from which an edit takes the reference, if there is one: the object, and the place of the slot.
-fn edit_place(graph: &Graph, edit: Edit) -> Option<(u32, u32)>
-    ensures { IsOnlyPlace graph.now (λ x s. takes_away x s edit) result }
+/// The slot from which an edit takes the reference, if there is one: the object, and the index of the slot.
+fn edited_slot(graph: &Graph, edit: Edit) -> Option<(u32, u32)>
+    ensures { IsOnlySlot graph.now (λ x s. takes_away x s edit) result }
 {
     match edit {
         Edit::Cut(id, slot) => {
             let o = graph.index_of(id)?;
-            named_place(graph, o, Some(slot))
+            named_slot_index(graph, o, Some(slot))
         }
         Edit::Clear(id) => {
             let o = graph.index_of(id)?;
-            named_place(graph, o, graph.referent_of(o))
+            named_slot_index(graph, o, graph.referent_of(o))
         }
         Edit::Drop(_) | Edit::Add(_) => None,
     }
 }
 
-/// Adds the place from which an edit takes the reference.
-fn take_place(places: &mut IndexSet<u64>, graph: &Graph, edit: Edit) -> Result<(), NoMemory>
+/// Adds the slot from which an edit takes the reference.
+fn take_slot(slots: &mut IndexSet<u64>, graph: &Graph, edit: Edit) -> Result<(), NoMemory>
     ensures { OnOk result ((o i : ℕ) (s : SlotEntry) → o < length graph.now.objects → slice_get (object_at graph.now o).slots i ≡ Some s
-        → has_place places.new.keys o i ≡ (has_place places.old.keys o i || takes_away (object_at graph.now o) s edit)) }
+        → has_slot slots.new.keys o i ≡ (has_slot slots.old.keys o i || takes_away (object_at graph.now o) s edit)) }
 {
-    if let Some((o, place)) = edit_place(graph, edit) {
-        places.insert(place_key(o, place))?;
+    if let Some((o, index)) = edited_slot(graph, edit) {
+        slots.insert(slot_key(o, index))?;
     }
     Ok(())
 }
@@ -105,22 +105,22 @@ impl Removed {
         ensures { IfOk result (λ t. IsRemovedBy graph.now front.now t) }
     {
         let live = front.live(alloc)?;
-        let mut places = IndexSet::new(alloc);
+        let mut slots = IndexSet::new(alloc);
         let mut roots = IndexSet::new(alloc);
         for k in 0..front.len() {
             if let Some(edit) = live_edit(front, &live, k) {
-                take_place(&mut places, graph, edit)?;
+                take_slot(&mut slots, graph, edit)?;
                 take_root(&mut roots, edit)?;
             }
         }
-        Ok(Removed { places, roots })
+        Ok(Removed { slots, roots })
     }
 
-    /// Whether the reference at a place of an object's slots is taken away.
-    pub fn slot(&self, o: u32, place: u32) -> bool
-        ensures { result ≡ is_removed self.now o place }
+    /// Whether the reference at an index of an object's slots is taken away.
+    pub fn slot(&self, o: u32, index: u32) -> bool
+        ensures { result ≡ is_removed self.now o index }
     {
-        self.places.contains(&place_key(o, place))
+        self.slots.contains(&slot_key(o, index))
     }
 
     /// Whether the root of a number is taken away.

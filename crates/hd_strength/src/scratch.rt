@@ -118,22 +118,22 @@ fn apply_roots(alloc: Global, edited: Edited<'_>) -> Result<Vec<PackedReached>, 
     Ok(kept)
 }
 
-/// What the reference at a place of an object's slots gives its target, if nothing reaches that yet.
-fn offered_at(edited: Edited<'_>, kept: &[PackedReached], o: u32, place: u32) -> Option<Strength>
+/// What the reference at an index of an object's slots gives its target, if nothing reaches that yet.
+fn offered_at(edited: Edited<'_>, kept: &[PackedReached], o: u32, index: u32) -> Option<Strength>
     requires removed { IsRemovedBy edited.graph.now edited.front.now edited.removed.now }
     requires object { o < length edited.graph.now.objects }
-    requires place { place < width edited.graph.now o }
+    requires index { index < width edited.graph.now o }
     requires count { length kept.now ≡ length edited.graph.now.objects }
-    ensures none { IfNone result ((e : Edge) → edge_at edited.entry.graph.now edited.entry.front.now o place ≡ Some e → 1 ≤ rank_at kept.now e.target) }
-    ensures some { IfSome result (λ s. (e : Edge) × (edge_at edited.entry.graph.now edited.entry.front.now o place ≡ Some e) × (s ≡ offered_strength kept.now e)) }
+    ensures none { IfNone result ((e : Edge) → edge_at edited.entry.graph.now edited.entry.front.now o index ≡ Some e → 1 ≤ rank_at kept.now e.target) }
+    ensures some { IfSome result (λ s. (e : Edge) × (edge_at edited.entry.graph.now edited.entry.front.now o index ≡ Some e) × (s ≡ offered_strength kept.now e)) }
     ensures source { IfSome result (λ s. 1 ≤ rank_at kept.now o → 1 ≤ rank s) }
 {
-    let read = edited.graph.slots(o, place);
+    let read = edited.graph.slots(o, index);
     let target = read.target?;
     if kept[target as usize].strength().rank() > 0 {
         return None;
     }
-    if edited.removed.slot(o, place) {
+    if edited.removed.slot(o, index) {
         return None;
     }
     Some(kept[o as usize].strength().weaker(read.kind.strength()))
@@ -153,9 +153,9 @@ fn relax_edges(
     ensures adds { OnOk result (AddsOffers (edge_at edited.entry.graph.now edited.entry.front.now) kept.now o (width edited.entry.graph.now o) (bucket buckets.old) (bucket buckets.new)) }
     ensures few { OnOk result (pending buckets.new < pending buckets.old + 2 ^ 32) }
 {
-    for place in 0..edited.graph.slots_len(o) {
-        if let Some(strength) = offered_at(edited, kept, o, place) {
-            buckets.push(strength, Offer { source: o, place })?;
+    for index in 0..edited.graph.slots_len(o) {
+        if let Some(strength) = offered_at(edited, kept, o, index) {
+            buckets.push(strength, Offer { source: o, index })?;
         }
     }
     Ok(())
@@ -191,15 +191,15 @@ fn accept(
 ) -> Result<u64, NoMemory>
     requires removed { IsRemovedBy edited.graph.now edited.front.now edited.removed.now }
     requires object { best.offer.source < length edited.graph.now.objects }
-    requires place { best.offer.place < width edited.graph.now best.offer.source }
+    requires index { best.offer.index < width edited.graph.now best.offer.source }
     requires count { length kept.old.items ≡ length edited.graph.now.objects }
     requires backed { IsBacked edited.graph.now.mode (edge_at edited.graph.now edited.front.now) kept.old.items best.strength best.offer }
     requires room { count < 2 ^ 32 }
-    ensures { IfOk result (λ n. (e : Edge) → edge_at edited.entry.graph.now edited.entry.front.now best.offer.source best.offer.place ≡ Some e →
+    ensures { IfOk result (λ n. (e : Edge) → edge_at edited.entry.graph.now edited.entry.front.now best.offer.source best.offer.index ≡ Some e →
         (IsDeclined kept.old.items kept.new.items buckets.old buckets.new e count n
         ⊎ IsAccepted edited.entry.graph.now.mode (edge_at edited.entry.graph.now edited.entry.front.now) (width edited.entry.graph.now) kept.old.items kept.new.items buckets.old buckets.new best.strength e count n)) }
 {
-    let read = edited.graph.slots(best.offer.source, best.offer.place);
+    let read = edited.graph.slots(best.offer.source, best.offer.index);
     let Some(target) = read.target else {
         return Ok(count);
     };

@@ -111,7 +111,7 @@ short_item Is text item x at fields count body place many list rest end is n h m
           );
     }
 
--- an item has a type that there is not
+-- an item has an unknown type
 pub other_item : {A B : Type 0} (Is : A → Type 0) (text : A → List ℕ) (item : ℕ → A → B) (len at : ℕ) (fields : List ℕ) (count : ℕ) (body : List ℕ) (place many : ℕ) (list : List B) (rest : List ℕ) (end : ℕ)
     → HasCount at fields count body place → IsListSoFar Is text item place body many list rest end → many < count → HasOtherType len rest → HasOtherTypeIn Is text len fields
 other_item Is text item len at fields count body place many list rest end n h more other = record {

@@ -34,7 +34,7 @@ cut_key n rest lacks = omega (arith, length-append rest (zero_bytes (n - length 
 not_nil : (xs : List ℕ) → 0 < length xs → xs ≢ []
 not_nil xs some e = omega (arith, ap length e)
 
--- a type that there is not behind the key
+-- an unknown type behind the key
 pub other_type_in : (n : ℕ) (rest : List ℕ) → n + 1 ≤ length rest → is_type (get_or rest n 0) ≡ false → HasOtherType n rest
 other_type_in n rest long other = record {
   key = take n rest;

@@ -137,7 +137,7 @@ cut_head size fields e =
     cut_off size fields e.a no_items no_items no_items (e.is, is_no_items (IsClassValue size 2), is_no_items (IsClassValue size (id_len size)), is_no_items (IsClassField size))
     (front-more fields ((text ++ c) ++ c) f (front-more fields (text ++ c) c (front-more fields text c (front (IsClassHead size) class_head_text fields e))))
 
--- the fields up to a type that there is not
+-- the fields up to an unknown type
 other_type_at : (size : IdSize) (fields before behind : List ℕ) (n : ℕ) → fields ≡ before ++ behind → (other : HasOtherType n behind) → IsBeforeType size (before ++ other.key) → IsStuck size (0x20 ∷ fields) UnknownType
 other_type_at size fields before behind n whole other is =
     other_class_type (before ++ other.key) other.code other.more is (ap (λ (xs : List ℕ). 0x20 ∷ xs) (joined fields before behind other.key (other.code ∷ other.more) whole other.whole)) other.other

@@ -35,7 +35,7 @@ pub record HasCount (at : ℕ) (rest : List ℕ) (many : ℕ) (after : List ℕ)
   pub many_is : many ≡ big_number 2 count
   pub end_is : end ≡ at + 2
 
--- these bytes begin with a key of n bytes and a type that there is not
+-- these bytes begin with a key of n bytes and an unknown type
 pub record HasOtherType (n : ℕ) (rest : List ℕ) : Type 0 where
   pub key : List ℕ
   pub code : ℕ
@@ -44,7 +44,7 @@ pub record HasOtherType (n : ℕ) (rest : List ℕ) : Type 0 where
   pub whole : rest ≡ key ++ code ∷ more
   pub other : is_type code ≡ false
 
--- these bytes begin with the first items of a list, of which there are more, and the next has a type that there is not
+-- these bytes begin with the first items of a list, of which there are more, and the next has an unknown type
 pub record HasOtherTypeIn {A : Type 0} (Is : A → Type 0) (text : A → List ℕ) (n : ℕ) (rest : List ℕ) : Type 0 where
   pub begun : Counted A
   pub is : IsBegun Is begun

@@ -42,7 +42,7 @@ impl<'a> Cursor<'a> {
 pub(crate) enum Stop {
     /// It runs past its segment.
     Short,
-    /// A constant, a static or a field has a type that there is not.
+    /// A constant, a static or a field has an unknown type.
     UnknownType,
     /// Memory ran out.
     NoMemory,

@@ -13,6 +13,7 @@ use Rattle.hd_terms.specs.declared.RootKind.TheVariants as roots
 use Rattle.hd_terms.specs.Types.{is_element_type, is_type}
 use Rattle.hd_terms.specs.SubRecords.{SubRecord, RootOf, ClassDump, InstanceDump, ObjectArray, PrimitiveArray, root_tag, sub_record_text, is_known_tag, IsSubRecord, AreSubRecords, AreDumpSubRecords, dump_subs_at}
 use Rattle.hd_terms.specs.Objects.{classes_of, IsDumpOf}
+use Rattle.hd_terms.specs.Classes.{resolved_class}
 use Rattle.hd_terms.specs.HeapFaults.{class_faults, object_faults}
 use Rattle.hd_terms.specs.Dump.{Dump}
 use Rattle.hd_terms.specs.ReadFaults.{fault, IsRecordsFault, too_large, no_header, other_text, other_id_size, in_a_record, IsCutOff, IsStuckRecord, IsRecordFault, IsStuck, unknown, short, other_type, IsBeforeType, other_class_type, IsSegmentFault, IsSubRecordsFault, IsReadFault, in_records, in_sub_records, in_classes, in_objects}
@@ -302,7 +303,7 @@ abbrev faulty_classes : List ℕ → IdSize → List Record → List (List SubRe
 faulty_classes bytes size rs segments = class_faults (classes_of bytes size rs segments) (dump_subs_at size (segment_spans header_len rs) segments)
 
 abbrev faulty_objects : List ℕ → IdSize → List Record → List (List SubRecord) → List ReadFault
-faulty_objects bytes size rs segments = object_faults (classes_of bytes size rs segments) size (dump_subs_at size (segment_spans header_len rs) segments)
+faulty_objects bytes size rs segments = object_faults (resolved_class (classes_of bytes size rs segments)) size (dump_subs_at size (segment_spans header_len rs) segments)
 
 -- a list with a first one has some
 some_first : (fs gs : List ReadFault) (f : ReadFault) → slice_get fs 0 ≡ Some f → fs ≡ gs → gs ≡ [] → ⊥

@@ -171,6 +171,10 @@ resolved_by t chain = record {
   kind = kind_in t chain;
 }
 
+-- what is known of the class of each ID, if anything is
+abbrev pub KnownClasses : Type 0
+KnownClasses = ℕ → Option ResolvedClass
+
 -- what is known of the class of an ID; of ID 0, of an ID that is no class's, and where the chain meets one, nothing
 abbrev pub resolved_class : ClassTable → ℕ → Option ResolvedClass
 resolved_class t id = option_map (resolved_by t) (chain_of t.classes id)

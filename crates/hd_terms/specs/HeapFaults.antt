@@ -11,7 +11,7 @@ use Rattle.hd_terms.specs.declared.errors.ReadFault.{ReadFault}
 use Rattle.hd_terms.specs.SubRecords.{ClassItem, Item, Instance, ObjArray, PrimArray, Sub}
 use Rattle.hd_terms.specs.SubRecords as subs
 use Rattle.hd_terms.specs.FirstRecords.{first_subs}
-use Rattle.hd_terms.specs.Classes.{ClassTable, ResolvedClass, class_of_item, never_ends, resolved_class, layout_len}
+use Rattle.hd_terms.specs.Classes.{ClassTable, KnownClasses, ResolvedClass, class_of_item, never_ends, layout_len}
 
 -- a fault of a cause at the tag of a sub-record, if a test holds
 abbrev pub fault_if : Bool → Cause → Sub → Option ReadFault
@@ -26,17 +26,17 @@ abbrev pub class_faults : ClassTable → List Sub → List ReadFault
 class_faults t list = filter_map (class_fault t) (first_subs list)
 
 -- the values of an instance have another number of bytes than its class's layout
-abbrev pub is_size_mismatch : ClassTable → IdSize → Item → Bool
-is_size_mismatch t size (subs.Root kind id) = false
-is_size_mismatch t size (subs.Class c) = false
-is_size_mismatch t size (Instance id class values) = option_map_or (λ (k : ResolvedClass). not (values.len == layout_len size k.layout)) (resolved_class t class) false
-is_size_mismatch t size (ObjArray id class elements) = false
-is_size_mismatch t size (PrimArray id element count) = false
+abbrev pub is_size_mismatch : KnownClasses → IdSize → Item → Bool
+is_size_mismatch known size (subs.Root kind id) = false
+is_size_mismatch known size (subs.Class c) = false
+is_size_mismatch known size (Instance id class values) = option_map_or (λ (k : ResolvedClass). not (values.len == layout_len size k.layout)) (known class) false
+is_size_mismatch known size (ObjArray id class elements) = false
+is_size_mismatch known size (PrimArray id element count) = false
 
 -- an object with ID 0, which stands for null, or an instance whose values don't fit
-abbrev pub object_fault : ClassTable → IdSize → ℕ × Sub → Option ReadFault
-object_fault t size (id, s) = if id == 0 then fault_if true causes.NullObject s else fault_if (is_size_mismatch t size s.item) causes.InstanceSize s
+abbrev pub object_fault : KnownClasses → IdSize → ℕ × Sub → Option ReadFault
+object_fault known size (id, s) = if id == 0 then fault_if true causes.NullObject s else fault_if (is_size_mismatch known size s.item) causes.InstanceSize s
 
 -- the faults of the objects among sub-records
-abbrev pub object_faults : ClassTable → IdSize → List Sub → List ReadFault
-object_faults t size list = filter_map (object_fault t size) (first_subs list)
+abbrev pub object_faults : KnownClasses → IdSize → List Sub → List ReadFault
+object_faults known size list = filter_map (object_fault known size) (first_subs list)

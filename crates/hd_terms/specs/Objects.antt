@@ -14,7 +14,7 @@ use Rattle.hd_terms.specs.Records.{id_len, Record, HasHeader, AreRecords, header
 use Rattle.hd_terms.specs.SubRecords.{SubRecord, RootOf, ClassDump, InstanceDump, ObjectArray, PrimitiveArray, Item, Instance, ObjArray, PrimArray, Sub, AreDumpSubRecords, dump_subs_at}
 use Rattle.hd_terms.specs.SubRecords as subs
 use Rattle.hd_terms.specs.FirstRecords.{first_of_each, repeats, first_subs}
-use Rattle.hd_terms.specs.Classes.{ClassTable, ResolvedClass, class_table, resolved_class, fitting_class, name_of, bytes_of_span}
+use Rattle.hd_terms.specs.Classes.{ClassTable, KnownClasses, ResolvedClass, class_table, resolved_class, fitting_class, name_of, bytes_of_span}
 use Rattle.hd_terms.specs.Groups.{instance_group, instance_bytes, array_group, array_bytes, class_group, class_bytes, primitive_group, primitive_bytes}
 use Rattle.hd_terms.specs.Slots.{instance_slots, array_slots, class_slots}
 use Rattle.hd_terms.specs.Roots.{roots_of}
@@ -66,16 +66,16 @@ repeated_of t size records subs = record {
 }
 
 -- an instance is opaque: nothing is known of its class
-abbrev pub is_opaque : ClassTable → Item → Bool
-is_opaque t (subs.Root kind id) = false
-is_opaque t (subs.Class c) = false
-is_opaque t (Instance id class values) = is_none (resolved_class t class)
-is_opaque t (ObjArray id class elements) = false
-is_opaque t (PrimArray id element count) = false
+abbrev pub is_opaque : KnownClasses → Item → Bool
+is_opaque known (subs.Root kind id) = false
+is_opaque known (subs.Class c) = false
+is_opaque known (Instance id class values) = is_none (known class)
+is_opaque known (ObjArray id class elements) = false
+is_opaque known (PrimArray id element count) = false
 
 -- how many instances among sub-records are opaque
-abbrev pub opaque_in : ClassTable → List Sub → ℕ
-opaque_in t list = count_by (λ (p : ℕ × Sub). is_opaque t p.1.item) (first_subs list)
+abbrev pub opaque_in : KnownClasses → List Sub → ℕ
+opaque_in known list = count_by (λ (p : ℕ × Sub). is_opaque known p.1.item) (first_subs list)
 
 -- the name of a class that is loaded, by the ID of the class, if it has one
 abbrev pub loaded_name : ClassTable → Load → Option (ℕ × List ℕ)
@@ -96,7 +96,7 @@ dump_of bytes size records segments = record {
   objects = objects_of (classes_of bytes size records segments) size (flat_map (λ (ss : List SubRecord). ss) segments);
   roots = roots_of size (flat_map (λ (ss : List SubRecord). ss) segments);
   repeated = repeated_of (classes_of bytes size records segments) size records (flat_map (λ (ss : List SubRecord). ss) segments);
-  opaque = opaque_in (classes_of bytes size records segments) (dump_subs_at size (segment_spans header_len records) segments);
+  opaque = opaque_in (resolved_class (classes_of bytes size records segments)) (dump_subs_at size (segment_spans header_len records) segments);
   names = names_of (classes_of bytes size records segments);
 }
 
@@ -107,7 +107,7 @@ pub record ReadsAs (bytes : List ℕ) (size : IdSize) (records : List Record) (s
   pub whole : AreRecords size bytes records
   pub bodies : AreDumpSubRecords size records segments
   pub classes : class_faults (classes_of bytes size records segments) (dump_subs_at size (segment_spans header_len records) segments) ≡ []
-  pub objects : object_faults (classes_of bytes size records segments) size (dump_subs_at size (segment_spans header_len records) segments) ≡ []
+  pub objects : object_faults (resolved_class (classes_of bytes size records segments)) size (dump_subs_at size (segment_spans header_len records) segments) ≡ []
 
 -- the dump of a file that reads without fault
 pub record IsDumpOf (bytes : List ℕ) (dump : Dump) : Type 0 where

@@ -12,6 +12,7 @@ use Rattle.hd_terms.specs.Records.{id_len, id_size_of, largest_file, header_len,
 use Rattle.hd_terms.specs.SubRecords.{SubRecord, ClassHead, ClassValue, ClassField, Counted, IsClassHead, IsClassValue, IsClassField, IsCounted, IsBegun, class_head_text, counted_text, value_text, field_text, IsSubRecord, sub_record_text, is_known_tag, AreSubRecords, AreDumpSubRecords, dump_subs_at}
 use Rattle.hd_terms.specs.Types.{is_element_type, is_type}
 use Rattle.hd_terms.specs.Objects.{classes_of}
+use Rattle.hd_terms.specs.Classes.{resolved_class}
 use Rattle.hd_terms.specs.HeapFaults.{class_faults, object_faults}
 
 -- a fault of a cause at a place
@@ -108,5 +109,5 @@ pub data IsReadFault (bytes : List ℕ) : ReadFault → Type 0 where
   in_objects : {f : ReadFault} (size : IdSize) (records : List Record) (segments : List (List SubRecord))
       → HasHeader size bytes → AreRecords size bytes records → AreDumpSubRecords size records segments
       → class_faults (classes_of bytes size records segments) (dump_subs_at size (segment_spans header_len records) segments) ≡ []
-      → slice_get (object_faults (classes_of bytes size records segments) size (dump_subs_at size (segment_spans header_len records) segments)) 0 ≡ Some f
+      → slice_get (object_faults (resolved_class (classes_of bytes size records segments)) size (dump_subs_at size (segment_spans header_len records) segments)) 0 ≡ Some f
       → IsReadFault bytes f

@@ -37,9 +37,9 @@ fn slots(rt: HostRuntime) -> Result<(), Fail> {
         let read = graph.slots(0, i);
         assert!(rt; read.slot == slot && read.kind == EdgeKind::Strong);
         assert!(rt; read.id == id && read.target == target);
-        assert_eq!(rt; graph.place_of(0, slot), Some(i));
+        assert_eq!(rt; graph.slot_index(0, slot), Some(i));
     }
-    assert_eq!(rt; graph.place_of(0, Slot::Element(3)), None);
+    assert_eq!(rt; graph.slot_index(0, Slot::Element(3)), None);
     Ok(())
 }
 

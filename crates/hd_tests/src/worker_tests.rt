@@ -1,9 +1,10 @@
 //! Segments on workers: in file order whatever the number of workers, who passes the gate, and that they run at once.
 use crate::dumps::THREE_SEGMENTS;
-use hd_decode::{Gate, NoGate, decode};
+use hd_decode::{Gate, NoGate, decode, shares_of};
 use hd_graph::open_dump;
 use hd_records::read_records;
 use hd_spell::spell;
+use hd_terms::Span;
 use std::sync::atomic::{AtomicBool, AtomicU64, Ordering};
 use std::test::Fail;
 use std::thread;
@@ -20,6 +21,40 @@ fn sub_records_in_file_order(rt: HostRuntime) -> Result<(), Fail> {
                 assert_eq!(rt; list.get(i).offset, offset);
             }
         }
+    }
+    Ok(())
+}
+
+/// A large segment among small ones: their lengths are 10, 1000, 10 and 10.
+const ONE_LARGE: [Span; 4] = [
+    Span { start: 0, len: 10 },
+    Span {
+        start: 10,
+        len: 1000,
+    },
+    Span {
+        start: 1010,
+        len: 10,
+    },
+    Span {
+        start: 1020,
+        len: 10,
+    },
+];
+
+#[test]
+fn one_large_segment(rt: HostRuntime) -> Result<(), Fail> {
+    // of 1030 bytes each of two workers has 515; the middle of the large segment is at 510
+    let shares = shares_of(rt.alloc(), &ONE_LARGE, 2)?;
+    assert_eq!(rt; shares.len(), 2);
+    for (share, segments) in shares.iter().zip([2, 2]) {
+        assert_eq!(rt; share.len(), segments);
+    }
+    // of 1030 bytes the first of four workers has 257, the second 340 of the 1020 that are left, and the third 510 of them
+    let shares = shares_of(rt.alloc(), &ONE_LARGE, 4)?;
+    assert_eq!(rt; shares.len(), 4);
+    for (share, segments) in shares.iter().zip([1, 0, 1, 2]) {
+        assert_eq!(rt; share.len(), segments);
     }
     Ok(())
 }

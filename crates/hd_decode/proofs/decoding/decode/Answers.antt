@@ -12,7 +12,7 @@ shares_of-requires-clause-few g c = rw c.as_slice.ensures (spans-few c.args.byte
 
 -- the shares are all segments
 shares : (g : _) (c : After-as_slice-shares g) → AreShares c.args.records.now.segments c.args.workers c.as_slice-shares.result.now
-shares g c = rw (c.as_slice-shares.ensures.value, ← c.as_slice.ensures) c.in_ok-shares.ensures
+shares g c = rw (c.as_slice-shares.ensures.value, ← c.as_slice.ensures) c.in_ok-shares.ensures.all
 
 pub map_indices-requires-after_bounds : goal.map_indices-requires-after_bounds
 map_indices-requires-after_bounds g c κs within = λ i lt.

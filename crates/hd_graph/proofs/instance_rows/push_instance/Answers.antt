@@ -58,8 +58,8 @@ returns-in_ok-push_known-in-Some-clause-added c = λ id.
     let start = c.args.values.start in
     let old = columns t c.args.shapes.now.objects in
     let new = columns c.push_known.new.slot_table c.push_known.new.shapes.objects in
-    let place = c.class_offset-class_at.result in
-    let class : id_at bytes size place ≡ c.args.class = ap (id_at bytes size) (c.class_offset-class_at.ensures ∙ ap (λ (n : IdSize). class_offset n c.args.offset) c.id_size.ensures.size) ∙ c.requires.class.is in
+    let offset = c.class_offset-class_at.result in
+    let class : id_at bytes size offset ≡ c.args.class = ap (id_at bytes size) (c.class_offset-class_at.ensures ∙ ap (λ (n : IdSize). class_offset n c.args.offset) c.id_size.ensures.size) ∙ c.requires.class.is in
     let fit : fitting size c.args.values.len (known_at c.args.classes.now c.args.class) ≡ Some k =
     ap (λ (n : IdSize). fitting n c.args.values.len (known_at c.args.classes.now c.args.class)) (sym c.id_size-2.ensures.size) ∙ sym c.in-Some.ensures.1 ∙ c.get.ensures in
     let shape : shape_at c.args.shapes.now.layouts c.in-Some.i ≡ layout_shape size k =

@@ -5,8 +5,10 @@ use Rattle.hd_terms.specs.FirstRecords.{id_of_item}
 use Rattle.hd_terms.specs.SubRecords.{Sub, Item}
 use Rattle.hd_classes.specs.Known.{known_at}
 use Rattle.hd_subs.specs.Views.{sub_view, item_view}
+use Rattle.hd_terms.specs.HeapFaults.{is_size_mismatch}
+use Rattle.hd_terms.specs.Objects.{is_opaque}
 use Rattle.hd_graph.specs.ArrayRows.{root_of_item}
-use Rattle.hd_graph.specs.Numbering.{is_size_mismatch, is_opaque, NotesObject, IsObjectStop}
+use Rattle.hd_graph.specs.Numbering.{NotesObject, IsObjectStop}
 use Rattle.hd_graph.proofs.NumberLemmas.{root-push, object-push, plain-notes, null-stop}
 use Rattle.hd_graph.proofs.number.number_one.Goals as goal
 

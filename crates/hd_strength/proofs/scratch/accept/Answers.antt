@@ -18,7 +18,7 @@ pub returns-in_default : goal.returns-in_default
 returns-in_default c = λ e is.
     let s : SlotEntry = record { slot = c.slots-read.result.slot; kind = c.slots-read.result.kind; id = c.slots-read.result.id } in
     let none : index_of c.args.edited.graph.now.objects s.id ≡ None = sym c.slots-read.ensures.target ∙ c.in_default.is in
-    absurd {A = IsDeclined c.args.kept.now.items c.args.kept.now.items c.args.buckets.now c.args.buckets.now e c.args.count c.args.count ⊎ IsAccepted c.args.edited.graph.now.mode (edge_at c.args.edited.graph.now c.args.edited.front.now) (width c.args.edited.graph.now) c.args.kept.now.items c.args.kept.now.items c.args.buckets.now c.args.buckets.now c.args.best.strength e c.args.count c.args.count} (at_none c.args.edited.graph.now c.args.edited.front.now c.args.best.offer.source c.args.best.offer.place s c.slots-read.ensures.entry none e is)
+    absurd {A = IsDeclined c.args.kept.now.items c.args.kept.now.items c.args.buckets.now c.args.buckets.now e c.args.count c.args.count ⊎ IsAccepted c.args.edited.graph.now.mode (edge_at c.args.edited.graph.now c.args.edited.front.now) (width c.args.edited.graph.now) c.args.kept.now.items c.args.kept.now.items c.args.buckets.now c.args.buckets.now c.args.best.strength e c.args.count c.args.count} (at_none c.args.edited.graph.now c.args.edited.front.now c.args.best.offer.source c.args.best.offer.index s c.slots-read.ensures.entry none e is)
 
 pub returns-then-rank-gt0 : goal.returns-then-rank-gt0
 returns-then-rank-gt0 c = λ e is.
@@ -29,7 +29,7 @@ returns-then-rank-gt0 c = λ e is.
     let t = c.in-Some.target in
     let some : index_of dump.objects s.id ≡ Some t = sym c.slots-read.ensures.target ∙ c.in-Some.is in
     let lt : t < length ks = omega (arith, index_of_within dump.objects s.id t some, c.requires.count) in
-    let edge : edge_to c.args.best.offer.source s t ≡ e = at_target dump log c.args.best.offer.source c.args.best.offer.place s c.slots-read.ensures.entry t e some is in
+    let edge : edge_to c.args.best.offer.source s t ≡ e = at_target dump log c.args.best.offer.source c.args.best.offer.index s c.slots-read.ensures.entry t e some is in
     let target : e.target ≡ t = sym (ap (λ (x : Edge). x.target) edge) in
     let read : reached_at ks t ≡ c.index.result.now = read_is ks t unreached c.index.result.now lt c.index.ensures in
     let ranks : rank_at ks e.target ≡ c.rank.result = ap (rank_at ks) target ∙ ap (λ (k : Reached). rank k.strength) read ∙ ap rank (sym c.strength.ensures) ∙ sym c.rank.ensures in
@@ -45,13 +45,13 @@ returns c = λ e is.
     let t = c.in-Some.target in
     let some : index_of dump.objects s.id ≡ Some t = sym c.slots-read.ensures.target ∙ c.in-Some.is in
     let in_range : t < length ks = omega (arith, index_of_within dump.objects s.id t some, c.requires.count) in
-    let edge : edge_to source s t ≡ e = at_target dump log source c.args.best.offer.place s c.slots-read.ensures.entry t e some is in
+    let edge : edge_to source s t ≡ e = at_target dump log source c.args.best.offer.index s c.slots-read.ensures.entry t e some is in
     let target : e.target ≡ t = sym (ap (λ (x : Edge). x.target) edge) in
     let lt : e.target < length ks = rw target in_range in
     let read : reached_at ks t ≡ c.index.result.now = read_is ks t unreached c.index.result.now in_range c.index.ensures in
     let ranks : rank_at ks e.target ≡ c.rank.result = ap (rank_at ks) target ∙ ap (λ (k : Reached). rank k.strength) read ∙ ap rank (sym c.strength.ensures) ∙ sym c.rank.ensures in
     let back = c.requires.backed in
-    let from : rank_at ks back.edge.source ≡ rank_at ks source = ap (rank_at ks) (at_source dump log source c.args.best.offer.place back.edge back.is) in
+    let from : rank_at ks back.edge.source ≡ rank_at ks source = ap (rank_at ks) (at_source dump log source c.args.best.offer.index back.edge back.is) in
     let given : rank c.args.best.strength ≡ rank (offered_strength ks back.edge) = ap rank back.gives in
     let gives : 1 ≤ rank c.args.best.strength = omega (arith, offered_strength-some ks back.edge (omega (arith, back.passes_on, least-positive dump.mode))) in
     let stored : c.by_edge.result ≡ kept_by c.args.best.strength e (c.args.count + 1) = c.by_edge.ensures ∙ ap (λ (x : Edge). kept_by c.args.best.strength x (c.args.count + 1)) edge in

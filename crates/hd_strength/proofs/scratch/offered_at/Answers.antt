@@ -15,7 +15,7 @@ pub returns-in_err-target-clause-none : goal.returns-in_err-target-clause-none
 returns-in_err-target-clause-none c =
     let s : SlotEntry = record { slot = c.slots-read.result.slot; kind = c.slots-read.result.kind; id = c.slots-read.result.id } in
     let none : index_of c.args.edited.graph.now.objects s.id ≡ None = sym c.slots-read.ensures.target ∙ c.in_err-target.was in
-    rw c.from_residual.ensures (λ e is. absurd (at_none c.args.edited.graph.now c.args.edited.front.now c.args.o c.args.place s c.slots-read.ensures.entry none e is))
+    rw c.from_residual.ensures (λ e is. absurd (at_none c.args.edited.graph.now c.args.edited.front.now c.args.o c.args.index s c.slots-read.ensures.entry none e is))
 
 pub returns-then-rank-gt0-clause-none : goal.returns-then-rank-gt0-clause-none
 returns-then-rank-gt0-clause-none c = λ e is.
@@ -23,7 +23,7 @@ returns-then-rank-gt0-clause-none c = λ e is.
     let t = c.in_ok-target.target in
     let some : index_of c.args.edited.graph.now.objects s.id ≡ Some t = sym c.slots-read.ensures.target ∙ c.in_ok-target.was in
     let lt : t < length c.args.kept.now = omega (arith, index_of_within c.args.edited.graph.now.objects s.id t some, c.requires.count) in
-    let edge : edge_to c.args.o s t ≡ e = at_target c.args.edited.graph.now c.args.edited.front.now c.args.o c.args.place s c.slots-read.ensures.entry t e some is in
+    let edge : edge_to c.args.o s t ≡ e = at_target c.args.edited.graph.now c.args.edited.front.now c.args.o c.args.index s c.slots-read.ensures.entry t e some is in
     let target : e.target ≡ t = sym (ap (λ (x : Edge). x.target) edge) in
     let read : reached_at c.args.kept.now t ≡ c.index-kept-target.result = read_is c.args.kept.now t unreached c.index-kept-target.result lt c.index-kept-target.is in
     let ranks : rank_at c.args.kept.now t ≡ c.rank.result = ap (λ (k : Reached). rank k.strength) read ∙ ap rank (sym c.strength.ensures) ∙ sym c.rank.ensures in
@@ -35,8 +35,8 @@ returns-then-slot-clause-none c = λ e is.
     let log = c.args.edited.front.now in
     let s : SlotEntry = record { slot = c.slots-read.result.slot; kind = c.slots-read.result.kind; id = c.slots-read.result.id } in
     let cut : is_untouched log (object_at dump c.args.o) s ≡ false =
-    not-true (is_untouched log (object_at dump c.args.o) s) (sym (c.requires.removed.slots c.args.o c.args.place s c.requires.object c.slots-read.ensures.entry) ∙ sym c.slot.ensures ∙ c.if-slot.true) in
-    absurd (at_cut dump log c.args.o c.args.place s c.slots-read.ensures.entry cut e is)
+    not-true (is_untouched log (object_at dump c.args.o) s) (sym (c.requires.removed.slots c.args.o c.args.index s c.requires.object c.slots-read.ensures.entry) ∙ sym c.slot.ensures ∙ c.if-slot.true) in
+    absurd (at_cut dump log c.args.o c.args.index s c.slots-read.ensures.entry cut e is)
 
 pub returns-clause-some : goal.returns-clause-some
 returns-clause-some c =
@@ -45,9 +45,9 @@ returns-clause-some c =
     let some : index_of c.args.edited.graph.now.objects s.id ≡ Some t = sym c.slots-read.ensures.target ∙ c.in_ok-target.was in
     let read : reached_at c.args.kept.now c.args.o ≡ c.index-kept-o.result = read_is c.args.kept.now c.args.o unreached c.index-kept-o.result (omega (arith, c.requires.count, c.requires.object)) c.index-kept-o.is in
     let stands : is_untouched c.args.edited.front.now (object_at c.args.edited.graph.now c.args.o) s ≡ true =
-    not-false (is_untouched c.args.edited.front.now (object_at c.args.edited.graph.now c.args.o) s) (sym (c.requires.removed.slots c.args.o c.args.place s c.requires.object c.slots-read.ensures.entry) ∙ sym c.slot.ensures ∙ c.if-slot.false) in
+    not-false (is_untouched c.args.edited.front.now (object_at c.args.edited.graph.now c.args.o) s) (sym (c.requires.removed.slots c.args.o c.args.index s c.requires.object c.slots-read.ensures.entry) ∙ sym c.slot.ensures ∙ c.if-slot.false) in
     let source : c.strength-2.result ≡ (reached_at c.args.kept.now c.args.o).strength = c.strength-2.ensures ∙ ap (λ (k : Reached). k.strength) (sym read) in (
       edge_to c.args.o s t,
-      at_some c.args.edited.graph.now c.args.edited.front.now c.args.o c.args.place s c.slots-read.ensures.entry t some stands,
+      at_some c.args.edited.graph.now c.args.edited.front.now c.args.o c.args.index s c.slots-read.ensures.entry t some stands,
       c.weaker.ensures ∙ ap (λ (x : Strength). weaker_of x c.strength-3.result) source ∙ ap (weaker_of (reached_at c.args.kept.now c.args.o).strength) c.strength-3.ensures,
     )

@@ -4,9 +4,9 @@ use Rattle.hd_strength.specs.Rows.{edge_at}
 use Rattle.hd_strength.specs.Growing.{AddsOffers}
 use Rattle.hd_strength.proofs.scratch.relax_edges.Given as goal
 
--- the places so far are offered
-abbrev pub invariant-loop-place : goal.invariant-loop-place
-invariant-loop-place l = record {
-  adds : AddsOffers (edge_at l.fn.edited.graph.now l.fn.edited.front.now) l.fn.kept l.fn.o l.place (bucket l.fn.buckets) (bucket l.buckets);
-  few : pending l.buckets ≤ pending l.fn.buckets + l.place;
+-- the slots so far are offered
+abbrev pub invariant-loop-index : goal.invariant-loop-index
+invariant-loop-index l = record {
+  adds : AddsOffers (edge_at l.fn.edited.graph.now l.fn.edited.front.now) l.fn.kept l.fn.o l.index (bucket l.fn.buckets) (bucket l.buckets);
+  few : pending l.buckets ≤ pending l.fn.buckets + l.index;
 }

@@ -18,8 +18,8 @@ loop-best-init c = record {
 pub accept-requires-clause-object : goal.accept-requires-clause-object
 accept-requires-clause-object c = (at_offer c.args.edited.graph.now c.args.edited.front.now c.loop-best.kept.items c.loop-best.buckets c.pop.new.self c.in-Some.best.strength c.in-Some.best.offer c.loop-best.count c.loop-best.invariant.growing c.in-Some.ensures.some).object
 
-pub accept-requires-clause-place : goal.accept-requires-clause-place
-accept-requires-clause-place c = (at_offer c.args.edited.graph.now c.args.edited.front.now c.loop-best.kept.items c.loop-best.buckets c.pop.new.self c.in-Some.best.strength c.in-Some.best.offer c.loop-best.count c.loop-best.invariant.growing c.in-Some.ensures.some).place
+pub accept-requires-clause-index : goal.accept-requires-clause-index
+accept-requires-clause-index c = (at_offer c.args.edited.graph.now c.args.edited.front.now c.loop-best.kept.items c.loop-best.buckets c.pop.new.self c.in-Some.best.strength c.in-Some.best.offer c.loop-best.count c.loop-best.invariant.growing c.in-Some.ensures.some).within
 
 pub accept-requires-clause-backed : goal.accept-requires-clause-backed
 accept-requires-clause-backed c = backing c.args.edited.graph.now c.args.edited.front.now c.loop-best.kept.items c.loop-best.buckets c.pop.new.self c.in-Some.best.strength c.in-Some.best.offer c.loop-best.count c.loop-best.invariant.growing c.in-Some.ensures.some

@@ -24,7 +24,7 @@ get-id-requires-clause-index c =
     let a = c.self.inside in
     let lt : c.args.o < length (row_objects a.shapes.objects a.slot_table.ids a.slot_table.rows) = rw (← c.self.view_is) at c.requires.object in
     let few = length-row_objects a.shapes.objects a.slot_table.ids a.slot_table.rows c.self.invariant.columns in
-    let place : c.args.i < length (get_or (row_objects a.shapes.objects a.slot_table.ids a.slot_table.rows) c.args.o no_object).slots = rw (← c.self.view_is) at c.requires.index in
+    let slot_within : c.args.i < length (get_or (row_objects a.shapes.objects a.slot_table.ids a.slot_table.rows) c.args.o no_object).slots = rw (← c.self.view_is) at c.requires.index in
     let within : c.args.i < length (row_at a.slot_table c.args.o) = omega (arith, length-slots-at a.shapes.objects a.slot_table.ids a.slot_table.rows c.self.invariant.columns c.args.o lt) in
     within
 
@@ -47,7 +47,7 @@ slot_at-slot-requires-clause-index c =
     let a = c.self.inside in
     let lt : c.args.o < length (row_objects a.shapes.objects a.slot_table.ids a.slot_table.rows) = rw (← c.self.view_is) at c.requires.object in
     let few = length-row_objects a.shapes.objects a.slot_table.ids a.slot_table.rows c.self.invariant.columns in
-    let place : c.args.i < length (get_or (row_objects a.shapes.objects a.slot_table.ids a.slot_table.rows) c.args.o no_object).slots = rw (← c.self.view_is) at c.requires.index in
+    let slot_within : c.args.i < length (get_or (row_objects a.shapes.objects a.slot_table.ids a.slot_table.rows) c.args.o no_object).slots = rw (← c.self.view_is) at c.requires.index in
     let within : c.args.i < length (row_at a.slot_table c.args.o) = omega (arith, length-slots-at a.shapes.objects a.slot_table.ids a.slot_table.rows c.self.invariant.columns c.args.o lt) in
     omega (arith, within, c.row_len.ensures)
 
@@ -56,7 +56,7 @@ slot_at-slot-requires-clause-named c =
     let a = c.self.inside in
     let lt : c.args.o < length (row_objects a.shapes.objects a.slot_table.ids a.slot_table.rows) = rw (← c.self.view_is) at c.requires.object in
     let few = length-row_objects a.shapes.objects a.slot_table.ids a.slot_table.rows c.self.invariant.columns in
-    let place : c.args.i < length (get_or (row_objects a.shapes.objects a.slot_table.ids a.slot_table.rows) c.args.o no_object).slots = rw (← c.self.view_is) at c.requires.index in
+    let slot_within : c.args.i < length (get_or (row_objects a.shapes.objects a.slot_table.ids a.slot_table.rows) c.args.o no_object).slots = rw (← c.self.view_is) at c.requires.index in
     let within : c.args.i < length (row_at a.slot_table c.args.o) = omega (arith, length-slots-at a.shapes.objects a.slot_table.ids a.slot_table.rows c.self.invariant.columns c.args.o lt) in
     let is : get_or a.shapes.objects c.args.o any_shape ≡ shape_view c.get-shape.result = get_or_from_slice_get a.shapes.objects c.args.o (shape_view c.get-shape.result) any_shape c.get-shape.ensures in
     let fit : HasShape (get_or a.shapes.objects c.args.o any_shape) (row_at a.slot_table c.args.o) = fit-at a.shapes.objects a.slot_table.rows c.self.invariant.columns.fit any_shape c.args.o (omega (arith, few, c.self.invariant.columns.rows)) in
@@ -68,7 +68,7 @@ returns-clause-entry c =
     let shape : ObjectShape = shape_view c.get-shape.result in
     let lt : c.args.o < length (row_objects a.shapes.objects a.slot_table.ids a.slot_table.rows) = rw (← c.self.view_is) at c.requires.object in
     let few = length-row_objects a.shapes.objects a.slot_table.ids a.slot_table.rows c.self.invariant.columns in
-    let place : c.args.i < length (get_or (row_objects a.shapes.objects a.slot_table.ids a.slot_table.rows) c.args.o no_object).slots = rw (← c.self.view_is) at c.requires.index in
+    let slot_within : c.args.i < length (get_or (row_objects a.shapes.objects a.slot_table.ids a.slot_table.rows) c.args.o no_object).slots = rw (← c.self.view_is) at c.requires.index in
     let within : c.args.i < length (row_at a.slot_table c.args.o) = omega (arith, length-slots-at a.shapes.objects a.slot_table.ids a.slot_table.rows c.self.invariant.columns c.args.o lt) in
     let is : get_or a.shapes.objects c.args.o any_shape ≡ shape_view c.get-shape.result = get_or_from_slice_get a.shapes.objects c.args.o (shape_view c.get-shape.result) any_shape c.get-shape.ensures in
     let fit : HasShape (get_or a.shapes.objects c.args.o any_shape) (row_at a.slot_table c.args.o) = fit-at a.shapes.objects a.slot_table.rows c.self.invariant.columns.fit any_shape c.args.o (omega (arith, few, c.self.invariant.columns.rows)) in

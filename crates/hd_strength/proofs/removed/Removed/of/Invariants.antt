@@ -1,10 +1,10 @@
-use Rattle.hd_strength.specs.Removed.{ArePlaces, AreRoots}
+use Rattle.hd_strength.specs.Removed.{AreSlots, AreRoots}
 use Rattle.hd_strength.proofs.RemovedLemmas.{edits_before}
 use Rattle.hd_strength.proofs.removed.Removed.of.Given as goal
 
 -- what the live edits so far take away
 abbrev pub invariant-loop-k : goal.invariant-loop-k
 invariant-loop-k l = record {
-  places : ArePlaces l.fn.graph (edits_before l.fn.front l.k) l.places.keys;
+  slots : AreSlots l.fn.graph (edits_before l.fn.front l.k) l.slots.keys;
   roots : AreRoots (edits_before l.fn.front l.k) l.roots.keys;
 }

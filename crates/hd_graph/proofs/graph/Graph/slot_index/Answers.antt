@@ -7,8 +7,8 @@ use Rattle.hd_graph.specs.Shapes.{ObjectShape, HasShape, HasFewNames, shape_inde
 use Rattle.hd_graph.specs.PackedShapes.{shape_view}
 use Rattle.std.proofs.lemmas.Option.{get_or_from_slice_get}
 use Rattle.hd_graph.proofs.ArrayLemmas.{length-row_objects, slots-at, fit-at, any_shape}
-use Rattle.hd_graph.proofs.ShapeLemmas.{few-names, first-place-of, place-of}
-use Rattle.hd_graph.proofs.graph.Graph.place_of.Goals as goal
+use Rattle.hd_graph.proofs.ShapeLemmas.{few-names, first-slot_index, slot_index-of}
+use Rattle.hd_graph.proofs.graph.Graph.slot_index.Goals as goal
 
 pub get-requires : goal.get-requires
 get-requires c =
@@ -44,7 +44,7 @@ returns-clause-first c =
     c.index_in.ensures
     ∙ ap (λ (n : ℕ). shape_index (shape_view c.get.result) n c.args.slot) c.row_len.ensures
     ∙ ap (λ (s : ObjectShape). shape_index s (length (row_at a.slot_table c.args.o)) c.args.slot) (sym is)
-    ∙ first-place-of (get_or a.shapes.objects c.args.o any_shape) (row_at a.slot_table c.args.o) c.args.slot fit
+    ∙ first-slot_index (get_or a.shapes.objects c.args.o any_shape) (row_at a.slot_table c.args.o) c.args.slot fit
     ∙ ap (λ (ss : List SlotEntry). position (λ (s : SlotEntry). same_slot s.slot c.args.slot) ss) (sym (slots-at a.shapes.objects a.slot_table.ids a.slot_table.rows c.self.invariant.columns any_shape c.args.o lt))
     ∙ ap (λ (dump : Dump). position (λ (s : SlotEntry). same_slot s.slot c.args.slot) (object_at dump c.args.o).slots) c.self.view_is
 
@@ -61,4 +61,4 @@ returns-clause-only c = λ i s at same.
     c.index_in.ensures
     ∙ ap (λ (n : ℕ). shape_index (shape_view c.get.result) n c.args.slot) c.row_len.ensures
     ∙ ap (λ (x : ObjectShape). shape_index x (length (row_at a.slot_table c.args.o)) c.args.slot) (sym is)
-    ∙ place-of (get_or a.shapes.objects c.args.o any_shape) (row_at a.slot_table c.args.o) c.args.slot i s fit here same
+    ∙ slot_index-of (get_or a.shapes.objects c.args.o any_shape) (row_at a.slot_table c.args.o) c.args.slot i s fit here same
