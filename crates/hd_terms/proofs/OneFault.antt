@@ -2,6 +2,7 @@
 use Rattle.std.proofs.Common.{◌≡◌, ◌≢◌, ◌∙◌, ℕ, ◌+◌, ◌<◌, Bool, true, false, List, [], ◌∷◌, ◌++◌, length, slice_get, Some, subst, sym, ap, refl, append_assoc, arith}
 use Rattle.std.specs.List.{flat_map, AllZip}
 use Rattle.std.proofs.lemmas.List.{append-nil}
+use Rattle.hd_terms.specs.declared.Mode.{Mode}
 use Rattle.hd_terms.specs.declared.IdSize.{IdSize}
 use Rattle.hd_terms.specs.declared.IdSize.TheVariants as sizes
 use Rattle.hd_terms.specs.declared.Span.{Span}
@@ -322,14 +323,14 @@ whole_segments bytes f a b rs ss segments header whole bodies header' whole' h =
     no_sub_records_fault a rs segments f bodies (moved b a ss rs f size (same_file b a bytes ss rs size whole' whole) h)
 
 -- a file that reads without fault has none
-pub no_fault : (bytes : List ℕ) (dump : Dump) (f : ReadFault) → IsDumpOf bytes dump → IsReadFault bytes f → ⊥
-no_fault bytes dump f is (in_records h) = no_records_fault bytes is.size is.records f is.reads.header is.reads.whole h
-no_fault bytes dump f is (in_sub_records size rs header whole h) =
+pub no_fault : (mode : Mode) (bytes : List ℕ) (dump : Dump) (f : ReadFault) → IsDumpOf mode bytes dump → IsReadFault bytes f → ⊥
+no_fault mode bytes dump f is (in_records h) = no_records_fault bytes is.size is.records f is.reads.header is.reads.whole h
+no_fault mode bytes dump f is (in_sub_records size rs header whole h) =
     whole_segments bytes f is.size size is.records rs is.segments is.reads.header is.reads.whole is.reads.bodies header whole h
-no_fault bytes dump f is (in_classes size rs segments header whole bodies found) =
+no_fault mode bytes dump f is (in_classes size rs segments header whole bodies found) =
     some_first (faulty_classes bytes size rs segments) (faulty_classes bytes is.size is.records is.segments) f found
     (same_reading (faulty_classes bytes) bytes size is.size rs is.records segments is.segments header is.reads.header whole is.reads.whole bodies is.reads.bodies) is.reads.classes
-no_fault bytes dump f is (in_objects size rs segments header whole bodies none found) =
+no_fault mode bytes dump f is (in_objects size rs segments header whole bodies none found) =
     some_first (faulty_objects bytes size rs segments) (faulty_objects bytes is.size is.records is.segments) f found
     (same_reading (faulty_objects bytes) bytes size is.size rs is.records segments is.segments header is.reads.header whole is.reads.whole bodies is.reads.bodies) is.reads.objects
 

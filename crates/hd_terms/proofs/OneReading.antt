@@ -2,6 +2,7 @@
 use Rattle.std.proofs.Common.{◌≡◌, ◌∙◌, ℕ, ◌*◌, Bool, true, false, ◌==◌, ◌||◌, if◌then◌else◌, List, [], ◌∷◌, ◌++◌, length, subst, sym, ap, refl, append_assoc, arith}
 use Rattle.std.specs.List.{concat, filter, AllByRecursion, AllZip}
 use Rattle.byteorder.specs.Endian.{big_number}
+use Rattle.hd_terms.specs.declared.Mode.{Mode}
 use Rattle.hd_terms.specs.declared.IdSize.{IdSize}
 use Rattle.hd_terms.specs.declared.IdSize.TheVariants as sizes
 use Rattle.hd_terms.specs.Records.{id_len, Record, IsFramed, IsRecord, record_text, HasHeader, AreRecords, is_segment}
@@ -304,8 +305,8 @@ same_reading made bytes a b rs ss us vs ha hb hr hs hu hv =
     ap (λ (x : IdSize). made x rs us) size ∙ ap (λ (xs : List Record). made b xs us) records ∙ ap (made b ss) segments
 
 -- a file has one dump
-pub same_dump : (bytes : List ℕ) (a b : Dump) → IsDumpOf bytes a → IsDumpOf bytes b → a ≡ b
-same_dump bytes a b ha hb =
+pub same_dump : (mode : Mode) (bytes : List ℕ) (a b : Dump) → IsDumpOf mode bytes a → IsDumpOf mode bytes b → a ≡ b
+same_dump mode bytes a b ha hb =
     ha.is
-    ∙ same_reading (dump_of bytes) bytes ha.size hb.size ha.records hb.records ha.segments hb.segments ha.reads.header hb.reads.header ha.reads.whole hb.reads.whole ha.reads.bodies hb.reads.bodies
+    ∙ same_reading (dump_of mode bytes) bytes ha.size hb.size ha.records hb.records ha.segments hb.segments ha.reads.header hb.reads.header ha.reads.whole hb.reads.whole ha.reads.bodies hb.reads.bodies
     ∙ sym hb.is

@@ -78,6 +78,7 @@ edit_refusal dump (edits.Cut id slot) = cut_refusal dump slot (index_of dump.obj
 edit_refusal dump (edits.Clear id) = clear_refusal dump (index_of dump.objects id)
 edit_refusal dump (edits.Drop r) = None
 edit_refusal dump (edits.Add id) = add_refusal (index_of dump.objects id)
+edit_refusal dump (edits.ClearAll kind) = None
 
 -- what is done, or why not
 abbrev pub unless_refused : Option Refusal → What → Result What Refusal
@@ -99,6 +100,8 @@ undo_asked log who (Some k) = Ok (whats.Undo k)
 abbrev pub asked : Dump → List Event → ℕ → Command → Option (Result What Refusal)
 asked dump log who (commands.Strength id) = None
 asked dump log who (commands.Slots id) = None
+asked dump log who commands.Roots = None
 asked dump log who (commands.Edit edit) = Some (unless_refused (edit_refusal dump edit) (whats.Do edit))
 asked dump log who (commands.Undo number) = Some (undo_asked log who number)
+asked dump log who commands.Events = None
 asked dump log who commands.Quit = None

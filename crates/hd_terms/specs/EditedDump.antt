@@ -11,6 +11,7 @@ use Rattle.hd_terms.specs.declared.Edit.TheVariants as edits
 use Rattle.hd_terms.specs.declared.Event.{Event}
 use Rattle.hd_terms.specs.declared.What.{What}
 use Rattle.hd_terms.specs.declared.What.TheVariants as whats
+use Rattle.hd_terms.specs.Ranks.{kind_of_references, same_kind}
 use Rattle.hd_terms.specs.Paths.{Edge, RootEntry, Standing}
 use Rattle.hd_terms.specs.Dump.{SlotEntry, Object, Root, Dump, object_at}
 use Rattle.hd_terms.specs.Edges.{index_of, edge_of}
@@ -37,12 +38,14 @@ abbrev pub is_slot : Slot → Option Slot → Bool
 is_slot slot None = false
 is_slot slot (Some named) = same_slot slot named
 
--- an edit takes away the reference in a slot of an object: it cuts the slot, or clears the object whose referent the slot is
+-- an edit takes away the reference in a slot of an object: it cuts the slot, or clears the object whose referent the slot is,
+-- or clears all references of the slot's kind
 abbrev pub takes_away : Object → SlotEntry → Edit → Bool
 takes_away x s (edits.Cut id cut) = (x.id == id) && same_slot s.slot cut
 takes_away x s (edits.Clear id) = (x.id == id) && is_slot s.slot x.referent
 takes_away x s (edits.Drop r) = false
 takes_away x s (edits.Add id) = false
+takes_away x s (edits.ClearAll kind) = same_kind s.kind (kind_of_references kind)
 
 -- no live edit takes away what is in a slot of an object
 abbrev pub is_untouched : List Event → Object → SlotEntry → Bool
@@ -70,6 +73,7 @@ drops r (edits.Cut id slot) = false
 drops r (edits.Clear id) = false
 drops r (edits.Drop s) = s == r
 drops r (edits.Add id) = false
+drops r (edits.ClearAll kind) = false
 
 -- the root of a number is dropped: a live edit drops it
 abbrev pub is_dropped : List Event → ℕ → Bool
@@ -82,6 +86,7 @@ adds_root (Some (edits.Cut id slot)) = false
 adds_root (Some (edits.Clear id)) = false
 adds_root (Some (edits.Drop r)) = false
 adds_root (Some (edits.Add id)) = true
+adds_root (Some (edits.ClearAll kind)) = false
 
 -- the edit of event k of a log, where there is such an event and it is live
 abbrev pub live_edit_at : List Event → ℕ → Option Edit
@@ -111,6 +116,7 @@ root_added r (whats.Do (edits.Cut id slot)) = None
 root_added r (whats.Do (edits.Clear id)) = None
 root_added r (whats.Do (edits.Drop s)) = None
 root_added r (whats.Do (edits.Add id)) = Some (record { number = r; kind = None; id = id })
+root_added r (whats.Do (edits.ClearAll kind)) = None
 root_added r (whats.Undo k) = None
 
 -- event k adds root n + k to a dump of n roots

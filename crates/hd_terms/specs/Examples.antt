@@ -1,14 +1,18 @@
 -- The worked examples of docs/DEFINITIONS.md as data: files, dumps, logs and lines. What the definitions say of them is
 -- proved in `examples`.
 -- Source: this project.
-use Rattle.std.specs.Prelude.{ℕ, ◌+◌, ◌*◌, ◌/◌, ◌%◌, List, [], ◌∷◌, ◌++◌, length, take, drop, replicate, codes, Some, None}
+use Rattle.std.specs.Prelude.{ℕ, ◌+◌, ◌*◌, ◌/◌, ◌%◌, List, [], ◌∷◌, ◌++◌, length, take, drop, slice_set, replicate, codes, Option, Some, None}
 use Rattle.std.specs.List.{flat_map}
 use Rattle.hd_terms.specs.declared.Slot.{Slot}
 use Rattle.hd_terms.specs.declared.Slot.TheVariants as slots
 use Rattle.hd_terms.specs.declared.EdgeKind.{EdgeKind}
 use Rattle.hd_terms.specs.declared.EdgeKind.TheVariants as kinds
 use Rattle.hd_terms.specs.declared.Group.TheVariants as groups
+use Rattle.hd_terms.specs.declared.RootKind.{RootKind}
 use Rattle.hd_terms.specs.declared.RootKind.TheVariants as roots
+use Rattle.hd_terms.specs.declared.RootMode.{RootMode}
+use Rattle.hd_terms.specs.declared.RootRow.{RootRow}
+use Rattle.hd_terms.specs.declared.RefKind.TheVariants as references
 use Rattle.hd_terms.specs.declared.Edit.{Edit}
 use Rattle.hd_terms.specs.declared.Edit.TheVariants as edits
 use Rattle.hd_terms.specs.declared.Event.{Event}
@@ -41,6 +45,10 @@ four n = 0x00 ∷ 0x00 ∷ 0x00 ∷ n ∷ []
 -- the header alone
 abbrev pub empty_dump_file : List ℕ
 empty_dump_file = head_of 4
+
+-- the same with the text of version 1.0.1, as JDK 8 writes it
+abbrev pub jdk_8_file : List ℕ
+jdk_8_file = slice_set empty_dump_file 17 0x31
 
 -- one root and two object arrays, in one segment: 91 bytes
 abbrev pub two_arrays_file : List ℕ
@@ -376,6 +384,10 @@ reference_class_names = (0x11, codes "java/lang/ref/Reference") ∷ (0x13, codes
 abbrev pub empty_dump : Dump
 empty_dump = record { mode = modes.Direct; objects = []; roots = []; repeated = none_repeated; opaque = 0; names = [] }
 
+-- the same in mode Closure
+abbrev pub empty_closure : Dump
+empty_closure = record empty_dump { mode = modes.Closure }
+
 -- nothing, but a text and a load are repeated
 abbrev pub repeated_strings_and_loads : Dump
 repeated_strings_and_loads = record { mode = modes.Direct; objects = []; roots = []; repeated = record { objects = 0; strings = 1; loads = 1 }; opaque = 0; names = (0x11, 0x41 ∷ []) ∷ [] }
@@ -664,6 +676,10 @@ clears = does 0 (edits.Clear 0x21) ∷ does 0 (edits.Clear 0x31) ∷ []
 abbrev pub cut_and_undo : List Event
 cut_and_undo = does 0 (cut 0) ∷ undoes 0 0 ∷ []
 
+-- all soft references are cleared, and then one of them alone; then both are taken back
+abbrev pub clears_of_soft : List Event
+clears_of_soft = does 0 (edits.ClearAll references.Soft) ∷ does 0 (edits.Clear 0x21) ∷ undoes 0 0 ∷ undoes 0 1 ∷ []
+
 -- an undo of an edit, and an undo of that undo
 abbrev pub undo_of_an_undo : List Event
 undo_of_an_undo = does 0 (edits.Add 1) ∷ undoes 0 0 ∷ undoes 0 1 ∷ []
@@ -682,6 +698,10 @@ dump_root_on number id = record { number = number; kind = Some roots.Unknown; id
 
 abbrev pub added_root_on : ℕ → ℕ → RootOn
 added_root_on number id = record { number = number; kind = None; id = id }
+
+-- a root as it is shown: by its number, its kind, the ID that it is on, and how it stands
+abbrev pub shown_root : ℕ → Option RootKind → ℕ → RootMode → RootRow
+shown_root number kind id mode = record { number = number; kind = kind; id = id; mode = mode }
 
 -- a standing root by its number and the number of its object
 abbrev pub root_on : ℕ → ℕ → RootEntry

@@ -20,6 +20,7 @@ pub mod ReadFaults
 pub mod Log
 pub mod EditedDump
 pub mod SlotRows
+pub mod RootRows
 pub mod Fell
 pub mod Lines
 pub mod Asking

@@ -7,6 +7,9 @@ use Rattle.std.specs.Str.{bytes_eq}
 use Rattle.std.specs.Io.BufRead.{strip_last}
 use Rattle.hd_terms.specs.declared.Slot.{Slot}
 use Rattle.hd_terms.specs.declared.Slot.TheVariants as slots
+use Rattle.hd_terms.specs.declared.RefKind.{RefKind}
+use Rattle.hd_terms.specs.declared.RefKind.TheVariants as references
+use Rattle.hd_terms.specs.declared.Edit.{Edit}
 use Rattle.hd_terms.specs.declared.Edit.TheVariants as edits
 use Rattle.hd_terms.specs.declared.commands.Command.{Command}
 use Rattle.hd_terms.specs.declared.commands.Command.TheVariants as commands
@@ -80,12 +83,29 @@ abbrev pub largest_number : ℕ
 largest_number = 4294967295
 
 -- a number, where it isn't too large
-abbrev pub small_number : ℕ → Option ℕ
-small_number n = if nat_le n largest_number then Some n else None
+abbrev pub at_most : ℕ → ℕ → Option ℕ
+at_most largest n = if nat_le n largest then Some n else None
 
 -- a number is 1 to 10 decimal digits, and at most 4294967295
 abbrev pub number_of_word : List ℕ → Option ℕ
-number_of_word word = if nat_le 1 (length word) && nat_le (length word) 10 then option_and_then small_number (number_in 10 word) else None
+number_of_word word = if nat_le 1 (length word) && nat_le (length word) 10 then option_and_then (at_most largest_number) (number_in 10 word) else None
+
+-- the greatest number of a root
+abbrev pub largest_root : ℕ
+largest_root = 18446744073709551615
+
+-- the number of a root is 1 to 20 decimal digits, and at most 18446744073709551615
+abbrev pub root_of_word : List ℕ → Option ℕ
+root_of_word word = if nat_le 1 (length word) && nat_le (length word) 20 then option_and_then (at_most largest_root) (number_in 10 word) else None
+
+-- a kind of reference objects is a word
+abbrev pub kind_of_word : List ℕ → Option RefKind
+kind_of_word word =
+    if bytes_eq word (codes "soft") then Some references.Soft
+    else if bytes_eq word (codes "weak") then Some references.Weak
+    else if bytes_eq word (codes "final") then Some references.Final
+    else if bytes_eq word (codes "phantom") then Some references.Phantom
+    else None
 
 -- the slot of a letter and a number
 abbrev pub lettered_slot : ℕ → ℕ → Option Slot
@@ -143,6 +163,23 @@ abbrev pub cut_command : List (List ℕ) → Result Command LineFault
 cut_command [] = Err faults.BadArgument
 cut_command (id ∷ rest) = cut_of (id_of_word id) (option_and_then slot_of_word (only_word rest))
 
+-- `clear ID`, `add ID`, `drop R` and `clearall KIND` take one word, and ask for the edit that it spells
+abbrev pub edit_command : Option Edit → Result Command LineFault
+edit_command None = Err faults.BadArgument
+edit_command (Some edit) = Ok (commands.Edit edit)
+
+abbrev pub clear_command : List (List ℕ) → Result Command LineFault
+clear_command arguments = edit_command (option_map (λ (id : ℕ). edits.Clear id) (option_and_then id_of_word (only_word arguments)))
+
+abbrev pub add_command : List (List ℕ) → Result Command LineFault
+add_command arguments = edit_command (option_map (λ (id : ℕ). edits.Add id) (option_and_then id_of_word (only_word arguments)))
+
+abbrev pub drop_command : List (List ℕ) → Result Command LineFault
+drop_command arguments = edit_command (option_map (λ (r : ℕ). edits.Drop r) (option_and_then root_of_word (only_word arguments)))
+
+abbrev pub clearall_command : List (List ℕ) → Result Command LineFault
+clearall_command arguments = edit_command (option_map (λ (kind : RefKind). edits.ClearAll kind) (option_and_then kind_of_word (only_word arguments)))
+
 -- `undo`, and `undo N`
 abbrev pub undo_of : Option ℕ → Result Command LineFault
 undo_of None = Err faults.BadArgument
@@ -152,10 +189,10 @@ abbrev pub undo_command : List (List ℕ) → Result Command LineFault
 undo_command [] = Ok (commands.Undo None)
 undo_command (number ∷ rest) = undo_of (option_and_then number_of_word (only_word (number ∷ rest)))
 
--- `quit`
-abbrev pub quit_command : List (List ℕ) → Result Command LineFault
-quit_command [] = Ok commands.Quit
-quit_command (more ∷ rest) = Err faults.BadArgument
+-- `roots`, `events` and `quit` take no word
+abbrev pub bare_command : Command → List (List ℕ) → Result Command LineFault
+bare_command command [] = Ok command
+bare_command command (more ∷ rest) = Err faults.BadArgument
 
 -- the first word decides, in lower case; then the arguments have to fit
 abbrev pub command_of_words : List (List ℕ) → Result Command LineFault
@@ -163,9 +200,15 @@ command_of_words [] = Err faults.UnknownCommand
 command_of_words (word ∷ arguments) =
     if bytes_eq word (codes "strength") then strength_command arguments
     else if bytes_eq word (codes "slots") then slots_command arguments
+    else if bytes_eq word (codes "roots") then bare_command commands.Roots arguments
     else if bytes_eq word (codes "cut") then cut_command arguments
+    else if bytes_eq word (codes "clear") then clear_command arguments
+    else if bytes_eq word (codes "drop") then drop_command arguments
+    else if bytes_eq word (codes "add") then add_command arguments
+    else if bytes_eq word (codes "clearall") then clearall_command arguments
     else if bytes_eq word (codes "undo") then undo_command arguments
-    else if bytes_eq word (codes "quit") then quit_command arguments
+    else if bytes_eq word (codes "events") then bare_command commands.Events arguments
+    else if bytes_eq word (codes "quit") then bare_command commands.Quit arguments
     else Err faults.UnknownCommand
 
 -- the command that a line spells, or the first of its faults: too long, unknown, a wrong argument
@@ -177,8 +220,10 @@ abbrev pub is_quit_command : Result Command LineFault → Bool
 is_quit_command (Err f) = false
 is_quit_command (Ok (commands.Strength id)) = false
 is_quit_command (Ok (commands.Slots id)) = false
+is_quit_command (Ok commands.Roots) = false
 is_quit_command (Ok (commands.Edit edit)) = false
 is_quit_command (Ok (commands.Undo number)) = false
+is_quit_command (Ok commands.Events) = false
 is_quit_command (Ok commands.Quit) = true
 
 abbrev pub is_quit : List ℕ → Bool

@@ -1,6 +1,6 @@
 -- The log of events: which logs are lawful, which events are live.
 -- Source: this project. The log is one list that all analysts share; an undo names an earlier event of the same analyst.
-use Rattle.std.specs.Prelude.{◌≡◌, ℕ, ◌≤◌, ◌<◌, ◌==◌, nat_le, Bool, false, ◌&&◌, not, if◌then◌else◌, List, length, map, Option, Some, None, is_some, slice_get}
+use Rattle.std.specs.Prelude.{◌≡◌, ℕ, ◌≤◌, ◌<◌, ◌==◌, nat_le, Bool, false, ◌&&◌, not, if◌then◌else◌, List, ◌++◌, length, map, filter, Option, Some, None, is_some, slice_get}
 use Rattle.std.specs.Option.{option_or}
 use Rattle.std.specs.List.{list_any, filter_map, last_or, enumerate_from}
 use Rattle.hd_terms.specs.declared.Edit.{Edit}
@@ -38,6 +38,14 @@ undoes_what k (whats.Undo j) = j == k
 -- no event of the log takes back event k
 abbrev pub stays : List Event → ℕ → Bool
 stays log k = not (list_any (λ (e : Event). undoes_what k e.what) log)
+
+-- the events of one analyst, in order
+abbrev pub own : ℕ → List Event → List Event
+own who log = filter (λ (e : Event). e.who == who) log
+
+-- a log begins with another: the other, and then some more
+abbrev pub begins_with : List Event → List Event → Type 0
+begins_with log front = (more : List Event) × (log ≡ front ++ more)
 
 -- the edit of a `Do`
 abbrev pub edit_of : What → Option Edit

@@ -6,7 +6,7 @@ use Rattle.std.specs.List.{flat_map, filter_map}
 use Rattle.byteorder.specs.Endian.{big_number}
 use Rattle.hd_terms.specs.declared.IdSize.{IdSize}
 use Rattle.hd_terms.specs.declared.Slot.TheVariants as slots
-use Rattle.hd_terms.specs.declared.Mode.TheVariants as modes
+use Rattle.hd_terms.specs.declared.Mode.{Mode}
 use Rattle.hd_terms.specs.declared.Span.{Span}
 use Rattle.hd_terms.specs.declared.Text.{Text}
 use Rattle.hd_terms.specs.declared.Load.{Load}
@@ -89,10 +89,10 @@ names_of t = first_of_each (λ (n : ℕ × List ℕ). n.0) (filter_map (loaded_n
 abbrev pub classes_of : List ℕ → IdSize → List Record → List (List SubRecord) → ClassTable
 classes_of bytes size records segments = class_table bytes (texts size records) (loads size records) (dump_subs_at size (segment_spans header_len records) segments)
 
--- the dump of a file, by its records and the sub-records of its segments
-abbrev pub dump_of : List ℕ → IdSize → List Record → List (List SubRecord) → Dump
-dump_of bytes size records segments = record {
-  mode = modes.Direct;
+-- the dump of a file, by how phantom references are followed, its records and the sub-records of its segments
+abbrev pub dump_of : Mode → List ℕ → IdSize → List Record → List (List SubRecord) → Dump
+dump_of mode bytes size records segments = record {
+  mode = mode;
   objects = objects_of (classes_of bytes size records segments) size (flat_map (λ (ss : List SubRecord). ss) segments);
   roots = roots_of size (flat_map (λ (ss : List SubRecord). ss) segments);
   repeated = repeated_of (classes_of bytes size records segments) size records (flat_map (λ (ss : List SubRecord). ss) segments);
@@ -109,10 +109,10 @@ pub record ReadsAs (bytes : List ℕ) (size : IdSize) (records : List Record) (s
   pub classes : class_faults (classes_of bytes size records segments) (dump_subs_at size (segment_spans header_len records) segments) ≡ []
   pub objects : object_faults (resolved_class (classes_of bytes size records segments)) size (dump_subs_at size (segment_spans header_len records) segments) ≡ []
 
--- the dump of a file that reads without fault
-pub record IsDumpOf (bytes : List ℕ) (dump : Dump) : Type 0 where
+-- the dump of a file that reads without fault, opened in a mode
+pub record IsDumpOf (mode : Mode) (bytes : List ℕ) (dump : Dump) : Type 0 where
   pub size : IdSize
   pub records : List Record
   pub segments : List (List SubRecord)
   pub reads : ReadsAs bytes size records segments
-  pub is : dump ≡ dump_of bytes size records segments
+  pub is : dump ≡ dump_of mode bytes size records segments

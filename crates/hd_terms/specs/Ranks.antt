@@ -1,11 +1,13 @@
 -- Ranks of strengths, and what is passed on along a path.
 -- Source: java.lang.ref package specification (Java SE 17), "Reachability", whose list goes from strong to unreachable.
 -- That Final stands between Weak and Phantom, and what is passed on, are this project's choice.
-use Rattle.std.specs.Prelude.{ℕ, ◌≤◌, nat_le, if◌then◌else◌}
+use Rattle.std.specs.Prelude.{ℕ, ◌≤◌, ◌==◌, Bool, nat_le, if◌then◌else◌}
 use Rattle.hd_terms.specs.declared.Strength.{Strength}
 use Rattle.hd_terms.specs.declared.Strength.TheVariants as strengths
 use Rattle.hd_terms.specs.declared.EdgeKind.{EdgeKind}
 use Rattle.hd_terms.specs.declared.EdgeKind.TheVariants as kinds
+use Rattle.hd_terms.specs.declared.RefKind.{RefKind}
+use Rattle.hd_terms.specs.declared.RefKind.TheVariants as references
 use Rattle.hd_terms.specs.declared.Mode.{Mode}
 use Rattle.hd_terms.specs.declared.Mode.TheVariants as modes
 
@@ -25,6 +27,17 @@ given_by kinds.Soft = strengths.Soft
 given_by kinds.Weak = strengths.Weak
 given_by kinds.Final = strengths.Final
 given_by kinds.Phantom = strengths.Phantom
+
+-- the kind of the edges that go through the referents of a kind of reference objects
+abbrev pub kind_of_references : RefKind → EdgeKind
+kind_of_references references.Soft = kinds.Soft
+kind_of_references references.Weak = kinds.Weak
+kind_of_references references.Final = kinds.Final
+kind_of_references references.Phantom = kinds.Phantom
+
+-- one kind: they give one rank
+abbrev pub same_kind : EdgeKind → EdgeKind → Bool
+same_kind a b = rank (given_by a) == rank (given_by b)
 
 -- the one of lesser rank
 abbrev pub weaker_of : Strength → Strength → Strength

@@ -1,5 +1,6 @@
 -- Records of a file: the header of 31 bytes, and then one record after another.
--- Source: HPROF binary format, JAVA PROFILE 1.0.2. The header is the zero-terminated text, u4 identifier size, u4 and u4
+-- Source: HPROF binary format, JAVA PROFILE 1.0.2, and 1.0.1, as JDK 8 writes it. That all that follows the header of 1.0.1
+-- is read as for 1.0.2 is this project's choice. The header is the zero-terminated text, u4 identifier size, u4 and u4
 -- of time; a record is u1 tag, u4 time, u4 length of the body, the body. Numbers have their highest byte first.
 use Rattle.std.specs.Prelude.{◌≡◌, ℕ, ◌+◌, ◌-◌, ◌*◌, ◌≤◌, Bool, true, ◌||◌, ◌==◌, if◌then◌else◌, List, [], ◌∷◌, ◌++◌, length, take, drop, codes, Option, Some, None}
 use Rattle.std.specs.List.{flat_map, filter_map, AllByRecursion}
@@ -24,13 +25,16 @@ largest_file = 2147483647
 abbrev pub header_len : ℕ
 header_len = 31
 
--- the text that the file begins with, and its zero byte
-abbrev pub magic : List ℕ
-magic = codes "JAVA PROFILE 1.0.2" ++ 0 ∷ []
+-- the texts that a file may begin with, each with its zero byte
+abbrev pub magic_1_0_1 : List ℕ
+magic_1_0_1 = codes "JAVA PROFILE 1.0.1" ++ 0 ∷ []
 
--- the file begins with this text
+abbrev pub magic_1_0_2 : List ℕ
+magic_1_0_2 = codes "JAVA PROFILE 1.0.2" ++ 0 ∷ []
+
+-- the file begins with one of these texts
 abbrev pub has_magic : List ℕ → Bool
-has_magic bytes = bytes_eq (take 19 bytes) magic
+has_magic bytes = bytes_eq (take 19 bytes) magic_1_0_2 || bytes_eq (take 19 bytes) magic_1_0_1
 
 -- the number that the header gives as identifier size
 abbrev pub id_size_of : List ℕ → ℕ

@@ -1,8 +1,8 @@
 -- The reply to a line: bytes that are a function of the dump, of logs and of the line.
 -- Source: this project's protocol (docs/PROTOCOL.md).
-use Rattle.std.specs.Prelude.{◌≡◌, ℕ, false, true, Bool, List, [], ◌∷◌, ◌++◌, length, map, codes, decimal, Option, Some, None, Result, Ok, Err}
+use Rattle.std.specs.Prelude.{◌≡◌, ℕ, false, true, Bool, if◌then◌else◌, List, [], ◌∷◌, ◌++◌, length, map, codes, decimal, Option, Some, None, Result, Ok, Err}
 use Rattle.std.specs.Fmt.{digits}
-use Rattle.std.specs.List.{flat_map}
+use Rattle.std.specs.List.{flat_map, enumerate_from}
 use Rattle.hd_terms.specs.declared.Strength.{Strength}
 use Rattle.hd_terms.specs.declared.Strength.TheVariants as strengths
 use Rattle.hd_terms.specs.declared.Slot.{Slot}
@@ -12,6 +12,15 @@ use Rattle.hd_terms.specs.declared.EdgeKind.TheVariants as kinds
 use Rattle.hd_terms.specs.declared.SlotMode.{SlotMode}
 use Rattle.hd_terms.specs.declared.SlotMode.TheVariants as modes
 use Rattle.hd_terms.specs.declared.SlotRow.{SlotRow}
+use Rattle.hd_terms.specs.declared.RootKind.{RootKind}
+use Rattle.hd_terms.specs.declared.RootKind.TheVariants as roots
+use Rattle.hd_terms.specs.declared.RootMode.{RootMode}
+use Rattle.hd_terms.specs.declared.RootMode.TheVariants as root_modes
+use Rattle.hd_terms.specs.declared.RootRow.{RootRow}
+use Rattle.hd_terms.specs.declared.Edit.{Edit}
+use Rattle.hd_terms.specs.declared.Edit.TheVariants as edits
+use Rattle.hd_terms.specs.declared.What.{What}
+use Rattle.hd_terms.specs.declared.What.TheVariants as whats
 use Rattle.hd_terms.specs.declared.errors.LogFault.{LogFault}
 use Rattle.hd_terms.specs.declared.errors.LogFault.TheVariants as faults
 use Rattle.hd_terms.specs.declared.errors.Refusal.{Refusal}
@@ -21,7 +30,10 @@ use Rattle.hd_terms.specs.Strengths.{HasStrength}
 use Rattle.hd_terms.specs.Dump.{Dump, object_at}
 use Rattle.hd_terms.specs.Edges.{index_of}
 use Rattle.hd_terms.specs.EditedDump.{standing}
+use Rattle.hd_terms.specs.Ranks.{kind_of_references}
+use Rattle.hd_terms.specs.Log.{is_live}
 use Rattle.hd_terms.specs.SlotRows.{slot_rows}
+use Rattle.hd_terms.specs.RootRows.{root_rows}
 use Rattle.hd_terms.specs.Fell.{FellCount}
 use Rattle.hd_terms.specs.declared.commands.Command.{Command}
 use Rattle.hd_terms.specs.declared.commands.Command.TheVariants as commands
@@ -105,6 +117,57 @@ mode_name modes.Cut = codes "cut"
 mode_name modes.Null = codes "null"
 mode_name modes.Absent = codes "absent"
 
+-- a kind of root as it is printed; that of a root that an edit added
+abbrev pub root_kind_name : RootKind → List ℕ
+root_kind_name roots.Unknown = codes "unknown"
+root_kind_name roots.JniGlobal = codes "jni-global"
+root_kind_name roots.JniLocal = codes "jni-local"
+root_kind_name roots.JavaFrame = codes "java-frame"
+root_kind_name roots.NativeStack = codes "native-stack"
+root_kind_name roots.StickyClass = codes "sticky-class"
+root_kind_name roots.ThreadBlock = codes "thread-block"
+root_kind_name roots.MonitorUsed = codes "monitor-used"
+root_kind_name roots.Thread = codes "thread"
+
+abbrev pub root_name : Option RootKind → List ℕ
+root_name None = codes "added"
+root_name (Some kind) = root_kind_name kind
+
+-- how a root stands, as it is printed
+abbrev pub root_mode_name : RootMode → List ℕ
+root_mode_name root_modes.Stands = codes "stands"
+root_mode_name root_modes.Dropped = codes "dropped"
+root_mode_name root_modes.Absent = codes "absent"
+
+-- `R KIND ID MODE`
+abbrev pub root_line : RootRow → List ℕ
+root_line row = decimal row.number ++ 32 ∷ root_name row.kind ++ 32 ∷ id_text row.id ++ 32 ∷ root_mode_name row.mode
+
+-- an edit as it is printed: as a line spells it
+abbrev pub edit_text : Edit → List ℕ
+edit_text (edits.Cut id slot) = codes "cut " ++ id_text id ++ 32 ∷ slot_name slot
+edit_text (edits.Clear id) = codes "clear " ++ id_text id
+edit_text (edits.Drop r) = codes "drop " ++ decimal r
+edit_text (edits.Add id) = codes "add " ++ id_text id
+edit_text (edits.ClearAll kind) = codes "clearall " ++ kind_name (kind_of_references kind)
+
+-- whether an edit is live, as it is printed
+abbrev pub live_name : Bool → List ℕ
+live_name live = if live then codes "live" else codes "undone"
+
+-- what an event does, as it is printed: an edit and whether it is live, or an undo
+abbrev pub what_text : Bool → What → List ℕ
+what_text live (whats.Do edit) = edit_text edit ++ 32 ∷ live_name live
+what_text live (whats.Undo k) = codes "undo " ++ decimal k
+
+-- `E WHO EDIT live`, `E WHO EDIT undone` or `E WHO undo K`
+abbrev pub log_line : List Event → ℕ × Event → List ℕ
+log_line log (k, event) = decimal k ++ 32 ∷ decimal event.who ++ 32 ∷ what_text (is_live log (k, event)) event.what
+
+-- a line for each event of a log
+abbrev pub log_lines : List Event → List (List ℕ)
+log_lines log = map (log_line log) (enumerate_from 0 log)
+
 -- `SLOT KIND ID MODE`
 abbrev pub slot_line : SlotRow → List ℕ
 slot_line row = slot_name row.slot ++ 32 ∷ kind_name row.kind ++ 32 ∷ id_text row.id ++ 32 ∷ mode_name row.mode
@@ -129,8 +192,10 @@ abbrev pub RepliesTo : Dump → (log : List Event) → (marks : List (List Event
 RepliesTo dump log marks (Err f) reply = reply ≡ refused (line_fault_name f)
 RepliesTo dump log marks (Ok (commands.Strength id)) reply = RepliesStrength dump log (index_of dump.objects id) reply
 RepliesTo dump log marks (Ok (commands.Slots id)) reply = RepliesSlots dump log (index_of dump.objects id) reply
+RepliesTo dump log marks (Ok commands.Roots) reply = reply ≡ answered (map root_line (root_rows dump log))
 RepliesTo dump log marks (Ok (commands.Edit edit)) reply = ⊥
 RepliesTo dump log marks (Ok (commands.Undo number)) reply = ⊥
+RepliesTo dump log marks (Ok commands.Events) reply = reply ≡ answered (log_lines log)
 RepliesTo dump log marks (Ok commands.Quit) reply = reply ≡ answered []
 
 -- the reply to a line that asks nothing of the log
@@ -155,6 +220,8 @@ abbrev pub takes_memory : Result Command LineFault → Bool
 takes_memory (Err f) = false
 takes_memory (Ok (commands.Strength id)) = false
 takes_memory (Ok (commands.Slots id)) = true
+takes_memory (Ok commands.Roots) = true
 takes_memory (Ok (commands.Edit edit)) = true
 takes_memory (Ok (commands.Undo number)) = true
+takes_memory (Ok commands.Events) = true
 takes_memory (Ok commands.Quit) = false

@@ -1,7 +1,7 @@
 -- Sessions: what one analyst's lines are answered, one after another.
 -- Source: this project. A session beside other analysts is the general form; alone, each turn begins with what the last
 -- one left.
-use Rattle.std.specs.Prelude.{◌≡◌, ℕ, ◌==◌, ◌⊎◌, true, false, List, [], ◌∷◌, ◌++◌, length, map, filter, Some, None, Ok, Err}
+use Rattle.std.specs.Prelude.{◌≡◌, ℕ, ◌⊎◌, true, false, List, [], ◌∷◌, ◌++◌, length, map, Some, None, Ok, Err}
 use Rattle.std.specs.List.{flat_map, AllByRecursion}
 use Rattle.hd_terms.specs.declared.Event.{Event}
 use Rattle.hd_terms.specs.Dump.{Dump}
@@ -13,7 +13,7 @@ use Rattle.hd_terms.specs.Appending.{append_refusal}
 use Rattle.hd_terms.specs.Lines.{command_of, whole_lines, lines_of, run_lines, is_quit}
 use Rattle.hd_terms.specs.Replies.{IsReply, RepliesDone, refused, refusal_name, out_of_memory_reply, takes_memory}
 use Rattle.hd_terms.specs.Asking.{asked}
-use Rattle.hd_terms.specs.Log.{IsLawful}
+use Rattle.hd_terms.specs.Log.{IsLawful, own}
 
 -- one line: what the session remembers as the line is run, and of whose log its queries speak; the log on which an edit is
 -- decided; what the session remembers after it; and the reply
@@ -23,10 +23,6 @@ pub record Turn : Type 0 where
   pub found : List Event
   pub after : Memory
   pub reply : List ℕ
-
--- the events of one analyst, in order
-abbrev pub own : ℕ → List Event → List Event
-own who log = filter (λ (e : Event). e.who == who) log
 
 -- a later log: it is lawful, begins with the earlier one, and has no more events of that analyst
 pub record IsLater (who : ℕ) (before after : List Event) : Type 0 where

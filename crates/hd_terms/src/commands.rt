@@ -8,10 +8,14 @@ pub enum Command {
     Strength(u64),
     /// The slots of the object of an ID.
     Slots(u64),
+    /// The roots, those of the dump and those that were added.
+    Roots,
     /// An edit is added to the log.
     Edit(Edit),
     /// The event of a number is taken back; without a number the last of the analyst's own edits that is live.
     Undo(Option<u32>),
+    /// The events of the log.
+    Events,
     /// The end of the session.
     Quit,
 }

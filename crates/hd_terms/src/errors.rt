@@ -78,7 +78,7 @@ pub enum Refusal {
 /// Why a dump can't be read.
 #[derive(Clone, Copy, Debug, PartialEq, Eq)]
 pub enum Cause {
-    /// The first 19 bytes aren't `JAVA PROFILE 1.0.2` and a zero byte.
+    /// The first 19 bytes aren't `JAVA PROFILE 1.0.2` or `JAVA PROFILE 1.0.1` and a zero byte.
     BadMagic,
     /// The identifier size is neither 4 nor 8.
     BadIdSize,

@@ -14,12 +14,18 @@ ghost use Rattle.hd_terms.specs.Replies.{IsReply};
 ghost use Rattle.hd_terms.specs.Sessions.{IsServed, IsServedUntilRead, IsServedUntilWrite, IsSession};
 ghost use Rattle.hd_terms.specs.Memory.{beginning};
 ghost use Rattle.hd_terms.specs.declared.SlotMode.TheVariants as modes;
+ghost use Rattle.hd_terms.specs.declared.EdgeKind.TheVariants as kinds;
+ghost use Rattle.hd_terms.specs.declared.RefKind.TheVariants as references;
+ghost use Rattle.hd_terms.specs.declared.RootKind.TheVariants as roots;
+ghost use Rattle.hd_terms.specs.declared.RootMode.TheVariants as root_modes;
+ghost use Rattle.hd_terms.specs.declared.Mode.TheVariants as phantom_modes;
 ghost use Rattle.hd_terms.specs.declared.What.TheVariants as whats;
 ghost use Rattle.hd_terms.specs.declared.errors.LogFault.TheVariants as faults;
 ghost use Rattle.hd_terms.specs.declared.errors.Refusal.TheVariants as refusals;
 ghost use Rattle.hd_terms.specs.Dump.{object_at, name_in};
 ghost use Rattle.hd_terms.specs.Counts.{counts_of};
 ghost use Rattle.hd_terms.specs.SlotRows.{slot_rows};
+ghost use Rattle.hd_terms.specs.RootRows.{root_rows};
 ghost use Rattle.hd_terms.specs.Fell.{FellCount};
 ghost use Rattle.hd_terms.specs.Totals.{IsGroupTotal, IsTotal};
 ghost use Rattle.hd_terms.specs.declared.Group.TheVariants as groups;
@@ -34,8 +40,10 @@ ghost use Rattle.hd_terms.specs.Examples as examples;
 
 /// What files are read as, and their faults.
 pub fn file_examples()
-    ensures empty_dump { IsDumpOf examples.empty_dump_file examples.empty_dump }
-    ensures two_arrays { IsDumpOf examples.two_arrays_file examples.two_arrays }
+    ensures empty_dump { IsDumpOf phantom_modes.Direct examples.empty_dump_file examples.empty_dump }
+    ensures jdk_8 { IsDumpOf phantom_modes.Direct examples.jdk_8_file examples.empty_dump }
+    ensures closure { IsDumpOf phantom_modes.Closure examples.empty_dump_file examples.empty_closure }
+    ensures two_arrays { IsDumpOf phantom_modes.Direct examples.two_arrays_file examples.two_arrays }
     ensures null_object { IsReadFault examples.null_object_file (fault causes.NullObject 40) }
     ensures unknown_sub_record { IsReadFault examples.unknown_sub_record_file (fault causes.UnknownSub 40) }
     ensures cut_record { IsReadFault examples.cut_record_file (fault causes.Truncated 31) }
@@ -43,12 +51,12 @@ pub fn file_examples()
     ensures bad_identifier_size { IsReadFault (examples.head_of 3) (fault causes.BadIdSize 19) }
     ensures other_text { IsReadFault (slice_set (examples.head_of 4) 17 0x33) (fault causes.BadMagic 0) }
     ensures cut_body { IsReadFault examples.cut_body_file (fault causes.Truncated 31) }
-    ensures skipped_record { IsDumpOf examples.skipped_record_file examples.two_arrays }
-    ensures repeated_id { IsDumpOf examples.repeated_id_file examples.repeated_id }
+    ensures skipped_record { IsDumpOf phantom_modes.Direct examples.skipped_record_file examples.two_arrays }
+    ensures repeated_id { IsDumpOf phantom_modes.Direct examples.repeated_id_file examples.repeated_id }
     ensures prefixes_of_the_header { (n : ℕ) → n ≤ 30 → IsReadFault (take n examples.two_arrays_file) (fault causes.Truncated 0) }
     ensures prefixes_of_the_record { (n : ℕ) → 32 ≤ n → n ≤ 90 → IsReadFault (take n examples.two_arrays_file) (fault causes.Truncated 31) }
-    ensures repeated_strings_and_loads { IsDumpOf examples.repeated_strings_and_loads_file examples.repeated_strings_and_loads }
-    ensures first_names { IsDumpOf examples.first_names_file examples.first_names }
+    ensures repeated_strings_and_loads { IsDumpOf phantom_modes.Direct examples.repeated_strings_and_loads_file examples.repeated_strings_and_loads }
+    ensures first_names { IsDumpOf phantom_modes.Direct examples.first_names_file examples.first_names }
     ensures first_name { name_in examples.first_names 0x11 ≡ Some (0x41 ∷ []) }
     ensures no_name { name_in examples.first_names 0x12 ≡ None }
     ensures short_record { IsReadFault examples.short_record_file (fault causes.ShortRecord 31) }
@@ -56,13 +64,13 @@ pub fn file_examples()
     ensures counts { counts_of examples.two_arrays ≡ record { objects = 2; roots = 1; edges = 1; unresolved = 1; repeated_objects = 0; repeated_strings = 0; repeated_loads = 0; opaque = 0 } }
     ensures two_mistakes { IsReadFault examples.two_mistakes_file (fault causes.Truncated 41) }
     ensures unknown_type { IsReadFault examples.unknown_type_file (fault causes.UnknownType 40) }
-    ensures root_kinds { IsDumpOf examples.root_kinds_file examples.root_kinds }
-    ensures primitive_array { IsDumpOf examples.primitive_array_file examples.primitive_array }
+    ensures root_kinds { IsDumpOf phantom_modes.Direct examples.root_kinds_file examples.root_kinds }
+    ensures primitive_array { IsDumpOf phantom_modes.Direct examples.primitive_array_file examples.primitive_array }
 {}
 
 /// What class dumps are read as, their faults, and what a class leads to.
 pub fn class_examples()
-    ensures class_object_and_primitive_array { IsDumpOf examples.class_object_and_primitive_array_file examples.class_object_and_primitive_array }
+    ensures class_object_and_primitive_array { IsDumpOf phantom_modes.Direct examples.class_object_and_primitive_array_file examples.class_object_and_primitive_array }
     ensures counts { counts_of examples.class_object_and_primitive_array ≡ record { objects = 5; roots = 1; edges = 3; unresolved = 0; repeated_objects = 0; repeated_strings = 0; repeated_loads = 0; opaque = 0 } }
     ensures class_edges { edges examples.class_object_and_primitive_array ≡ examples.strong_edge 0 (slots.Static 1) 2
         ∷ examples.strong_edge 0 (slots.Const 0) 1 ∷ examples.strong_edge 0 slots.Loader 3 ∷ [] }
@@ -77,20 +85,20 @@ pub fn class_examples()
 pub fn instance_examples()
     ensures cycle { IsReadFault examples.cycle_file (fault causes.ClassCycle 40) }
     ensures cycle_above { IsReadFault examples.cycle_above_file (fault causes.ClassCycle 40) }
-    ensures absent_super { IsDumpOf examples.absent_super_file examples.absent_super }
+    ensures absent_super { IsDumpOf phantom_modes.Direct examples.absent_super_file examples.absent_super }
     ensures null_class_before_a_cycle { IsReadFault examples.null_class_before_a_cycle_file (fault causes.ClassCycle 83) }
     ensures null_class { IsReadFault examples.null_class_file (fault causes.NullObject 40) }
     ensures size_mismatch { IsReadFault examples.size_mismatch_file (fault causes.InstanceSize 40) }
     ensures size_mismatch_before_unknown { IsReadFault examples.size_mismatch_before_unknown_file (fault causes.UnknownSub 101) }
-    ensures repeated_size_mismatch { IsDumpOf examples.repeated_size_mismatch_file examples.repeated_size_mismatch }
-    ensures wide_instance { IsDumpOf examples.wide_instance_file examples.wide_instance }
+    ensures repeated_size_mismatch { IsDumpOf phantom_modes.Direct examples.repeated_size_mismatch_file examples.repeated_size_mismatch }
+    ensures wide_instance { IsDumpOf phantom_modes.Direct examples.wide_instance_file examples.wide_instance }
     ensures wide_size_mismatch { IsReadFault examples.wide_size_mismatch_file (fault causes.InstanceSize 40) }
-    ensures opaque_and_repeated { IsDumpOf examples.opaque_and_repeated_file examples.opaque_and_repeated }
+    ensures opaque_and_repeated { IsDumpOf phantom_modes.Direct examples.opaque_and_repeated_file examples.opaque_and_repeated }
     ensures counts { counts_of examples.opaque_and_repeated ≡ record { objects = 4; roots = 1; edges = 3; unresolved = 2; repeated_objects = 1; repeated_strings = 0; repeated_loads = 0; opaque = 1 } }
-    ensures weak_reference { IsDumpOf examples.weak_reference_file examples.weak_reference }
-    ensures dotted_names { IsDumpOf examples.dotted_names_file examples.dotted_names }
-    ensures other_name_first { IsDumpOf examples.other_name_first_file examples.other_name_first }
-    ensures two_referents { IsDumpOf examples.two_referents_file examples.two_referents }
+    ensures weak_reference { IsDumpOf phantom_modes.Direct examples.weak_reference_file examples.weak_reference }
+    ensures dotted_names { IsDumpOf phantom_modes.Direct examples.dotted_names_file examples.dotted_names }
+    ensures other_name_first { IsDumpOf phantom_modes.Direct examples.other_name_first_file examples.other_name_first }
+    ensures two_referents { IsDumpOf phantom_modes.Direct examples.two_referents_file examples.two_referents }
 {}
 
 /// Edges, and the strengths of objects by their numbers, under logs.
@@ -132,6 +140,13 @@ pub fn log_examples()
     ensures added_root { (standing examples.added_and_dropped_roots (take 1 examples.add_and_drop)).roots ≡ examples.root_on 0 0 ∷ examples.root_on 1 1 ∷ examples.root_on 2 2 ∷ [] }
     ensures dropped_root { (standing examples.added_and_dropped_roots (take 2 examples.add_and_drop)).roots ≡ examples.root_on 0 0 ∷ examples.root_on 1 1 ∷ [] }
     ensures root_entries { root_entries examples.added_and_dropped_roots (take 3 examples.add_and_drop) ≡ examples.dump_root_on 0 1 ∷ examples.dump_root_on 1 2 ∷ examples.added_root_on 2 7 ∷ [] }
+    ensures shown_roots { root_rows examples.added_and_dropped_roots (take 1 examples.add_and_drop) ≡ examples.shown_root 0 (Some roots.Unknown) 1 root_modes.Stands
+        ∷ examples.shown_root 1 (Some roots.Unknown) 2 root_modes.Stands ∷ examples.shown_root 2 None 7 root_modes.Stands ∷ [] }
+    ensures shown_dropped_root { root_rows examples.added_and_dropped_roots (take 2 examples.add_and_drop) ≡ examples.shown_root 0 (Some roots.Unknown) 1 root_modes.Stands
+        ∷ examples.shown_root 1 (Some roots.Unknown) 2 root_modes.Stands ∷ examples.shown_root 2 None 7 root_modes.Dropped ∷ [] }
+    ensures undone_root_not_shown { root_rows examples.added_and_dropped_roots (take 3 examples.add_and_drop) ≡ examples.shown_root 0 (Some roots.Unknown) 1 root_modes.Stands
+        ∷ examples.shown_root 1 (Some roots.Unknown) 2 root_modes.Stands ∷ [] }
+    ensures shown_absent_root { take 1 (root_rows examples.root_kinds (examples.does 0 (edits.Drop 0) ∷ [])) ≡ examples.shown_root 0 (Some roots.Unknown) 1 root_modes.Absent ∷ [] }
     ensures undone_root { root_stands 2 (take 3 examples.add_and_drop) 2 ≡ false }
     ensures no_root { root_stands 2 examples.add_and_drop 3 ≡ false }
     ensures root_on_no_object { root_stands (length examples.root_kinds.roots) [] 0 ≡ true }
@@ -177,6 +192,14 @@ pub fn edit_examples()
     ensures cut_edge { edge_stands examples.two_arrays (take 1 examples.cut_and_undo) 0 0 ≡ false }
     ensures closure_fell { FellCount examples.phantom_closure [] (examples.does 0 (edits.Clear 0x21) ∷ []) 2 }
     ensures direct_fell { FellCount examples.phantom_referent [] (examples.does 0 (edits.Clear 0x21) ∷ []) 1 }
+    ensures clear_all { FellCount examples.soft_then_weak [] (take 1 examples.clears_of_soft) 5 }
+    ensures clear_behind_clear_all { FellCount examples.soft_then_weak (take 1 examples.clears_of_soft) (take 2 examples.clears_of_soft) 0 }
+    ensures clear_is_left { FellCount examples.soft_then_weak (take 3 examples.clears_of_soft) (take 2 examples.clears_of_soft) 2 }
+    ensures no_clear_is_left { FellCount examples.soft_then_weak examples.clears_of_soft (take 3 examples.clears_of_soft) 3 }
+    ensures clear_all_phantom { FellCount examples.phantom_referent [] (examples.does 0 (edits.ClearAll references.Phantom) ∷ []) 1 }
+    ensures clear_all_of_none { FellCount examples.two_arrays [] (examples.does 0 (edits.ClearAll references.Weak) ∷ []) 0 }
+    ensures clear_all_is_taken { asked examples.two_arrays [] 0 (commands.Edit (edits.ClearAll references.Weak)) ≡ Some (Ok (whats.Do (edits.ClearAll references.Weak))) }
+    ensures slots_after_clear_all { slot_rows examples.soft_then_weak (take 1 examples.clears_of_soft) (object_at examples.soft_then_weak 7) ≡ (record { slot = slots.Field 0; kind = kinds.Soft; id = 0x22; mode = modes.Cut }) ∷ examples.shown slots.OfClass 0x12 modes.Stands ∷ [] }
     ensures not_reference { asked examples.weak_and_final_referents [] 0 (commands.Edit (edits.Clear 1)) ≡ Some (Err refusals.NotReference) }
     ensures clear_of_no_object { asked examples.two_arrays [] 0 (commands.Edit (edits.Clear 9)) ≡ Some (Err refusals.NoSuchObject) }
     ensures add { asked examples.phantom_referent [] 0 (commands.Edit (edits.Add 0x22)) ≡ Some (Ok (whats.Do (edits.Add 0x22))) }
@@ -233,6 +256,17 @@ pub fn line_examples()
     ensures undo { command_of (codes "undo") ≡ Ok (commands.Undo None) }
     ensures undo_of_the_greatest { command_of (codes "undo 4294967295") ≡ Ok (commands.Undo (Some 4294967295)) }
     ensures undo_past_the_greatest { command_of (codes "undo 4294967296") ≡ Err line_faults.BadArgument }
+    ensures clear { command_of (codes "clear 0x21") ≡ Ok (commands.Edit (edits.Clear 0x21)) }
+    ensures add { command_of (codes "add 0x1") ≡ Ok (commands.Edit (edits.Add 1)) }
+    ensures drop { command_of (codes "drop 0") ≡ Ok (commands.Edit (edits.Drop 0)) }
+    ensures drop_of_the_greatest { command_of (codes "drop 18446744073709551615") ≡ Ok (commands.Edit (edits.Drop 18446744073709551615)) }
+    ensures drop_past_the_greatest { command_of (codes "drop 18446744073709551616") ≡ Err line_faults.BadArgument }
+    ensures drop_of_an_id { command_of (codes "drop 0x1") ≡ Err line_faults.BadArgument }
+    ensures clear_all { command_of (codes "clearall soft") ≡ Ok (commands.Edit (edits.ClearAll references.Soft)) }
+    ensures clear_all_strong { command_of (codes "clearall strong") ≡ Err line_faults.BadArgument }
+    ensures roots { command_of (codes "roots") ≡ Ok commands.Roots }
+    ensures events { command_of (codes "events") ≡ Ok commands.Events }
+    ensures events_of_one { command_of (codes "events 0") ≡ Err line_faults.BadArgument }
     ensures quit { command_of (codes "quit") ≡ Ok commands.Quit }
     ensures quit_now { command_of (codes "quit now") ≡ Err line_faults.BadArgument }
     ensures no_argument { command_of (codes "strength") ≡ Err line_faults.BadArgument }
@@ -254,6 +288,9 @@ pub fn reply_examples()
     ensures absent { IsReply examples.two_arrays [] ([] ∷ []) (codes "strength 0x9") (codes "no NoSuchObject" ++ 10 ∷ []) }
     ensures no_prefix { IsReply examples.two_arrays [] ([] ∷ []) (codes "strength 2") (codes "no BadArgument" ++ 10 ∷ []) }
     ensures nothing_there { IsReply examples.empty_dump [] ([] ∷ []) (codes "strength 0x1") (codes "no NoSuchObject" ++ 10 ∷ []) }
+    ensures events { IsReply examples.two_arrays examples.cut_and_undo ([] ∷ []) (codes "events")
+        (codes "ok 2" ++ 10 ∷ codes "0 0 cut 0x1 e0 undone" ++ 10 ∷ codes "1 0 undo 0" ++ 10 ∷ []) }
+    ensures roots { IsReply examples.two_arrays [] ([] ∷ []) (codes "roots") (codes "ok 1" ++ 10 ∷ codes "0 unknown 0x1 stands" ++ 10 ∷ []) }
     ensures served { IsServed examples.two_arrays (codes "strength 0x2" ++ 10 ∷ codes "quit" ++ 10 ∷ codes "strength 0x1" ++ 10 ∷ [])
         (codes "ok 1" ++ 10 ∷ codes "STRONG" ++ 10 ∷ codes "ok 0" ++ 10 ∷ []) }
     ensures read_failed { IsServedUntilRead examples.two_arrays (codes "strength 0x2") (codes "2") [] }

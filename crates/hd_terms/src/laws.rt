@@ -2,6 +2,7 @@
 ghost use Rattle.std.specs.Prelude.{ℕ, List, [], ◌∷◌, ◌++◌, None, Some, true, ◌≡◌, ◌≢◌};
 ghost use Rattle.hd_terms.specs.declared.IdSize.{IdSize};
 ghost use Rattle.hd_terms.specs.declared.Event.{Event};
+ghost use Rattle.hd_terms.specs.declared.Mode.{Mode};
 ghost use Rattle.hd_terms.specs.declared.errors.LogFault.{LogFault};
 ghost use Rattle.hd_terms.specs.declared.errors.ReadFault.{ReadFault};
 ghost use Rattle.hd_terms.specs.declared.Strength.{Strength};
@@ -32,8 +33,8 @@ pub fn settled_supports_give_strengths()
 pub fn one_reading()
     ensures records { (size : IdSize) (bytes : List ℕ) (rs ss : List Record) → AreRecords size bytes rs → AreRecords size bytes ss → rs ≡ ss }
     ensures sub_records { (size : IdSize) (body : List ℕ) (ss ts : List SubRecord) → AreSubRecords size body ss → AreSubRecords size body ts → ss ≡ ts }
-    ensures dumps { (bytes : List ℕ) (a b : Dump) → IsDumpOf bytes a → IsDumpOf bytes b → a ≡ b }
-    ensures no_fault { (bytes : List ℕ) (dump : Dump) (f : ReadFault) → IsDumpOf bytes dump → IsReadFault bytes f → ⊥ }
+    ensures dumps { (mode : Mode) (bytes : List ℕ) (a b : Dump) → IsDumpOf mode bytes a → IsDumpOf mode bytes b → a ≡ b }
+    ensures no_fault { (mode : Mode) (bytes : List ℕ) (dump : Dump) (f : ReadFault) → IsDumpOf mode bytes dump → IsReadFault bytes f → ⊥ }
     ensures faults { (bytes : List ℕ) (f g : ReadFault) → IsReadFault bytes f → IsReadFault bytes g → f ≡ g }
 {}
 

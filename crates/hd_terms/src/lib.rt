@@ -14,7 +14,7 @@ mod types;
 
 ghost use Rattle.std.specs.Prelude.{◌≡◌, ◌≤◌, length};
 ghost use Rattle.byteorder.specs.Endian.{big_number};
-ghost use Rattle.hd_terms.specs.Ranks.{rank, given_by, least_passed_on, weaker_of};
+ghost use Rattle.hd_terms.specs.Ranks.{rank, given_by, kind_of_references, least_passed_on, weaker_of};
 ghost use Rattle.hd_terms.specs.Records.{id_len};
 
 use byteorder::{BigEndian, ByteOrder};
@@ -91,6 +91,29 @@ impl EdgeKind {
             EdgeKind::Weak => Strength::Weak,
             EdgeKind::Final => Strength::Final,
             EdgeKind::Phantom => Strength::Phantom,
+        }
+    }
+}
+
+/// The kinds of reference objects that `java.lang.ref` has.
+#[derive(Clone, Copy, Debug, PartialEq, Eq)]
+pub enum RefKind {
+    Soft,
+    Weak,
+    Final,
+    Phantom,
+}
+
+impl RefKind {
+    /// The kind of the edges that go through the referents of these reference objects.
+    pub fn edge_kind(self) -> EdgeKind
+        ensures { result ≡ kind_of_references self }
+    {
+        match self {
+            RefKind::Soft => EdgeKind::Soft,
+            RefKind::Weak => EdgeKind::Weak,
+            RefKind::Final => EdgeKind::Final,
+            RefKind::Phantom => EdgeKind::Phantom,
         }
     }
 }
@@ -199,6 +222,31 @@ pub enum Edit {
     Drop(u64),
     /// An object gets one more root.
     Add(u64),
+    /// The referents of all reference objects of a kind are cleared.
+    ClearAll(RefKind),
+}
+
+/// How a root is shown under a log.
+#[derive(Clone, Copy, Debug, PartialEq, Eq)]
+pub enum RootMode {
+    /// It stands, and holds its object.
+    Stands,
+    /// A live edit drops it.
+    Dropped,
+    /// Its ID is no object's, so it holds nothing, dropped or not.
+    Absent,
+}
+
+/// A root as it is shown under a log: one of the dump's, or one that a live edit adds.
+#[derive(Clone, Copy, Debug, PartialEq, Eq)]
+pub struct RootRow {
+    /// The dump's roots have the numbers from 0, in file order; behind these, event k adds the root k.
+    pub number: u64,
+    /// What the root is, none where an edit added it.
+    pub kind: Option<RootKind>,
+    /// The ID that it is on.
+    pub id: u64,
+    pub mode: RootMode,
 }
 
 /// What an event does.

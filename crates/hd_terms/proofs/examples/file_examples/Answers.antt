@@ -45,6 +45,36 @@ returns-clause-empty_dump c = record {
   is = refl;
 }
 
+pub returns-clause-jdk_8 : goal.returns-clause-jdk_8
+returns-clause-jdk_8 c = record {
+  size = sizes.Four;
+  records = [];
+  segments = [];
+  reads = record {
+    header = record { fits = lit≤ tt; long = lit≤ tt; magic = refl; id_size = refl };
+    whole = record { whole = refl; each = tt };
+    bodies = tt;
+    classes = refl;
+    objects = refl;
+  };
+  is = refl;
+}
+
+pub returns-clause-closure : goal.returns-clause-closure
+returns-clause-closure c = record {
+  size = sizes.Four;
+  records = [];
+  segments = [];
+  reads = record {
+    header = record { fits = lit≤ tt; long = lit≤ tt; magic = refl; id_size = refl };
+    whole = record { whole = refl; each = tt };
+    bodies = tt;
+    classes = refl;
+    objects = refl;
+  };
+  is = refl;
+}
+
 -- the sub-records of two_arrays
 abbrev two_arrays_subs : List SubRecord
 two_arrays_subs =

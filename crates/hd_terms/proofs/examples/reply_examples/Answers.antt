@@ -1,5 +1,7 @@
-use Rattle.std.proofs.Common.{◌≡◌, ℕ, inr, List, [], ◌∷◌, ◌++◌, codes, lit<, sym, ap, refl}
-use Rattle.std.proofs.lemmas.Fmt.{decimal_digit}
+use Rattle.std.proofs.Common.{◌≡◌, ◌∙◌, ℕ, inr, List, [], ◌∷◌, ◌++◌, codes, lit<, sym, ap, refl}
+use Rattle.std.specs.Prelude.{decimal, false}
+use Rattle.std.specs.Fmt.{digits}
+use Rattle.std.proofs.lemmas.Fmt.{decimal_digit, hex_one_digit}
 use Rattle.hd_terms.specs.declared.Slot.TheVariants as slots
 use Rattle.hd_terms.specs.declared.Strength.TheVariants as strengths
 use Rattle.hd_terms.specs.declared.Support.TheVariants as supports
@@ -105,3 +107,30 @@ returns-clause-write_failed c = (
     written_is = refl;
   },
 )
+
+-- the replies to `events` and `roots` by the digits of their numbers
+abbrev events_text : (zero one two id : List ℕ) → List ℕ
+events_text zero one two id =
+    with_newline (codes "ok " ++ two)
+    ++ (
+    with_newline (zero ++ 32 ∷ zero ++ 32 ∷ ((codes "cut " ++ (codes "0x" ++ id) ++ 32 ∷ (codes "e" ++ zero)) ++ 32 ∷ codes "undone"))
+    ++ (with_newline (one ++ 32 ∷ zero ++ 32 ∷ (codes "undo " ++ zero)) ++ [])
+    )
+
+abbrev roots_text : (zero one id : List ℕ) → List ℕ
+roots_text zero one id = with_newline (codes "ok " ++ one) ++ (with_newline (zero ++ 32 ∷ codes "unknown" ++ 32 ∷ (codes "0x" ++ id) ++ 32 ∷ codes "stands") ++ [])
+
+pub returns-clause-events : goal.returns-clause-events
+returns-clause-events c = sym (
+    ap (λ (zero : List ℕ). events_text zero (decimal 1) (decimal 2) (digits 16 false 1)) (decimal_digit 0 (lit< tt))
+    ∙ ap (λ (one : List ℕ). events_text (48 ∷ []) one (decimal 2) (digits 16 false 1)) (decimal_digit 1 (lit< tt))
+    ∙ ap (λ (two : List ℕ). events_text (48 ∷ []) (49 ∷ []) two (digits 16 false 1)) (decimal_digit 2 (lit< tt))
+    ∙ ap (λ (id : List ℕ). events_text (48 ∷ []) (49 ∷ []) (50 ∷ []) id) (hex_one_digit false 1 (lit< tt))
+    )
+
+pub returns-clause-roots : goal.returns-clause-roots
+returns-clause-roots c = sym (
+    ap (λ (zero : List ℕ). roots_text zero (decimal 1) (digits 16 false 1)) (decimal_digit 0 (lit< tt))
+    ∙ ap (λ (one : List ℕ). roots_text (48 ∷ []) one (digits 16 false 1)) (decimal_digit 1 (lit< tt))
+    ∙ ap (λ (id : List ℕ). roots_text (48 ∷ []) (49 ∷ []) id) (hex_one_digit false 1 (lit< tt))
+    )

@@ -14,7 +14,7 @@ use Rattle.hd_terms.specs.Replies.{RepliesDone, answered, with_newline, event_li
 use Rattle.hd_terms.specs.Sessions.{IsLater, IsRefreshed}
 use Rattle.hd_terms.specs.Memory.{beginning, at_log}
 use Rattle.hd_terms.specs.Sessions as sessions
-use Rattle.hd_terms.specs.Log.{IsLawful}
+use Rattle.hd_terms.specs.Log.{IsLawful, own}
 use Rattle.hd_terms.specs.Examples as examples
 use Rattle.hd_terms.proofs.FellByTest.{fell}
 use Rattle.hd_terms.proofs.LawfulByTest.{lawful}
@@ -41,7 +41,7 @@ spelled e f b le lf lb =
     ∙ ap (λ (back : List ℕ). text (49 ∷ []) ((48 + e) ∷ []) ((48 + f) ∷ []) back) (decimal_digit b lb)
 
 -- so many events of the log are a lawful log with the same events of an analyst
-later : (who n m : ℕ) (more : List Event) → examples.first_cuts m ≡ examples.first_cuts n ++ more → sessions.own who (examples.first_cuts m) ≡ sessions.own who (examples.first_cuts n) → IsLawful (examples.first_cuts m)
+later : (who n m : ℕ) (more : List Event) → examples.first_cuts m ≡ examples.first_cuts n ++ more → own who (examples.first_cuts m) ≡ own who (examples.first_cuts n) → IsLawful (examples.first_cuts m)
     → IsLater who (examples.first_cuts n) (examples.first_cuts m)
 later who n m more begins same is = record { more = more; begins = begins; same_own = same; lawful = is }
 
