@@ -2,7 +2,9 @@
 -- Source: this project. A reference to an ID that is no object's is no edge.
 use Rattle.std.specs.Prelude.{ℕ, ◌==◌, List, position, Option}
 use Rattle.std.specs.Option.{option_map}
-use Rattle.std.specs.List.{flat_map, filter_map, enumerate_from}
+use Rattle.std.specs.List.{flat_map, filter_map, filter, enumerate_from}
+use Rattle.hd_terms.specs.declared.RefKind.{RefKind}
+use Rattle.hd_terms.specs.Ranks.{kind_of_references, same_kind}
 use Rattle.hd_terms.specs.Paths.{Edge}
 use Rattle.hd_terms.specs.Dump.{SlotEntry, Object, Dump}
 
@@ -21,3 +23,7 @@ edges_from objects numbered = filter_map (edge_of objects numbered.0) numbered.1
 -- the edges of a dump: those of each object, joined
 abbrev pub edges : Dump → List Edge
 edges dump = flat_map (edges_from dump.objects) (enumerate_from 0 dump.objects)
+
+-- the edges of a dump that go through the referents of a kind of reference objects, in the order of their sources
+abbrev pub kind_edges : Dump → RefKind → List Edge
+kind_edges dump kind = filter (λ (e : Edge). same_kind e.kind (kind_of_references kind)) (edges dump)
