@@ -14,8 +14,14 @@ const LARGEST_FILE: u64 = 2_147_483_647;
 /// The bytes of the header.
 pub const HEADER_LEN: usize = 31;
 
-/// The text at the front of a file, and its zero byte.
-const MAGIC: &[u8; 19] = b"JAVA PROFILE 1.0.2\0";
+/// The bytes of the text at the front of a file, with its zero byte.
+const MAGIC_LEN: usize = 19;
+
+/// The text at the front of a file.
+const MAGIC_1_0_2: &[u8; MAGIC_LEN] = b"JAVA PROFILE 1.0.2\0";
+
+/// The text at the front of a file that JDK 8 wrote. What follows is read alike.
+const MAGIC_1_0_1: &[u8; MAGIC_LEN] = b"JAVA PROFILE 1.0.1\0";
 
 /// Where the header gives the size of an identifier.
 const ID_SIZE_AT: usize = 19;
@@ -44,12 +50,13 @@ pub fn number_at(bytes: &[u8], at: usize) -> u32
     BigEndian::read_u32(&bytes[at..])
 }
 
-/// Whether the bytes begin with the text that a file begins with.
+/// Whether the bytes begin with a text that a file begins with.
 fn has_magic(bytes: &[u8]) -> bool
     requires { 19 ≤ length bytes.now }
     ensures { result ≡ has_magic bytes.now }
 {
-    &bytes[..MAGIC.len()] == MAGIC.as_slice()
+    let text = &bytes[..MAGIC_LEN];
+    text == MAGIC_1_0_2.as_slice() || text == MAGIC_1_0_1.as_slice()
 }
 
 /// What identifiers measure, where the header stands as it has to.
