@@ -13,7 +13,7 @@ use hd_decode::NoGate;
 use hd_graph::{Graph, open_dump};
 use hd_records::check_size;
 use hd_state::State;
-use hd_terms::{Edit, Event, MOST_WORKERS, Slot, What};
+use hd_terms::{Edit, Event, MOST_WORKERS, Mode, Slot, What};
 use std::env;
 use std::fs::{self, File};
 use std::io::Read;
@@ -124,9 +124,15 @@ fn opened<R: Files<File = File> + Clock + Print + AllocGlobal + Threads + Sync>(
     let start = Instant::now(rt)?;
     let bytes = read_file(rt, path)?;
     let read = lap(rt, "read", start)?;
-    let graph = open_dump(rt, rt.alloc(), bytes.as_slice(), workers, &NoGate).map_err(
-        |fault| anyhow!("{fault:?}"),
-    )?;
+    let graph = open_dump(
+        rt,
+        rt.alloc(),
+        bytes.as_slice(),
+        workers,
+        Mode::Direct,
+        &NoGate,
+    )
+    .map_err(|fault| anyhow!("{fault:?}"))?;
     drop(bytes);
     let opened = lap(rt, "open", read)?;
     let state = State::open(rt.alloc(), graph).map_err(|_| anyhow!("out of memory"))?;

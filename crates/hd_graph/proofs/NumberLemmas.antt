@@ -16,7 +16,7 @@ use Rattle.hd_terms.specs.FirstRecords.{id_of_item, object_sub, first_subs, repe
 use Rattle.hd_terms.specs.HeapFaults.{fault_if, is_size_mismatch, object_fault, object_faults}
 use Rattle.hd_terms.specs.Classes.{KnownClasses}
 use Rattle.hd_terms.specs.Objects.{is_opaque}
-use Rattle.hd_graph.specs.declared.graph.RootRow.{RootRow}
+use Rattle.hd_graph.specs.declared.graph.StoredRoot.{StoredRoot}
 use Rattle.hd_graph.specs.declared.number.Tally.{Tally}
 use Rattle.hd_graph.specs.GraphInside.{root_of_row}
 use Rattle.hd_graph.specs.ArrayRows.{object_id, roots_in}
@@ -76,7 +76,7 @@ module _ (known : KnownClasses) (size : IdSize) where
   begin = record { ids_are = refl; known_ids = λ id. refl; repeated_is = refl; opaque_is = refl; roots_are = refl; no_null = All-nil (λ id. 0 < id); no_fault = refl }
 
   -- a root
-  pub root-push : (front : List Sub) (ids : List ℕ) (roots : List RootRow) (tally : Tally) (h : IsNumbered known size front ids roots tally) (at : ℕ) (row : RootRow)
+  pub root-push : (front : List Sub) (ids : List ℕ) (roots : List StoredRoot) (tally : Tally) (h : IsNumbered known size front ids roots tally) (at : ℕ) (row : StoredRoot)
       → IsNumbered known size (front ++ (record { offset = at; item = subs.Root row.kind row.id }) ∷ []) ids (roots ++ row ∷ []) tally
   root-push front ids roots tally h at row =
       let s : Sub = record { offset = at; item = subs.Root row.kind row.id } in
@@ -103,7 +103,7 @@ module _ (known : KnownClasses) (size : IdSize) where
     case-positive false all pos = All-push (λ k. 0 < k) ids id all pos
 
   -- whether an ID is noted is whether an object of it stands before
-  noted-is : (front : List Sub) (ids : List ℕ) (roots : List RootRow) (tally : Tally) → IsNumbered known size front ids roots tally → (s : Sub) (id : ℕ) → is_noted ids id ≡ is_known sub_key (object_subs front) (id, s)
+  noted-is : (front : List Sub) (ids : List ℕ) (roots : List StoredRoot) (tally : Tally) → IsNumbered known size front ids roots tally → (s : Sub) (id : ℕ) → is_noted ids id ≡ is_known sub_key (object_subs front) (id, s)
   noted-is front ids roots tally h s id = h.known_ids id ∙ ap (list_any (λ k. eqb id k)) (ids-of-subs front) ∙ known-map same sub_key (object_subs front) (id, s)
 
   case-fault : (s : Sub) (id : ℕ) (b : Bool) → 0 < id → (b ≡ false → is_size_mismatch known size s.item ≡ false) → filter_map (object_fault known size) (if_new sub_key b (id, s)) ≡ []
@@ -121,7 +121,7 @@ module _ (known : KnownClasses) (size : IdSize) where
       by_item false = refl
 
   -- an object
-  pub object-push : (front : List Sub) (ids : List ℕ) (roots : List RootRow) (tally : Tally) (h : IsNumbered known size front ids roots tally) (s : Sub) (id : ℕ) (ids' : List ℕ) (tally' : Tally)
+  pub object-push : (front : List Sub) (ids : List ℕ) (roots : List StoredRoot) (tally : Tally) (h : IsNumbered known size front ids roots tally) (s : Sub) (id : ℕ) (ids' : List ℕ) (tally' : Tally)
       → NotesObject known size s.item id ids tally ids' tally' → object_id s ≡ Some id → roots_in (s ∷ []) ≡ [] → IsNumbered known size (front ++ s ∷ []) ids' roots tally'
   object-push front ids roots tally h s id ids' tally' notes is no_root =
       let old = filter_map object_id front in
@@ -198,7 +198,7 @@ module _ (known : KnownClasses) (size : IdSize) where
       ∙ ap (λ (fs : List ReadFault). fs ++ filter_map (object_fault known size) ((id, s) ∷ R)) none in
       ap (λ (fs : List ReadFault). slice_get fs 0) faults ∙ ap (λ (o : Option ReadFault). slice_get (cons_option o (filter_map (object_fault known size) R)) 0) here
 
-  stop-fault : (front : List Sub) (s : Sub) (after : List Sub) (ids : List ℕ) (roots : List RootRow) (tally : Tally) → IsNumbered known size front ids roots tally
+  stop-fault : (front : List Sub) (s : Sub) (after : List Sub) (ids : List ℕ) (roots : List StoredRoot) (tally : Tally) → IsNumbered known size front ids roots tally
       → (id : ℕ) → object_id s ≡ Some id → (f : ReadFault) → IsObjectStop known size s.item id s.offset ids f → IsObjectFaultOrMemory known size (front ++ s ∷ after) f
   stop-fault front s after ids roots tally h id is _ memory = inl refl
   stop-fault front s after ids roots tally h id is _ (null zero_id) =
@@ -229,18 +229,18 @@ pub split-here : (list : List Sub) (i : ℕ) (s : Sub) → slice_get list i ≡ 
 split-here list i s is = sym (take-append-drop (i + 1) list) ∙ ap (λ (xs : List Sub). xs ++ drop (i + 1) list) (take-next list i s is) ∙ append_assoc (take i list) (s ∷ []) (drop (i + 1) list)
 
 -- a fault of the sub-record at an index is the first of all
-pub lifted : (known : KnownClasses) (size : IdSize) (list : List Sub) (i : ℕ) (s : Sub) (ids : List ℕ) (roots : List RootRow) (tally : Tally) (f : ReadFault) → slice_get list i ≡ Some s
+pub lifted : (known : KnownClasses) (size : IdSize) (list : List Sub) (i : ℕ) (s : Sub) (ids : List ℕ) (roots : List StoredRoot) (tally : Tally) (f : ReadFault) → slice_get list i ≡ Some s
     → IsNumbered known size (take i list) ids roots tally → StopsAt known size s ids f → IsObjectFaultOrMemory known size list f
 lifted known size list i s ids roots tally f is h (inl out_of_memory_reply) = inl out_of_memory_reply
 lifted known size list i s ids roots tally f is h (inr (id, at, stop)) =
     subst (λ (l : List Sub). IsObjectFaultOrMemory known size l f) (sym (split-here list i s is)) (stop-fault known size (take i list) s (drop (i + 1) list) ids roots tally h id at f stop)
 
 -- no more are repeated or opaque than there are sub-records
-pub repeated-le : (known : KnownClasses) (size : IdSize) (list : List Sub) (i : ℕ) (ids : List ℕ) (roots : List RootRow) (tally : Tally) → IsNumbered known size (take i list) ids roots tally → tally.repeated ≤ i
+pub repeated-le : (known : KnownClasses) (size : IdSize) (list : List Sub) (i : ℕ) (ids : List ℕ) (roots : List StoredRoot) (tally : Tally) → IsNumbered known size (take i list) ids roots tally → tally.repeated ≤ i
 repeated-le known size list i ids roots tally h =
     omega (arith, h.repeated_is, repeats-le same (filter_map object_id (take i list)), filter_map-le object_id (take i list), length-take i list)
 
-pub opaque-le : (known : KnownClasses) (size : IdSize) (list : List Sub) (i : ℕ) (ids : List ℕ) (roots : List RootRow) (tally : Tally) → IsNumbered known size (take i list) ids roots tally → tally.opaque ≤ i
+pub opaque-le : (known : KnownClasses) (size : IdSize) (list : List Sub) (i : ℕ) (ids : List ℕ) (roots : List StoredRoot) (tally : Tally) → IsNumbered known size (take i list) ids roots tally → tally.opaque ≤ i
 opaque-le known size list i ids roots tally h =
     omega (
       arith,

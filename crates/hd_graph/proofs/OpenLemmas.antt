@@ -16,12 +16,12 @@ use Rattle.hd_terms.specs.Classes.{ClassTable, class_table, class_of_item, resol
 use Rattle.hd_terms.specs.HeapFaults.{class_faults, object_faults}
 use Rattle.hd_terms.specs.Roots.{roots_of}
 use Rattle.hd_terms.specs.Dump.{Object, Root, Repeated}
-use Rattle.hd_terms.specs.declared.Mode.TheVariants as modes
+use Rattle.hd_terms.specs.declared.Mode.{Mode}
 use Rattle.hd_terms.specs.Objects.{classes_of, object_of, objects_of, opaque_in, names_of, IsDumpOf, repeated_of}
 use Rattle.hd_terms.specs.ReadFaults.{in_records, in_sub_records, in_classes, in_objects, IsSubRecordsFault, IsSegmentFault}
 use Rattle.hd_records.specs.Reading.{ReadsRecords, IsRecordsFaultOrMemory}
 use Rattle.hd_classes.specs.Known.{Known, known_at, name_at, AreClassesOf, IsClassFaultOrMemory, IsTextWithin}
-use Rattle.hd_graph.specs.declared.graph.RootRow.{RootRow}
+use Rattle.hd_graph.specs.declared.graph.StoredRoot.{StoredRoot}
 use Rattle.hd_graph.specs.declared.number.Tally.{Tally}
 use Rattle.hd_graph.specs.GraphInside.{root_of_row}
 use Rattle.hd_slots.specs.Table.{Table}
@@ -185,7 +185,7 @@ module _ (bytes : List ℕ) (size : IdSize) (strings : List Text) (classes : Lis
       object-fault f (inl out_of_memory_reply) = inl out_of_memory_reply
       object-fault f (inr e) = inr (in_objects size r.records b.segments r.header r.whole dump_bodies no-cycle (ap (λ (fs : List ReadFault). slice_get fs 0) (sym object-faults-are) ∙ e))
 
-      module _ (ids : List ℕ) (roots : List RootRow) (tally : Tally) (n : IsNumbered known size list ids roots tally) where
+      module _ (ids : List ℕ) (roots : List StoredRoot) (tally : Tally) (n : IsNumbered known size list ids roots tally) where
         short : length list ≤ weight list
         short = length-le-weight list
 
@@ -243,7 +243,7 @@ module _ (bytes : List ℕ) (size : IdSize) (strings : List Text) (classes : Lis
           opaque_are = n.opaque_is ∙ ap (λ (kn : KnownClasses). opaque_in kn list) known-is ∙ ap (opaque_in (resolved_class real)) list_of_records
 
           -- what is repeated, and the names of classes
-          module _ (names : List (ℕ × List ℕ)) (names_are : names ≡ first_names bytes k classes) (texts_again loads_again : ℕ) (texts_are : texts_again ≡ repeats (λ (x : Text). x.id) strings) (loads_are : loads_again ≡ repeats (λ (x : Load). x.class) classes) where
+          module _ (mode : Mode) (names : List (ℕ × List ℕ)) (names_are : names ≡ first_names bytes k classes) (texts_again loads_again : ℕ) (texts_are : texts_again ≡ repeats (λ (x : Text). x.id) strings) (loads_are : loads_again ≡ repeats (λ (x : Load). x.class) classes) where
             abbrev again : Repeated
             again = record { objects = tally.repeated; strings = texts_again; loads = loads_again }
 
@@ -257,7 +257,7 @@ module _ (bytes : List ℕ) (size : IdSize) (strings : List Text) (classes : Lis
             class-names-are : names ≡ names_of real
             class-names-are = names_are ∙ first-names table k h ∙ ap names_of table-is
 
-            pub opened : IsDumpOf bytes (record { mode = modes.Direct; objects = row_objects c.shapes t.ids t.rows; roots = map root_of_row roots; repeated = again; opaque = tally.opaque; names = names })
+            pub opened : IsDumpOf mode bytes (record { mode = mode; objects = row_objects c.shapes t.ids t.rows; roots = map root_of_row roots; repeated = again; opaque = tally.opaque; names = names })
             opened = record {
               size = size;
               records = r.records;
@@ -269,11 +269,11 @@ module _ (bytes : List ℕ) (size : IdSize) (strings : List Text) (classes : Lis
                 classes = no-cycle;
                 objects = sym object-faults-are ∙ n.no_fault;
               };
-              is = ap (λ (xs : List Object). record { mode = modes.Direct; objects = xs; roots = map root_of_row roots; repeated = again; opaque = tally.opaque; names = names }) objects_are
-                  ∙ ap (λ (xs : List Root). record { mode = modes.Direct; objects = objects_of real size (all_of real bytes size b.segments); roots = xs; repeated = again; opaque = tally.opaque; names = names }) roots_are
-                  ∙ ap (λ (x : Repeated). record { mode = modes.Direct; objects = objects_of real size (all_of real bytes size b.segments); roots = roots_of size (all_of real bytes size b.segments); repeated = x; opaque = tally.opaque; names = names }) again_is
-                  ∙ ap (λ (m : ℕ). record { mode = modes.Direct; objects = objects_of real size (all_of real bytes size b.segments); roots = roots_of size (all_of real bytes size b.segments); repeated = repeated_of real size r.records (all_of real bytes size b.segments); opaque = m; names = names }) opaque_are
-                  ∙ ap (λ (ns : List (ℕ × List ℕ)). record { mode = modes.Direct; objects = objects_of real size (all_of real bytes size b.segments); roots = roots_of size (all_of real bytes size b.segments); repeated = repeated_of real size r.records (all_of real bytes size b.segments); opaque = opaque_in (resolved_class real) placed; names = ns }) class-names-are;
+              is = ap (λ (xs : List Object). record { mode = mode; objects = xs; roots = map root_of_row roots; repeated = again; opaque = tally.opaque; names = names }) objects_are
+                  ∙ ap (λ (xs : List Root). record { mode = mode; objects = objects_of real size (all_of real bytes size b.segments); roots = xs; repeated = again; opaque = tally.opaque; names = names }) roots_are
+                  ∙ ap (λ (x : Repeated). record { mode = mode; objects = objects_of real size (all_of real bytes size b.segments); roots = roots_of size (all_of real bytes size b.segments); repeated = x; opaque = tally.opaque; names = names }) again_is
+                  ∙ ap (λ (m : ℕ). record { mode = mode; objects = objects_of real size (all_of real bytes size b.segments); roots = roots_of size (all_of real bytes size b.segments); repeated = repeated_of real size r.records (all_of real bytes size b.segments); opaque = m; names = names }) opaque_are
+                  ∙ ap (λ (ns : List (ℕ × List ℕ)). record { mode = mode; objects = objects_of real size (all_of real bytes size b.segments); roots = roots_of size (all_of real bytes size b.segments); repeated = repeated_of real size r.records (all_of real bytes size b.segments); opaque = opaque_in (resolved_class real) placed; names = ns }) class-names-are;
             }
 
 pub records-fault : (bytes : List ℕ) (f : ReadFault) → IsRecordsFaultOrMemory bytes f → IsReadFaultOrMemory bytes f

@@ -2,12 +2,12 @@
 use Rattle.std.specs.Prelude.{◌<◌, ◌^◌, length, map, All}
 use Rattle.hd_terms.specs.Dump.{Dump, Repeated, Root}
 use Rattle.hd_graph.specs.declared.graph.Graph.TheInside.{Inside}
-use Rattle.hd_graph.specs.declared.graph.RootRow.{RootRow}
+use Rattle.hd_graph.specs.declared.graph.StoredRoot.{StoredRoot}
 use Rattle.hd_graph.specs.declared.graph.Repeats.{Repeats}
 use Rattle.hd_graph.specs.Shapes.{IsSmall, row_objects, AreColumns}
 
 -- a root as it is kept
-abbrev pub root_of_row : RootRow → Root
+abbrev pub root_of_row : StoredRoot → Root
 root_of_row r = record { kind = r.kind; id = r.id }
 
 -- what is repeated, as it is kept

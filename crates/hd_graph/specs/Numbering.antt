@@ -11,7 +11,7 @@ use Rattle.hd_terms.specs.Classes.{ResolvedClass, layout_len, KnownClasses}
 use Rattle.hd_terms.specs.HeapFaults.{is_size_mismatch, object_faults}
 use Rattle.hd_terms.specs.Objects.{is_opaque, opaque_in}
 use Rattle.hd_terms.specs.ReadFaults.{fault}
-use Rattle.hd_graph.specs.declared.graph.RootRow.{RootRow}
+use Rattle.hd_graph.specs.declared.graph.StoredRoot.{StoredRoot}
 use Rattle.hd_graph.specs.declared.number.Tally.{Tally}
 use Rattle.hd_graph.specs.GraphInside.{root_of_row}
 use Rattle.hd_ids.specs.Noted.{is_noted}
@@ -24,7 +24,7 @@ IsObjectFaultOrMemory known size list f = (f ≡ fault causes.OutOfMemory 0) ⊎
 
 -- these are the IDs of the objects among sub-records, each once, and the roots, and what is counted of them; no ID is 0,
 -- and no instance has values of another size than its class
-pub record IsNumbered (known : KnownClasses) (size : IdSize) (list : List Sub) (ids : List ℕ) (roots : List RootRow) (tally : Tally) : Type 0 where
+pub record IsNumbered (known : KnownClasses) (size : IdSize) (list : List Sub) (ids : List ℕ) (roots : List StoredRoot) (tally : Tally) : Type 0 where
   pub ids_are : ids ≡ object_ids list
   pub known_ids : (id : ℕ) → list_any (λ k. id == k) ids ≡ list_any (λ k. id == k) (filter_map object_id list)
   pub repeated_is : tally.repeated ≡ repeats (λ (id : ℕ). id) (filter_map object_id list)
@@ -34,7 +34,7 @@ pub record IsNumbered (known : KnownClasses) (size : IdSize) (list : List Sub) (
   pub no_fault : object_faults known size list ≡ []
 
 -- one more sub-record is numbered
-abbrev pub NumbersOneMore : KnownClasses → IdSize → Sub → List ℕ → List RootRow → Tally → List ℕ → List RootRow → Tally → Type 0
+abbrev pub NumbersOneMore : KnownClasses → IdSize → Sub → List ℕ → List StoredRoot → Tally → List ℕ → List StoredRoot → Tally → Type 0
 NumbersOneMore known size s ids roots tally ids' roots' tally' = (front : List Sub) → IsNumbered known size front ids roots tally → IsNumbered known size (front ++ s ∷ []) ids' roots' tally'
 
 -- one more sub-record of an object of an ID: it is noted, and if it is new it fits, and is counted if it is opaque

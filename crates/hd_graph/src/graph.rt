@@ -19,7 +19,7 @@ use std::marker::Model;
 pub struct Graph {
     slot_table: SlotTable,
     shapes: Shapes,
-    roots: Vec<RootRow>,
+    roots: Vec<StoredRoot>,
     repeats: Repeats,
     opaque: u64,
     mode: Mode,
@@ -36,7 +36,7 @@ pub(crate) struct Repeats {
 
 /// A root as it is kept.
 #[derive(Clone, Copy)]
-pub(crate) struct RootRow {
+pub(crate) struct StoredRoot {
     pub(crate) kind: RootKind,
     pub(crate) id: u64,
 }
@@ -171,7 +171,7 @@ impl Graph {
     pub(crate) fn new(
         slot_table: SlotTable,
         shapes: Shapes,
-        roots: Vec<RootRow>,
+        roots: Vec<StoredRoot>,
         repeats: Repeats,
         opaque: u64,
         mode: Mode,

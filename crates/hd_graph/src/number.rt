@@ -8,7 +8,7 @@ ghost use Rattle.hd_ids.specs.Noted.{is_noted};
 ghost use Rattle.hd_graph.specs.Noted.{NotesId};
 ghost use Rattle.hd_graph.specs.Numbering.{IsNumbered, NumbersOneMore, IsObjectFaultOrMemory, NotesObject, IsObjectStop, IsNullIdOrMemory, StopsAt, length_of};
 
-use crate::graph::RootRow;
+use crate::graph::StoredRoot;
 use crate::layouts::bytes_of_layout;
 use crate::noted::note_id;
 use hd_classes::Classes;
@@ -30,7 +30,7 @@ pub(crate) struct Tally {
 #[derive(Drop)]
 pub(crate) struct Numbered {
     pub(crate) ids: ObjectIds,
-    pub(crate) roots: Vec<RootRow>,
+    pub(crate) roots: Vec<StoredRoot>,
     pub(crate) tally: Tally,
 }
 
@@ -109,7 +109,7 @@ fn number_instance(
 /// Numbers an object, or keeps a root.
 fn number_one(
     ids: &mut ObjectIds,
-    roots: &mut Vec<RootRow>,
+    roots: &mut Vec<StoredRoot>,
     tally: &mut Tally,
     classes: &Classes,
     id_size: IdSize,
@@ -123,7 +123,7 @@ fn number_one(
 {
     let offset = sub.offset;
     match sub.item {
-        Item::Root(kind, id) => roots.push(RootRow { kind, id })?,
+        Item::Root(kind, id) => roots.push(StoredRoot { kind, id })?,
         Item::Class(class) => {
             number_object(ids, tally, class.id, offset)?;
         }

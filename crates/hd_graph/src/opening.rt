@@ -25,7 +25,8 @@ use std::sync::Arc;
 use std::thread::Threads;
 
 impl Graph {
-    /// The graph of a file, of which these are the records, the sub-records and the classes.
+    /// The graph of a file, of which these are the records, the sub-records and the classes, and this is how phantom references
+    /// are followed.
     ///
     /// # Errors
     ///
@@ -38,12 +39,13 @@ impl Graph {
         records: &Records,
         list: &DumpSubs,
         classes: &Classes,
+        mode: Mode,
     ) -> Result<Graph, ReadFault>
         requires records { ReadsRecords bytes.now records.now.id_size records.now.strings records.now.loads records.now.segments }
         requires list { ReadsBodies records.now.id_size bytes.now records.now.segments list.now }
         requires classes { AreClassesOf (class_table bytes.now records.now.strings records.now.loads list.now) classes.now }
         requires no_cycle { class_faults (class_table bytes.now records.now.strings records.now.loads list.now) list.now ≡ [] }
-        ensures ok { IfOk result (λ graph. IsDumpOf bytes.now graph) }
+        ensures ok { IfOk result (λ graph. IsDumpOf mode bytes.now graph) }
         ensures err { IfErr result (λ f. IsReadFaultOrMemory bytes.now f) }
     {
         let id_size = records.id_size;
@@ -64,15 +66,15 @@ impl Graph {
             roots,
             repeats,
             tally.opaque,
-            Mode::Direct,
+            mode,
             names,
         ))
     }
 }
 
 /// The graph of a dump. All of the file is read: its records, then its segments by this many workers at once, 1 to 16, each of
-/// which passes the gate first, then its classes and its objects. The answer is the same for every number of workers and every
-/// gate.
+/// which passes the gate first, then its classes and its objects. The mode says how phantom references are followed. The answer
+/// is the same for every number of workers and every gate.
 ///
 /// # Errors
 ///
@@ -83,16 +85,17 @@ pub fn open_dump<R: Threads + Sync, G: Gate>(
     alloc: Global,
     bytes: &[u8],
     workers: u32,
+    mode: Mode,
     gate: &G,
 ) -> Result<Arc<Graph>, ReadFault>
     requires workers { IsWorkers workers }
-    ensures ok { IfOk result (λ graph. IsDumpOf bytes.now (arc_value graph)) }
+    ensures ok { IfOk result (λ graph. IsDumpOf mode bytes.now (arc_value graph)) }
     ensures err { IfErr result (λ f. IsReadFaultOrMemory bytes.now f) }
 {
     let records = read_records(alloc, bytes)?;
     let list = decode(rt, alloc, bytes, &records, workers, gate)?;
     let classes = Classes::build(alloc, bytes, &records, &list)?;
-    let graph = Graph::build(rt, alloc, bytes, &records, &list, &classes)?;
+    let graph = Graph::build(rt, alloc, bytes, &records, &list, &classes, mode)?;
     let graph = Arc::new(alloc, graph)?;
     Ok(graph)
 }

@@ -2,6 +2,7 @@
 use hd_decode::NoGate;
 use hd_graph::{Graph, open_dump};
 use hd_spell::spell;
+use hd_terms::Mode;
 use std::alloc::Global;
 use std::sync::Arc;
 use std::thread::Threads;
@@ -16,5 +17,5 @@ pub const THREE_SEGMENTS: &str =
 /// The graph of the dump that a text spells, if it opens.
 pub fn graph_of<R: Threads + Sync>(rt: &R, alloc: Global, text: &str) -> Option<Arc<Graph>> {
     let bytes = spell(alloc, text).ok()?;
-    open_dump(rt, alloc, bytes.as_slice(), 1, &NoGate).ok()
+    open_dump(rt, alloc, bytes.as_slice(), 1, Mode::Direct, &NoGate).ok()
 }

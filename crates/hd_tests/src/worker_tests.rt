@@ -4,7 +4,7 @@ use hd_decode::{Gate, NoGate, decode, shares_of};
 use hd_graph::open_dump;
 use hd_records::read_records;
 use hd_spell::spell;
-use hd_terms::Span;
+use hd_terms::{Mode, Span};
 use std::sync::atomic::{AtomicBool, AtomicU64, Ordering};
 use std::test::Fail;
 use std::thread;
@@ -113,7 +113,7 @@ fn workers_run_at_once(rt: HostRuntime) -> Result<(), Fail> {
         came: [AtomicBool::new(false), AtomicBool::new(false)],
         met: [AtomicBool::new(false), AtomicBool::new(false)],
     };
-    let opened = open_dump(&rt, rt.alloc(), file.as_slice(), 2, &meeting);
+    let opened = open_dump(&rt, rt.alloc(), file.as_slice(), 2, Mode::Direct, &meeting);
     assert!(rt; opened.is_ok());
     assert!(rt; meeting.met[0].load(Ordering::SeqCst));
     assert!(rt; meeting.met[1].load(Ordering::SeqCst));

@@ -33,4 +33,4 @@ pub new-requires-clause-few_roots : goal.new-requires-clause-few_roots
 new-requires-clause-few_roots g c = few-roots c.args.bytes.now c.args.records.now.id_size _ _ c.args.records.now.segments c.requires.records c.args.list.now c.requires.list c.args.classes.now c.requires.classes c.requires.no_cycle _ _ _ c.in_ok-ids.ensures.ok
 
 pub returns-clause-ok : goal.returns-clause-ok
-returns-clause-ok g c = rw (c.new.ensures, c.in_ok-slot_table-2.ensures) (opened c.args.bytes.now c.args.records.now.id_size _ _ c.args.records.now.segments c.requires.records c.args.list.now c.requires.list c.args.classes.now c.requires.classes c.requires.no_cycle _ _ _ c.in_ok-ids.ensures.ok (columns c.in_ok-slot_table.field-0.slot_table c.in_ok-slot_table.field-0.shapes.objects) c.in_ok-slot_table.ensures _ c.in_ok-names.ensures _ _ c.in_ok-strings.ensures c.in_ok-loads.ensures)
+returns-clause-ok g c = rw (c.new.ensures, c.in_ok-slot_table-2.ensures) (opened c.args.bytes.now c.args.records.now.id_size _ _ c.args.records.now.segments c.requires.records c.args.list.now c.requires.list c.args.classes.now c.requires.classes c.requires.no_cycle _ _ _ c.in_ok-ids.ensures.ok (columns c.in_ok-slot_table.field-0.slot_table c.in_ok-slot_table.field-0.shapes.objects) c.in_ok-slot_table.ensures c.args.mode _ c.in_ok-names.ensures _ _ c.in_ok-strings.ensures c.in_ok-loads.ensures)
