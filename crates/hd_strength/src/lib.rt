@@ -5,6 +5,7 @@ ghost use Rattle.std.specs.Prelude.{◌≡◌, ◌<◌, length};
 ghost use Rattle.hd_terms.specs.Settled.{reached_at};
 
 mod buckets;
+mod cleared;
 mod packed_reached;
 mod removed;
 mod scratch;

@@ -61,7 +61,7 @@ fn added_id(edit: Edit) -> Option<u64>
 {
     match edit {
         Edit::Add(id) => Some(id),
-        Edit::Cut(_, _) | Edit::Clear(_) | Edit::Drop(_) => None,
+        Edit::Cut(_, _) | Edit::Clear(_) | Edit::Drop(_) | Edit::ClearAll(_) => None,
     }
 }
 
@@ -133,7 +133,7 @@ fn offered_at(edited: Edited<'_>, kept: &[PackedReached], o: u32, index: u32) ->
     if kept[target as usize].strength().rank() > 0 {
         return None;
     }
-    if edited.removed.slot(o, index) {
+    if edited.removed.slot(o, index, read.kind) {
         return None;
     }
     Some(kept[o as usize].strength().weaker(read.kind.strength()))
