@@ -19,4 +19,3 @@ pub mod OpenLemmas
 pub mod SmallLemmas
 pub mod RepeatLemmas
 pub mod CountLemmas
-pub mod NameLemmas

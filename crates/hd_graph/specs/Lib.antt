@@ -7,5 +7,3 @@ pub mod Noted
 pub mod Numbering
 pub mod Building
 pub mod Counting
-pub mod Names
-pub mod NamesInside

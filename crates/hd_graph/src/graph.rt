@@ -8,8 +8,8 @@ ghost use Rattle.hd_graph.specs.Arrays.{row_index};
 ghost use Rattle.hd_graph.specs.Shapes.{shape_bytes, slot_name, slot_kind, shape_index, shape_referent, IsNamedAt, HasFewNames};
 ghost use Rattle.hd_graph.specs.PackedShapes.{shape_view};
 
-use crate::names::ClassNames;
 use crate::shape::{Shape, Shapes};
+use hd_names::ClassNames;
 use hd_slots::SlotTable;
 use hd_terms::{EdgeKind, Group, Mode, RootKind, Slot};
 use std::marker::Model;

@@ -8,7 +8,6 @@ mod filling;
 mod graph;
 mod instance_rows;
 mod layouts;
-mod names;
 mod noted;
 mod number;
 mod opening;

@@ -12,11 +12,11 @@ ghost use Rattle.hd_graph.specs.Building.{IsReadFaultOrMemory};
 
 use crate::filling::{Rows, rows_of};
 use crate::graph::{Graph, Repeats};
-use crate::names::names_of;
 use crate::noted::{repeated_loads, repeated_strings};
 use crate::number::{Numbered, number};
 use hd_classes::Classes;
 use hd_decode::{Gate, decode};
+use hd_names::names_of;
 use hd_records::{Records, read_records};
 use hd_subs::DumpSubs;
 use hd_terms::{Mode, ReadFault};

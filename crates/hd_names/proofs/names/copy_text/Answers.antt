@@ -1,7 +1,7 @@
 use Rattle.std.proofs.Common.{◌∙◌, List, ℕ, ◌++◌, sym, ap}
 use Rattle.hd_terms.specs.declared.Span.{Span}
-use Rattle.hd_graph.proofs.NameLemmas.{copied-before, copied-now}
-use Rattle.hd_graph.proofs.names.copy_text.Goals as goal
+use Rattle.hd_names.proofs.NameLemmas.{copied-before, copied-now}
+use Rattle.hd_names.proofs.names.copy_text.Goals as goal
 
 pub returns : goal.returns
 returns c = copied-before c.args.bytes.now c.args.text.now.items c.args.copies.now.entries c.args.span c.in-Some.part.now c.requires.copied (sym c.in-Some.ensures.value) c.if-part-span.true

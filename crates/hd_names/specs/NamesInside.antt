@@ -1,7 +1,7 @@
 -- How the names of classes are kept: their texts in one list of bytes, and which part of it is the name of which class.
 use Rattle.std.specs.Prelude.{ℕ, List}
-use Rattle.hd_graph.specs.declared.names.ClassNames.TheInside.{Inside}
-use Rattle.hd_graph.specs.Names.{names_by, ArePartsOf}
+use Rattle.hd_names.specs.declared.names.ClassNames.TheInside.{Inside}
+use Rattle.hd_names.specs.Names.{names_by, ArePartsOf}
 
 abbrev pub names_in : Inside → List (ℕ × List ℕ)
 names_in a = names_by a.text.items a.parts.entries

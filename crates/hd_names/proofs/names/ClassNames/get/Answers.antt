@@ -2,8 +2,8 @@ use Rattle.std.proofs.Common.{◌∙◌, ℕ, List, length, ◌+◌, ◌≤◌, 
 use Rattle.std.specs.Option.{option_map}
 use Rattle.std.specs.Map.{lookup}
 use Rattle.hd_terms.specs.Classes.{bytes_of_span}
-use Rattle.hd_graph.proofs.NameLemmas.{part-within, lookup-names}
-use Rattle.hd_graph.proofs.names.ClassNames.get.Goals as goal
+use Rattle.hd_names.proofs.NameLemmas.{part-within, lookup-names}
+use Rattle.hd_names.proofs.names.ClassNames.get.Goals as goal
 
 pub bytes_of-requires : goal.bytes_of-requires
 bytes_of-requires c =

@@ -3,7 +3,7 @@ ghost use Rattle.std.specs.Prelude.{◌≡◌, ◌==◌, ℕ, ◌+◌, ◌≤◌
 ghost use Rattle.std.specs.Map.{lookup};
 ghost use Rattle.hd_terms.specs.declared.Span.{Span};
 ghost use Rattle.hd_classes.specs.Known.{name_at};
-ghost use Rattle.hd_graph.specs.Names.{AreCopies, CopiesText, AddsName, first_names};
+ghost use Rattle.hd_names.specs.Names.{AreCopies, CopiesText, AddsName, first_names};
 
 use hd_classes::{Classes, bytes_of};
 use hd_records::Loads;
@@ -14,7 +14,7 @@ use std::marker::Model;
 
 /// The names of classes by the IDs of the classes, as the file has them.
 #[derive(Drop)]
-pub(crate) struct ClassNames {
+pub struct ClassNames {
     /// The texts that are names, one after another, each once.
     text: Vec<u8>,
     /// Which part of them is the name of the class of an ID.
@@ -26,7 +26,7 @@ impl Model for ClassNames {
 
     ghost Value = { List (ℕ × List ℕ) };
 
-    ghost use Rattle.hd_graph.specs.NamesInside.{names_in, AreNames};
+    ghost use Rattle.hd_names.specs.NamesInside.{names_in, AreNames};
 
     ghost view = { names_in };
 
@@ -35,7 +35,7 @@ impl Model for ClassNames {
 
 impl ClassNames {
     /// The name of the class of an ID, if it has one.
-    pub(crate) fn get(&self, class: u64) -> Option<&[u8]>
+    pub fn get(&self, class: u64) -> Option<&[u8]>
         ensures { MatchOption result (lookup (λ (x : ℕ). class == x) self.now ≡ None) (λ name. lookup (λ (x : ℕ). class == x) self.now ≡ Some name.now) }
     {
         match self.parts.get(&class) {
@@ -104,7 +104,7 @@ fn add_name(
 }
 
 /// The names of the classes that were loaded, each class once.
-pub(crate) fn names_of(
+pub fn names_of(
     alloc: Global,
     bytes: &[u8],
     loads: &Loads,

@@ -1,6 +1,6 @@
 use Rattle.std.proofs.Common.{take}
-use Rattle.hd_graph.specs.Names.{HasNames}
-use Rattle.hd_graph.proofs.names.names_of.Given as goal
+use Rattle.hd_names.specs.Names.{HasNames}
+use Rattle.hd_names.proofs.names.names_of.Given as goal
 
 -- the names of the classes loaded so far
 abbrev pub invariant-loop-load : goal.invariant-loop-load

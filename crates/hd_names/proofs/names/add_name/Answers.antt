@@ -3,8 +3,8 @@ use Rattle.std.specs.Map.{lookup}
 use Rattle.indexmap.proofs.CallerLemmas.{insert_entry-new}
 use Rattle.hd_classes.specs.Known.{name_at}
 use Rattle.hd_classes.proofs.NameLemmas.{none-from_is_some}
-use Rattle.hd_graph.proofs.NameLemmas.{no-name, name-again, name-added}
-use Rattle.hd_graph.proofs.names.add_name.Goals as goal
+use Rattle.hd_names.proofs.NameLemmas.{no-name, name-again, name-added}
+use Rattle.hd_names.proofs.names.add_name.Goals as goal
 
 pub returns-in_ok-insert-in-Some : goal.returns-in_ok-insert-in-Some
 returns-in_ok-insert-in-Some c = λ k loads l same is h.

@@ -9,7 +9,7 @@ use Rattle.hd_terms.specs.declared.Load.{Load}
 use Rattle.hd_terms.specs.Classes.{bytes_of_span}
 use Rattle.hd_classes.specs.Known.{Known, name_at}
 use Rattle.hd_classes.specs.Firsts.{firsts}
-use Rattle.hd_graph.specs.declared.names.CopiedNames.{CopiedNames}
+use Rattle.hd_names.specs.declared.names.CopiedNames.{CopiedNames}
 
 -- the name of a class that is loaded, by the ID of the class, if it has one
 abbrev pub known_name : List ℕ → Known → Load → Option (ℕ × List ℕ)

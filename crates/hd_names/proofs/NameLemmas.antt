@@ -16,8 +16,8 @@ use Rattle.hd_classes.specs.Known.{Known, name_at, AreClassesOf, IsTextWithin}
 use Rattle.hd_classes.specs.Firsts.{firsts}
 use Rattle.hd_classes.proofs.FirstLemmas.{if_new, firsts-push, first_of_each-firsts}
 use Rattle.hd_classes.proofs.SearchLemmas.{text-within}
-use Rattle.hd_graph.specs.declared.names.CopiedNames.{CopiedNames}
-use Rattle.hd_graph.specs.Names.{known_name, known_names, first_names, IsCopy, AreCopies, CopiesText, names_by, ArePartsOf, HasNames, AddsName}
+use Rattle.hd_names.specs.declared.names.CopiedNames.{CopiedNames}
+use Rattle.hd_names.specs.Names.{known_name, known_names, first_names, IsCopy, AreCopies, CopiesText, names_by, ArePartsOf, HasNames, AddsName}
 
 -- a part of a text stays when the text goes on
 pub part-stays : (text more : List ℕ) (part : Span) → part.start + part.len ≤ length text → bytes_of_span (text ++ more) part ≡ bytes_of_span text part

@@ -1,6 +1,6 @@
 use Rattle.std.proofs.Common.{arith}
-use Rattle.hd_graph.proofs.NameLemmas.{load-next}
-use Rattle.hd_graph.proofs.names.names_of.Goals as goal
+use Rattle.hd_names.proofs.NameLemmas.{load-next}
+use Rattle.hd_names.proofs.names.names_of.Goals as goal
 
 pub loop-load-preserved : goal.loop-load-preserved
 loop-load-preserved c =
