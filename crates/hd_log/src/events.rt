@@ -94,7 +94,7 @@ fn adds_root(events: &[Event], k: u32) -> bool
 }
 
 /// Whether a root has this number: one of the dump's, of which there are so many, or that of a live event that adds one.
-fn is_root(events: &[Event], roots: u64, r: u64) -> bool
+pub fn is_root(events: &[Event], roots: u64, r: u64) -> bool
     requires { length events.now < 2 ^ 32 }
     ensures { result ≡ is_root roots events.now r }
 {

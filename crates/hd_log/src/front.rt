@@ -2,6 +2,7 @@
 ghost use Rattle.std.specs.Prelude.{◌≡◌, ◌⊎◌, ◌↔◌, ◌<◌, ◌≤◌, ◌++◌, ◌∷◌, [], None, Some, length, slice_get, IfErr, IfOk, IsNone, IsTrue};
 ghost use Rattle.hd_terms.specs.declared.errors.LogFault.TheVariants.{OutOfMemory};
 ghost use Rattle.hd_terms.specs.Log.{IsLawful, begins_with, largest_log, last_live, live_flags, log_fault, own};
+ghost use Rattle.hd_terms.specs.EditedDump.{is_root};
 ghost use Rattle.hd_terms.specs.Appending.{append_refusal};
 
 use crate::events;
@@ -70,6 +71,14 @@ impl Front {
         ensures lawful { IsNone result ↔ IsLawful (self.now ++ event.now ∷ []) }
     {
         events::log_fault(&self.events, *event)
+    }
+
+    /// Whether a root has this number over a dump of so many roots: one of the dump's, or that of a live event that adds one.
+    /// It takes no memory.
+    pub fn is_root(&self, roots: u64, r: u64) -> bool
+        ensures { result ≡ is_root roots self.now r }
+    {
+        events::is_root(&self.events, roots, r)
     }
 
     /// Why an event can't be appended over a dump of so many roots, the first reason, or `None` where it can: what an undo

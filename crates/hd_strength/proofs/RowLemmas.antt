@@ -371,10 +371,10 @@ map_only f (z ∷ zs) y c = elim (Contains-cons_cases (f z) (map f zs) y c) [
 ]
 
 -- the numbers of roots that are there
-number_of_dump : (dump : Dump) (log : List Event) (r : ℕ) → r < length dump.roots → is_dropped log r ≡ false → root_stands (length dump.roots) log r ≡ true
+pub number_of_dump : (dump : Dump) (log : List Event) (r : ℕ) → r < length dump.roots → is_dropped log r ≡ false → root_stands (length dump.roots) log r ≡ true
 number_of_dump dump log r lt stays = rw (lt-ltb r (length dump.roots) lt, stays) refl
 
-number_of_event : (dump : Dump) (log : List Event) (k : ℕ) (event : Event) → slice_get log k ≡ Some event → is_root (length dump.roots) log (length dump.roots + k) ≡ adds_root (live_edit log (k, event))
+pub number_of_event : (dump : Dump) (log : List Event) (k : ℕ) (event : Event) → slice_get log k ≡ Some event → is_root (length dump.roots) log (length dump.roots + k) ≡ adds_root (live_edit log (k, event))
 number_of_event dump log k event at =
     let number : (length dump.roots + k) - length dump.roots ≡ k = omega arith in
     ap (λ (b : Bool). b || adds_root (live_edit_at log ((length dump.roots + k) - length dump.roots))) (not-below (length dump.roots + k) (length dump.roots) (omega arith))

@@ -40,7 +40,7 @@ fn slot_key(o: u32, index: u32) -> u64
 }
 
 /// The edit of event k, where it is live. The flags say which events are.
-pub(crate) fn live_edit(front: &Front, live: &[bool], k: u32) -> Option<Edit>
+pub fn live_edit(front: &Front, live: &[bool], k: u32) -> Option<Edit>
     requires event { k < length front.now }
     requires flags { live.now ≡ live_flags front.now }
     ensures { (e : OneEvent) → slice_get front.now k ≡ Some e → result ≡ live_edit front.now (k, e) }

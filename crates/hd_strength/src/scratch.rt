@@ -239,6 +239,29 @@ fn spread(
     Ok(kept)
 }
 
+/// Strengths, supports and stamps of the objects of a graph under a log, by what the log's live edits take away.
+pub fn from_removed(
+    alloc: Global,
+    graph: &Graph,
+    front: &Front,
+    removed: &Removed,
+) -> Result<Strengths, NoMemory>
+    requires { IsRemovedBy graph.now front.now removed.now }
+    ensures count { IfOk result (λ ks. length ks ≡ length graph.now.objects) }
+    ensures settled { IfOk result (λ ks. Settled (standing graph.now front.now) ks) }
+    ensures stamps { IfOk result (λ ks. (o : ℕ) → (reached_at ks o).stamp ≤ length graph.now.objects) }
+{
+    let edited = Edited {
+        graph,
+        front,
+        removed,
+    };
+    let kept = apply_roots(alloc, edited)?;
+    let buckets = relax_roots(alloc, edited, &kept)?;
+    let kept = spread(edited, kept, buckets)?;
+    Ok(Strengths { kept })
+}
+
 /// Strengths, supports and stamps of the objects of a graph under a log.
 pub fn from_scratch(alloc: Global, graph: &Graph, front: &Front) -> Result<Strengths, NoMemory>
     ensures count { IfOk result (λ ks. length ks ≡ length graph.now.objects) }
@@ -246,13 +269,6 @@ pub fn from_scratch(alloc: Global, graph: &Graph, front: &Front) -> Result<Stren
     ensures stamps { IfOk result (λ ks. (o : ℕ) → (reached_at ks o).stamp ≤ length graph.now.objects) }
 {
     let removed = Removed::of(alloc, graph, front)?;
-    let edited = Edited {
-        graph,
-        front,
-        removed: &removed,
-    };
-    let kept = apply_roots(alloc, edited)?;
-    let buckets = relax_roots(alloc, edited, &kept)?;
-    let kept = spread(edited, kept, buckets)?;
-    Ok(Strengths { kept })
+    let strengths = from_removed(alloc, graph, front, &removed)?;
+    Ok(strengths)
 }
