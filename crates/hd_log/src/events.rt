@@ -1,9 +1,9 @@
 //! What can be read from a list of events: the live ones, and why it doesn't take one more.
-ghost use Rattle.std.specs.Prelude.{◌≡◌, ℕ, ◌^◌, ◌<◌, length, slice_get, Some, IfOk};
+ghost use Rattle.std.specs.Prelude.{◌≡◌, ℕ, ◌^◌, ◌<◌, ◌↔◌, [], ◌∷◌, length, slice_get, Some, IfOk, IsTrue, MatchOption};
 ghost use Rattle.std.specs.List.{list_any};
 ghost use Rattle.hd_terms.specs.declared.Event.{Event};
 ghost use Rattle.hd_terms.specs.declared.What.TheVariants as whats;
-ghost use Rattle.hd_terms.specs.Log.{IsEvent, full_fault, last_live, live_flags, log_fault, own_live, undo_fault, undoes_what};
+ghost use Rattle.hd_terms.specs.Log.{IsEvent, begins_with, full_fault, last_live, live_flags, log_fault, own, own_live, undo_fault, undoes_what};
 ghost use Rattle.hd_terms.specs.EditedDump.{adds_root, is_root, live_edit_at};
 ghost use Rattle.hd_terms.specs.Appending.{append_refusal, root_refusal};
 ghost use Rattle.hd_log.specs.Flags.{are_edits, is_edit};
@@ -94,7 +94,7 @@ fn adds_root(events: &[Event], k: u32) -> bool
 }
 
 /// Whether a root has this number: one of the dump's, of which there are so many, or that of a live event that adds one.
-fn is_root(events: &[Event], roots: u64, r: u64) -> bool
+pub fn is_root(events: &[Event], roots: u64, r: u64) -> bool
     requires { length events.now < 2 ^ 32 }
     ensures { result ≡ is_root roots events.now r }
 {
@@ -112,7 +112,7 @@ fn root_refusal(events: &[Event], roots: u64, edit: Edit) -> Option<Refusal>
 {
     match edit {
         Edit::Drop(r) if !is_root(events, roots, r) => Some(Refusal::NoSuchRoot),
-        Edit::Cut(_, _) | Edit::Clear(_) | Edit::Drop(_) | Edit::Add(_) => None,
+        Edit::Cut(_, _) | Edit::Clear(_) | Edit::Drop(_) | Edit::Add(_) | Edit::ClearAll(_) => None,
     }
 }
 
@@ -182,4 +182,60 @@ pub fn last_live(events: &[Event], who: u8) -> Option<u32>
         }
     }
     last
+}
+
+/// Whether two events are one.
+fn is_same(event: Event, other: Event) -> bool
+    ensures { IsTrue result ↔ (event ≡ other) }
+{
+    event == other
+}
+
+/// Whether a list of events begins with another.
+pub fn begins_with(events: &[Event], front: &[Event]) -> bool
+    ensures { IsTrue result ↔ begins_with events.now front.now }
+{
+    if front.len() > events.len() {
+        return false;
+    }
+    for (i, event) in front.iter().enumerate() {
+        if !is_same(events[i], *event) {
+            return false;
+        }
+    }
+    true
+}
+
+/// The first event of an analyst, and the events after it, if there is one.
+fn next_own(events: &[Event], who: u8) -> Option<(Event, &[Event])>
+    ensures { MatchOption result (own who events.now ≡ [])
+        (λ r. (own who events.now ≡ r.0 ∷ own who r.1.now) × (length r.1.now < length events.now)) }
+{
+    for (i, event) in events.iter().enumerate() {
+        if event.who == who {
+            return Some((*event, &events[i + 1..]));
+        }
+    }
+    None
+}
+
+/// Whether two lists of events have the same events of an analyst, in the same order.
+pub fn same_own(events: &[Event], others: &[Event], who: u8) -> bool
+    ensures { IsTrue result ↔ (own who events.now ≡ own who others.now) }
+{
+    let mut rest = events;
+    let mut others_rest = others;
+    loop {
+        let Some((event, after)) = next_own(rest, who) else {
+            return next_own(others_rest, who).is_none();
+        };
+        let Some((other, others_after)) = next_own(others_rest, who) else {
+            return false;
+        };
+        if !is_same(event, other) {
+            return false;
+        }
+        rest = after;
+        others_rest = others_after;
+    }
 }

@@ -1,31 +1,34 @@
 //! A lawful log as it stands at one time.
-ghost use Rattle.std.specs.Prelude.{◌≡◌, ◌⊎◌, ◌↔◌, ◌<◌, ◌≤◌, ◌++◌, ◌∷◌, [], None, Some, length, slice_get, IfErr, IfOk, IsNone};
+ghost use Rattle.std.specs.Prelude.{◌≡◌, ◌⊎◌, ◌↔◌, ◌<◌, ◌≤◌, ◌++◌, ◌∷◌, [], None, Some, length, slice_get, IfErr, IfOk, IsNone, IsTrue};
 ghost use Rattle.hd_terms.specs.declared.errors.LogFault.TheVariants.{OutOfMemory};
-ghost use Rattle.hd_terms.specs.Log.{IsLawful, largest_log, last_live, live_flags, log_fault};
+ghost use Rattle.hd_terms.specs.Log.{IsLawful, begins_with, largest_log, last_live, live_flags, log_fault, own};
+ghost use Rattle.hd_terms.specs.EditedDump.{is_root};
 ghost use Rattle.hd_terms.specs.Appending.{append_refusal};
 
 use crate::events;
 use hd_terms::{Event, LogFault, NoMemory, Refusal, lawful_logs};
 use std::alloc::Global;
 use std::marker::Model;
+use std::sync::Arc;
 
 /// A log of events as it stands at one time. It is lawful: it has 4,096 events at most, and each undo takes back an
-/// earlier, live edit of the same analyst.
+/// earlier, live edit of the same analyst. Fronts that are shared from one have the same events, kept once.
 #[derive(Drop)]
 pub struct Front {
-    events: Vec<Event>,
+    events: Arc<Vec<Event>>,
 }
 
 impl Model for Front {
     ghost use Rattle.std.specs.Prelude.{List};
+    ghost use Rattle.std.specs.Arc.{arc_value};
     ghost use Rattle.hd_terms.specs.declared.Event.{Event};
     ghost use Rattle.hd_terms.specs.Log.{IsLawful};
 
     ghost Value = { List Event };
 
-    ghost view = { λ f. f.events.items };
+    ghost view = { λ f. (arc_value f.events).items };
 
-    ghost invariant = { λ f. IsLawful f.events.items };
+    ghost invariant = { λ f. IsLawful (arc_value f.events).items };
 }
 
 impl Front {
@@ -33,7 +36,15 @@ impl Front {
     pub fn empty(alloc: Global) -> Result<Front, NoMemory>
         ensures { IfOk result (λ f. f ≡ []) }
     {
-        let events = Vec::new(alloc);
+        let events = Arc::new(alloc, Vec::new(alloc))?;
+        Ok(Front { events })
+    }
+
+    /// An equal front: a further owner of the same events.
+    pub fn share(&self) -> Result<Front, NoMemory>
+        ensures { IfOk result (λ f. f ≡ self.now) }
+    {
+        let events = Arc::try_clone(&self.events)?;
         Ok(Front { events })
     }
 
@@ -62,6 +73,14 @@ impl Front {
         events::log_fault(&self.events, *event)
     }
 
+    /// Whether a root has this number over a dump of so many roots: one of the dump's, or that of a live event that adds one.
+    /// It takes no memory.
+    pub fn is_root(&self, roots: u64, r: u64) -> bool
+        ensures { result ≡ is_root roots self.now r }
+    {
+        events::is_root(&self.events, roots, r)
+    }
+
     /// Why an event can't be appended over a dump of so many roots, the first reason, or `None` where it can: what an undo
     /// names, the root that a drop names, and last that the log is full. It takes no memory.
     pub fn append_refusal(&self, roots: u64, event: &Event) -> Option<Refusal>
@@ -83,6 +102,7 @@ impl Front {
         let mut events = Vec::with_capacity(alloc, self.events.len() + 1)?;
         events.extend_from_slice(&self.events)?;
         events.push(event)?;
+        let events = Arc::new(alloc, events)?;
         Ok(Front { events })
     }
 
@@ -100,5 +120,19 @@ impl Front {
         ensures { result ≡ last_live self.now who }
     {
         events::last_live(&self.events, who)
+    }
+
+    /// Whether the log begins with the events of a front. It takes no memory.
+    pub fn begins_with(&self, front: &Front) -> bool
+        ensures { IsTrue result ↔ begins_with self.now front.now }
+    {
+        events::begins_with(&self.events, &front.events)
+    }
+
+    /// Whether an analyst made the same events in both logs, in the same order. It takes no memory.
+    pub fn same_own(&self, front: &Front, who: u8) -> bool
+        ensures { IsTrue result ↔ (own who self.now ≡ own who front.now) }
+    {
+        events::same_own(&self.events, &front.events, who)
     }
 }

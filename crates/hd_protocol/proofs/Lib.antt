@@ -4,5 +4,6 @@ pub mod Turns
 pub mod ServedLines
 pub mod Refusals
 pub mod RowTexts
+pub mod EventTexts
 pub mod Answering
 pub mod Stating

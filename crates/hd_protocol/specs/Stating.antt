@@ -3,6 +3,7 @@
 use Rattle.std.specs.Prelude.{◌≡◌, ◌⊎◌, ℕ, List, take, Option, Result, Ok, Err}
 use Rattle.std.specs.Io.KnownBytes.{Keeps, Appends}
 use Rattle.hd_terms.specs.declared.errors.Cause.TheVariants.{OutOfMemory}
+use Rattle.hd_terms.specs.declared.Mode.{Mode}
 use Rattle.hd_terms.specs.Dump.{Dump}
 use Rattle.hd_terms.specs.Objects.{IsDumpOf}
 use Rattle.hd_terms.specs.ReadFaults.{fault, IsReadFault}
@@ -17,18 +18,18 @@ abbrev pub shown_total : Total → stat.Total
 shown_total t = record { count = t.count; bytes = t.bytes }
 
 -- the text of `stat` over the dump of these bytes
-pub record IsStatOf (bytes text : List ℕ) : Type 0 where
+pub record IsStatOf (mode : Mode) (bytes text : List ℕ) : Type 0 where
   pub dump : Dump
-  pub is_dump : IsDumpOf bytes dump
+  pub is_dump : IsDumpOf mode bytes dump
   pub is_stat : stat.IsStat dump text
 
 -- how it ends: the whole text is written, or a front of it at a fault of the writer; or the dump has this fault, or
 -- memory ran out, and nothing is written
-abbrev pub StatsDump : (bytes : List ℕ) → (before after : Option (List ℕ)) → Result (Unit {0}) RunFault → Type 0
-StatsDump bytes before after (Ok done) = (text : List ℕ) × IsStatOf bytes text × Appends before after text
-StatsDump bytes before after (Err (faults.Dump f)) = ((f ≡ fault OutOfMemory 0) ⊎ IsReadFault bytes f) × Keeps before after
-StatsDump bytes before after (Err faults.Memory) = Keeps before after
-StatsDump bytes before after (Err (faults.Serve serve_faults.Read)) = ⊥
-StatsDump bytes before after (Err (faults.Serve serve_faults.Write)) = (text : List ℕ) × IsStatOf bytes text × (k : ℕ) × Appends before after (take k text)
-StatsDump bytes before after (Err (faults.Serve serve_faults.OutOfMemory)) = ⊥
-StatsDump bytes before after (Err faults.Close) = ⊥
+abbrev pub StatsDump : Mode → (bytes : List ℕ) → (before after : Option (List ℕ)) → Result (Unit {0}) RunFault → Type 0
+StatsDump mode bytes before after (Ok done) = (text : List ℕ) × IsStatOf mode bytes text × Appends before after text
+StatsDump mode bytes before after (Err (faults.Dump f)) = ((f ≡ fault OutOfMemory 0) ⊎ IsReadFault bytes f) × Keeps before after
+StatsDump mode bytes before after (Err faults.Memory) = Keeps before after
+StatsDump mode bytes before after (Err (faults.Serve serve_faults.Read)) = ⊥
+StatsDump mode bytes before after (Err (faults.Serve serve_faults.Write)) = (text : List ℕ) × IsStatOf mode bytes text × (k : ℕ) × Appends before after (take k text)
+StatsDump mode bytes before after (Err (faults.Serve serve_faults.OutOfMemory)) = ⊥
+StatsDump mode bytes before after (Err faults.Close) = ⊥

@@ -47,6 +47,7 @@ fn refusal_of_edit(graph: &Graph, edit: Edit) -> Option<Refusal>
         Edit::Clear(id) => refusal_of_clear(graph, id),
         Edit::Drop(_) => None,
         Edit::Add(id) => refusal_of_add(graph, id),
+        Edit::ClearAll(_) => None,
     }
 }
 

@@ -2,8 +2,10 @@
 #![tactic(auto)]
 
 mod edit;
+mod events;
 mod fixed_buffer;
 mod reply;
+mod roots;
 mod run;
 mod sample;
 mod serving;

@@ -1,5 +1,5 @@
 //! Replies to commands.
-ghost use Rattle.std.specs.Prelude.{◌≡◌, ◌⊎◌, ◌+◌, ◌<◌, ◌≤◌, [], ◌∷◌, ◌++◌, length, decimal, string_bytes, Ok, MatchOption};
+ghost use Rattle.std.specs.Prelude.{◌≡◌, ◌⊎◌, ◌+◌, ◌<◌, ◌≤◌, [], ◌∷◌, ◌++◌, length, decimal, string_bytes, Ok, IsErr, MatchOption};
 ghost use Rattle.hd_terms.specs.Replies.{RepliesStrength, RepliesSlots, with_newline, answered, refused, event_line, strength_name, refusal_name, line_fault_name, out_of_memory_reply};
 ghost use Rattle.hd_terms.specs.Edges.{index_of};
 ghost use Rattle.hd_protocol.specs.Replying.{answered_head};
@@ -7,10 +7,12 @@ ghost use Rattle.hd_protocol.specs.Editing.{edit_reply};
 ghost use Rattle.hd_protocol.specs.Answering.{IsAnswered};
 
 use crate::edit::{apply_edit, undo};
+use crate::events::events_text;
 use crate::fixed_buffer::FixedBuffer;
+use crate::roots::roots_text;
 use crate::slots::slots_text;
 use hd_state::{Done, State};
-use hd_terms::{Command, LineFault, LogFault, Refusal, Strength};
+use hd_terms::{Command, LineFault, LogFault, NoMemory, Refusal, Strength};
 use itoa::Buffer;
 use std::alloc::Global;
 
@@ -49,8 +51,10 @@ fn answer_command(
     match command {
         Command::Strength(id) => put_strength(out, state, id),
         Command::Slots(id) => return answer_slots(alloc, state, id, out),
+        Command::Roots => return text_or_memory(roots_text(alloc, state), out),
         Command::Edit(edit) => put_edit(out, apply_edit(alloc, state, edit)),
         Command::Undo(number) => put_edit(out, undo(alloc, state, number)),
+        Command::Events => return text_or_memory(events_text(alloc, state), out),
         Command::Quit => put_head(out, 0),
     }
     None
@@ -81,7 +85,17 @@ fn answer_slots(
         put_refused(out, refusal_text(Refusal::NoSuchObject));
         return None;
     };
-    match slots_text(alloc, state, object) {
+    text_or_memory(slots_text(alloc, state, object), out)
+}
+
+/// Gives a text back, or puts `no OutOfMemory` in place of the bytes of `out`.
+fn text_or_memory(
+    made: Result<String, NoMemory>,
+    out: &mut FixedBuffer<LONGEST_REPLY>,
+) -> Option<String>
+    ensures { MatchOption result (IsErr made × (out.new ≡ out_of_memory_reply)) (λ text. made ≡ Ok text) }
+{
+    match made {
         Ok(text) => Some(text),
         Err(_) => {
             put_refused(out, refusal_text(Refusal::Log(LogFault::OutOfMemory)));

@@ -8,7 +8,7 @@ use crate::serving::{ServeFault, serve};
 use hd_decode::NoGate;
 use hd_graph::open_dump;
 use hd_state::State;
-use hd_terms::{NoMemory, ReadFault};
+use hd_terms::{Mode, NoMemory, ReadFault};
 use std::alloc::AllocFailed;
 use std::io::{BufRead, Write};
 use std::thread::Threads;
@@ -73,35 +73,37 @@ impl From<ServeFault> for RunFault {
 
 /// Opens the bytes of a dump: its state with no edit.
 ///
-/// `workers` is the number of threads that decode, 1 to 16.
+/// `workers` is the number of threads that decode, 1 to 16; `mode` says how far phantom references are followed.
 pub fn open_bytes<T: AllocGlobal + Threads + Sync>(
     rt: &T,
     bytes: &[u8],
     workers: u32,
+    mode: Mode,
 ) -> Result<State, RunFault>
     requires workers { IsWorkers workers }
-    ensures ok { IfOk result (λ state. IsDumpOf bytes.now state.dump × (state.log ≡ [])) }
+    ensures ok { IfOk result (λ state. IsDumpOf mode bytes.now state.dump × (state.log ≡ [])) }
     ensures err { IfErr result (λ f. IsOpenFault bytes.now f) }
 {
-    let graph = open_dump(rt, rt.alloc(), bytes, workers, &NoGate)?;
+    let graph = open_dump(rt, rt.alloc(), bytes, workers, mode, &NoGate)?;
     let state = State::open(rt.alloc(), graph)?;
     Ok(state)
 }
 
 /// Opens the bytes of a dump and serves one analyst's lines over it.
 ///
-/// `workers` is the number of threads that decode, 1 to 16.
+/// `workers` is the number of threads that decode, 1 to 16; `mode` says how far phantom references are followed.
 pub fn run_bytes<T: AllocGlobal + Threads + Sync, R: BufRead, W: Write>(
     rt: &T,
     bytes: &[u8],
     workers: u32,
+    mode: Mode,
     input: &mut R,
     output: &mut W,
 ) -> Result<(), RunFault>
     requires workers { IsWorkers workers }
-    ensures { RunsDump bytes.now (R.remaining input.old) (R.remaining input.new) (W.contents output.old) (W.contents output.new) result }
+    ensures { RunsDump mode bytes.now (R.remaining input.old) (R.remaining input.new) (W.contents output.old) (W.contents output.new) result }
 {
-    let state = open_bytes(rt, bytes, workers)?;
+    let state = open_bytes(rt, bytes, workers, mode)?;
     serve(rt.alloc(), input, output, state)?;
     Ok(())
 }

@@ -2,11 +2,11 @@
 ghost use Rattle.std.specs.Prelude.{◌≡◌, ◌<◌, ◌++◌, ◌∷◌, [], length, map, string_bytes, IfOk, OnOk};
 ghost use Rattle.hd_terms.specs.Dump.{object_at};
 ghost use Rattle.hd_terms.specs.SlotRows.{slot_rows};
-ghost use Rattle.hd_terms.specs.Replies.{answered, slot_line, kind_name, mode_name};
+ghost use Rattle.hd_terms.specs.Replies.{answered, slot_line, mode_name};
 
 use hd_state::State;
-use hd_terms::{EdgeKind, NoMemory, SlotMode, SlotRow};
-use hd_words::put_slot;
+use hd_terms::{NoMemory, SlotMode, SlotRow};
+use hd_words::{kind_text, put_slot};
 use std::alloc::{AllocError, Global};
 use std::fmt::Write;
 
@@ -43,19 +43,6 @@ fn put_row(text: &mut String, row: SlotRow) -> Result<(), AllocError>
     let mode = mode_text(row.mode);
     writeln!(text, " {kind} 0x{id:x} {mode}")?;
     Ok(())
-}
-
-/// A kind of reference as it is printed.
-fn kind_text(kind: EdgeKind) -> &'static str
-    ensures { result.now ≡ kind_name kind }
-{
-    match kind {
-        EdgeKind::Strong => "strong",
-        EdgeKind::Soft => "soft",
-        EdgeKind::Weak => "weak",
-        EdgeKind::Final => "final",
-        EdgeKind::Phantom => "phantom",
-    }
 }
 
 /// How a slot stands, as it is printed.

@@ -12,7 +12,7 @@ use crate::reply::strength_text;
 use crate::run::{RunFault, open_bytes};
 use crate::serving::{flush, put_all};
 use hd_state::{State, StrengthTotals, Total};
-use hd_terms::{Counts, NoMemory, Strength};
+use hd_terms::{Counts, Mode, NoMemory, Strength};
 use std::alloc::{AllocError, Global};
 use std::fmt::Write as _;
 use std::io::Write;
@@ -91,17 +91,18 @@ fn stat_text(alloc: Global, state: &State) -> Result<String, NoMemory>
 
 /// Opens the bytes of a dump and writes its counts and totals.
 ///
-/// `workers` is the number of threads that decode, 1 to 16.
+/// `workers` is the number of threads that decode, 1 to 16; `mode` says how far phantom references are followed.
 pub fn stat_bytes<T: AllocGlobal + Threads + Sync, W: Write>(
     rt: &T,
     bytes: &[u8],
     workers: u32,
+    mode: Mode,
     output: &mut W,
 ) -> Result<(), RunFault>
     requires workers { IsWorkers workers }
-    ensures { StatsDump bytes.now (W.contents output.old) (W.contents output.new) result }
+    ensures { StatsDump mode bytes.now (W.contents output.old) (W.contents output.new) result }
 {
-    let state = open_bytes(rt, bytes, workers)?;
+    let state = open_bytes(rt, bytes, workers, mode)?;
     let text = stat_text(rt.alloc(), &state)?;
     put_all(output, text.as_bytes())?;
     flush(output)?;

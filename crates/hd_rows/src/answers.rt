@@ -1,5 +1,6 @@
 //! What the workbench answers over a dump: the lines of `stat`, replies, and the fault where there is one.
 use hd_protocol::{RunFault, run_bytes, stat_bytes};
+use hd_terms::Mode;
 use std::alloc::{AllocError, Global};
 use std::thread::Threads;
 
@@ -10,6 +11,13 @@ pub enum Question<'a> {
     Stat,
     /// The replies to this input.
     Session(&'a [u8]),
+}
+
+/// How a dump is opened: with each number of workers up to one, and in which mode.
+#[derive(Clone, Copy)]
+pub struct Opening {
+    pub most_workers: u32,
+    pub mode: Mode,
 }
 
 /// What was written, and behind it the text of the fault that ended it, if one did.
@@ -26,20 +34,21 @@ fn with_fault(
     Ok(text)
 }
 
-/// The answer to a question over a dump, with so many workers, at least 1 and at most 16.
+/// The answer to a question over a dump, opened in a mode with so many workers, at least 1 and at most 16.
 pub fn answer<R: AllocGlobal + Threads + Sync>(
     rt: &R,
     dump: &[u8],
     workers: u32,
+    mode: Mode,
     question: Question<'_>,
 ) -> Result<Vec<u8>, AllocError> {
     let mut written = Vec::new(rt.alloc());
     let workers = workers.clamp(1, 16);
     let ended = match question {
-        Question::Stat => stat_bytes(rt, dump, workers, &mut written),
+        Question::Stat => stat_bytes(rt, dump, workers, mode, &mut written),
         Question::Session(input) => {
             let mut rest = input;
-            run_bytes(rt, dump, workers, &mut rest, &mut written)
+            run_bytes(rt, dump, workers, mode, &mut rest, &mut written)
         }
     };
     with_fault(rt.alloc(), written, ended)
@@ -50,13 +59,14 @@ pub fn answer<R: AllocGlobal + Threads + Sync>(
 pub fn answer_of_all<R: AllocGlobal + Threads + Sync>(
     rt: &R,
     dump: &[u8],
-    most_workers: u32,
+    opened: Opening,
     question: Question<'_>,
 ) -> Result<Vec<u8>, AllocError> {
-    let first = answer(rt, dump, 1, question)?;
+    let mode = opened.mode;
+    let first = answer(rt, dump, 1, mode, question)?;
     for workers in 2..17u32 {
-        if workers <= most_workers {
-            let other = answer(rt, dump, workers, question)?;
+        if workers <= opened.most_workers {
+            let other = answer(rt, dump, workers, mode, question)?;
             if other.as_slice() != first.as_slice() {
                 return both(rt.alloc(), first, workers, other.as_slice());
             }
@@ -74,12 +84,12 @@ fn both(alloc: Global, first: Vec<u8>, workers: u32, other: &[u8]) -> Result<Vec
     Ok(text)
 }
 
-/// How a dump opens: the first line of its `stat`, with the newline, or its fault.
+/// How a dump opens in mode Direct: the first line of its `stat`, with the newline, or its fault.
 pub fn opening<R: AllocGlobal + Threads + Sync>(
     rt: &R,
     dump: &[u8],
 ) -> Result<Vec<u8>, AllocError> {
-    let whole = answer(rt, dump, 1, Question::Stat)?;
+    let whole = answer(rt, dump, 1, Mode::Direct, Question::Stat)?;
     let mut line = Vec::new(rt.alloc());
     for byte in whole.as_slice() {
         line.push(*byte)?;

@@ -1,7 +1,9 @@
 //! A case: a dump, what has been put in for a session over it, and all that has been answered so far.
 use crate::CaseFault;
+use crate::answers::Opening;
 use crate::input::{InputLine, put_input};
 use hd_spell::spell;
+use hd_terms::Mode;
 use std::alloc::{AllocError, Global};
 
 /// The case that is being run.
@@ -11,6 +13,7 @@ pub struct Case {
     spelling: String,
     input: Option<Vec<u8>>,
     most_workers: u32,
+    mode: Mode,
     written: Vec<u8>,
 }
 
@@ -22,6 +25,7 @@ impl Case {
             spelling: String::new(alloc),
             input: None,
             most_workers: 1,
+            mode: Mode::Direct,
             written: Vec::new(alloc),
         }
     }
@@ -31,10 +35,11 @@ impl Case {
         self.written.as_slice()
     }
 
-    /// Begins the next case, without a dump, for one worker.
+    /// Begins the next case, without a dump, for one worker and in mode Direct.
     pub fn begin(&mut self) {
         self.spelling.clear();
         self.most_workers = 1;
+        self.mode = Mode::Direct;
     }
 
     /// The runs of this case are made with every number of workers up to this one.
@@ -42,9 +47,17 @@ impl Case {
         self.most_workers = most;
     }
 
-    /// The largest number of workers.
-    pub fn most_workers(&self) -> u32 {
-        self.most_workers
+    /// The dump of this case is opened in this mode.
+    pub fn set_mode(&mut self, mode: Mode) {
+        self.mode = mode;
+    }
+
+    /// How the dump is opened: with how many workers at most, and in which mode.
+    pub fn opening(&self) -> Opening {
+        Opening {
+            most_workers: self.most_workers,
+            mode: self.mode,
+        }
     }
 
     /// Adds a line to the spelling of the dump.

@@ -4,6 +4,7 @@ use crate::answers::{Question, answer_of_all, last_lines, opening};
 use crate::case::Case;
 use crate::cuts::{Cut, openings_of_cuts};
 use crate::input::read_input;
+use hd_terms::Mode;
 use std::thread::Threads;
 
 /// Runs a line of a case. What is put in for a session is kept, and the first other line runs the session.
@@ -41,6 +42,10 @@ fn run_step<R: AllocGlobal + Threads + Sync>(
             case.set_workers(read_count(rest)?);
             Ok(())
         }
+        "phantom" => {
+            case.set_mode(read_mode(rest)?);
+            Ok(())
+        }
         "stat" => run_stat(rt, case),
         "opens" => run_opens(rt, case),
         "change" => run_change(rt, case, rest, line),
@@ -58,6 +63,15 @@ fn read_count(word: &str) -> Result<u32, CaseFault> {
     match word.parse::<u32>() {
         Ok(count) => Ok(count),
         Err(_) => Err(CaseFault::WrongWord),
+    }
+}
+
+/// The mode that a word names.
+fn read_mode(word: &str) -> Result<Mode, CaseFault> {
+    match word {
+        "direct" => Ok(Mode::Direct),
+        "closure" => Ok(Mode::Closure),
+        _ => Err(CaseFault::WrongWord),
     }
 }
 
@@ -79,7 +93,7 @@ fn run_session<R: AllocGlobal + Threads + Sync>(
 ) -> Result<(), CaseFault> {
     let dump = case.dump()?;
     let question = Question::Session(input);
-    let replies = answer_of_all(rt, dump.as_slice(), case.most_workers(), question)?;
+    let replies = answer_of_all(rt, dump.as_slice(), case.opening(), question)?;
     case.put(last_lines(replies.as_slice(), count))?;
     Ok(())
 }
@@ -87,7 +101,7 @@ fn run_session<R: AllocGlobal + Threads + Sync>(
 /// Writes the counts and totals of the dump.
 fn run_stat<R: AllocGlobal + Threads + Sync>(rt: &R, case: &mut Case) -> Result<(), CaseFault> {
     let dump = case.dump()?;
-    let text = answer_of_all(rt, dump.as_slice(), case.most_workers(), Question::Stat)?;
+    let text = answer_of_all(rt, dump.as_slice(), case.opening(), Question::Stat)?;
     case.put(text.as_slice())?;
     Ok(())
 }

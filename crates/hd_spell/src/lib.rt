@@ -5,7 +5,8 @@
 //!
 //! | Line | Part of the dump |
 //! |---|---|
-//! | `ids 4`, `ids 8` | the header, with the size of an ID |
+//! | `ids 4`, `ids 8` | the header of version 1.0.2, with the size of an ID |
+//! | `ids 4 1.0.1` | the same with another version |
 //! | `text 107 referent` | a UTF8 record: the ID of a text, and the text |
 //! | `load 13 103` | a LOAD CLASS record: a class, and the text that is its name |
 //! | `segment` | a HEAP DUMP SEGMENT record; what follows, up to the next record, is its body |

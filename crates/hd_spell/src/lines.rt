@@ -74,10 +74,11 @@ fn put_object(output: &mut Output, word: &str, rest: &str) -> Result<(), Mistake
     }
 }
 
-fn put_header(output: &mut Output, size: &str) -> Result<(), Mistake> {
+fn put_header(output: &mut Output, rest: &str) -> Result<(), Mistake> {
+    let (size, version) = rest.split_once(' ').unwrap_or((rest, "1.0.2"));
     match size {
-        "4" => output.put_header(false)?,
-        "8" => output.put_header(true)?,
+        "4" => output.put_header(version, false)?,
+        "8" => output.put_header(version, true)?,
         _ => return Err(Mistake::WrongWord),
     }
     Ok(())

@@ -33,10 +33,12 @@ impl Output {
         if self.has_wide_ids { 8 } else { 4 }
     }
 
-    /// Writes the header of a dump with IDs of eight or of four bytes.
-    pub fn put_header(&mut self, has_wide_ids: bool) -> Result<(), AllocError> {
+    /// Writes the header of a dump of a version of the format, with IDs of eight or of four bytes.
+    pub fn put_header(&mut self, version: &str, has_wide_ids: bool) -> Result<(), AllocError> {
         self.has_wide_ids = has_wide_ids;
-        self.put_bytes(b"JAVA PROFILE 1.0.2\0")?;
+        self.put_bytes(b"JAVA PROFILE ")?;
+        self.put_bytes(version.as_bytes())?;
+        self.put_bytes(b"\0")?;
         self.put_number(self.id_len())?;
         self.put_bytes(&[0; 8])
     }

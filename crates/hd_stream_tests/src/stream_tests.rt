@@ -1,6 +1,6 @@
 //! Streams that fail, hold what they are given, or never end, and the texts of what ended a run.
 use hd_protocol::{RunFault, SAMPLE, ServeFault, run_bytes, stat_bytes};
-use hd_terms::{Cause, ReadFault};
+use hd_terms::{Cause, Mode, ReadFault};
 use std::io::{self, BufRead, Read, Write};
 use std::test::Fail;
 
@@ -37,6 +37,7 @@ fn reader_that_fails(rt: HostRuntime) {
         &rt,
         &SAMPLE,
         1,
+        Mode::Direct,
         &mut FailingReader {
             rest: b"strength 0x",
         },
@@ -48,6 +49,7 @@ fn reader_that_fails(rt: HostRuntime) {
         &rt,
         &SAMPLE,
         1,
+        Mode::Direct,
         &mut FailingReader {
             rest: b"strength 0x2\nstrength 0x",
         },
@@ -82,7 +84,7 @@ impl BufRead for Spaces {
 fn reader_without_end(rt: HostRuntime) {
     let mut written = Vec::new(rt.alloc());
     let mut spaces = Spaces { given: 0 };
-    let ended = run_bytes(&rt, &SAMPLE, 1, &mut spaces, &mut written);
+    let ended = run_bytes(&rt, &SAMPLE, 1, Mode::Direct, &mut spaces, &mut written);
     assert_eq!(rt; ended, Err(RunFault::Serve(ServeFault::Read)));
     assert_eq!(rt; spaces.given, 16_777_216);
     assert_eq!(rt; written.len(), 0);
@@ -121,7 +123,7 @@ fn writer_that_fails(rt: HostRuntime) {
             fails,
         };
         let mut input: &[u8] = b"strength 0x2\nstrength 0x1\n";
-        let ended = run_bytes(&rt, &SAMPLE, 1, &mut input, &mut output);
+        let ended = run_bytes(&rt, &SAMPLE, 1, Mode::Direct, &mut input, &mut output);
         assert_eq!(rt; ended, Err(RunFault::Serve(ServeFault::Write)));
         assert_eq!(rt; output.taken.as_slice(), b"ok 1\nST".as_slice());
     }
@@ -134,7 +136,7 @@ fn stat_that_cannot_be_written(rt: HostRuntime) {
         room: 14,
         fails: true,
     };
-    let ended = stat_bytes(&rt, &SAMPLE, 1, &mut output);
+    let ended = stat_bytes(&rt, &SAMPLE, 1, Mode::Direct, &mut output);
     assert_eq!(rt; ended, Err(RunFault::Serve(ServeFault::Write)));
     assert_eq!(rt; output.taken.as_slice(), b"objects 2\nroot".as_slice());
 }
@@ -176,7 +178,10 @@ fn writer_that_holds(rt: HostRuntime) {
             flushes,
         };
         let mut input: &[u8] = b"strength 0x2";
-        assert_eq!(rt; run_bytes(&rt, &SAMPLE, 1, &mut input, &mut output), ended);
+        assert_eq!(rt;
+            run_bytes(&rt, &SAMPLE, 1, Mode::Direct, &mut input, &mut output),
+            ended
+        );
         assert_eq!(rt; output.handed_on, handed_on);
     }
 }

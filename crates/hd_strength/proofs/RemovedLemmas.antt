@@ -11,7 +11,9 @@ use Rattle.std.proofs.lemmas.List.Quantifiers.{position-Some}
 use Rattle.std.proofs.lemmas.Option.{get_or_from_slice_get, slice_get_within}
 use Rattle.indexmap.specs.IndexSet.{insert_key}
 use Rattle.hd_terms.specs.declared.Slot.{Slot}
+use Rattle.hd_terms.specs.declared.EdgeKind.{EdgeKind}
 use Rattle.hd_terms.specs.declared.Edit.{Edit}
+use Rattle.hd_terms.specs.declared.Edit.TheVariants as edits
 use Rattle.hd_terms.specs.declared.Event.{Event}
 use Rattle.hd_terms.specs.declared.What.{What}
 use Rattle.hd_terms.specs.declared.What.TheVariants as whats
@@ -20,7 +22,9 @@ use Rattle.hd_terms.specs.Edges.{index_of}
 use Rattle.hd_terms.specs.EditedDump.{takes_away, is_slot, same_slot, drops}
 use Rattle.hd_log.proofs.LastLemmas.{numbered_more, by_event}
 use Rattle.hd_terms.specs.Log.{stays, edit_of, live_edit, live_edits, is_live, live_flags}
-use Rattle.hd_strength.specs.Removed.{slot_key, has_slot, has_root, IsRemovedBy, AreSlots, AreRoots, IsOnlySlot, IsNamedSlot}
+use Rattle.hd_strength.specs.declared.cleared.Cleared.{Cleared}
+use Rattle.hd_strength.specs.Cleared.{clears, is_cleared}
+use Rattle.hd_strength.specs.Removed.{slot_key, has_slot, has_root, takes_slot, IsRemovedBy, AreSlots, AreKinds, AreRoots, IsOnlySlot, IsNamedSlot}
 
 -- tests
 or-true_right : (a : Bool) → (a || true) ≡ true
@@ -108,12 +112,12 @@ key-same : (i j : ℕ) (k l : ℕ) → k ≡ l → i ≡ j → j < 4294967296 �
 key-same i j k l keys same small = rw (lt-ltb i 4294967296 (omega arith), eq-eqb k l keys) refl
 
 -- what an edit takes away
-module _ (dump : Dump) (edit : Edit) (p : Option (ℕ × ℕ)) (only : IsOnlySlot dump (λ x s. takes_away x s edit) p) (o i : ℕ) (s : SlotEntry)
+module _ (dump : Dump) (edit : Edit) (p : Option (ℕ × ℕ)) (only : IsOnlySlot dump (λ x s. takes_slot x s edit) p) (o i : ℕ) (s : SlotEntry)
     (lt : o < length dump.objects) (at : slice_get (object_at dump o).slots i ≡ Some s) where
-  pub slot_removed : (x j : ℕ) → p ≡ Some (x, j) → j < 4294967296 → (keys keys' : List ℕ) → keys' ≡ insert_key nat_eq keys (slot_key x j) → has_slot keys' o i ≡ (has_slot keys o i || takes_away (object_at dump o) s edit)
+  pub slot_removed : (x j : ℕ) → p ≡ Some (x, j) → j < 4294967296 → (keys keys' : List ℕ) → keys' ≡ insert_key nat_eq keys (slot_key x j) → has_slot keys' o i ≡ (has_slot keys o i || takes_slot (object_at dump o) s edit)
   slot_removed x j is small keys keys' new =
-      let test : (nat_lt i 4294967296 && nat_eq (slot_key o i) (slot_key x j)) ≡ takes_away (object_at dump o) s edit =
-      same_test (nat_lt i 4294967296 && nat_eq (slot_key o i) (slot_key x j)) (takes_away (object_at dump o) s edit)
+      let test : (nat_lt i 4294967296 && nat_eq (slot_key o i) (slot_key x j)) ≡ takes_slot (object_at dump o) s edit =
+      same_test (nat_lt i 4294967296 && nat_eq (slot_key o i) (slot_key x j)) (takes_slot (object_at dump o) s edit)
       (λ h. let both = key-cases (nat_lt i 4294967296) o i x j refl small h in
       only.passes o i s (is ∙ ap (λ (n : ℕ). Some (n, j)) (sym both.0) ∙ ap (λ (n : ℕ). Some (o, n)) (sym both.1)) at)
       (λ h. let same : some_of x j ≡ some_of o i = sym is ∙ only.only o i s lt at h in
@@ -125,19 +129,19 @@ module _ (dump : Dump) (edit : Edit) (p : Option (ℕ × ℕ)) (only : IsOnlySlo
 
 -- an edit of a slot of the object with an ID, by the object
 module _ (dump : Dump) (edit : Edit) (id : ℕ) (name : Object → Option Slot) (m : Option ℕ)
-    (form : (x : Object) (s : SlotEntry) → takes_away x s edit ≡ ((x.id == id) && is_slot s.slot (name x)))
+    (form : (x : Object) (s : SlotEntry) → takes_slot x s edit ≡ ((x.id == id) && is_slot s.slot (name x)))
     (distinct : (o : ℕ) → o < length dump.objects → (object_at dump o).id ≡ id → m ≡ Some o) where
-  parts : (x : Object) (s : SlotEntry) → takes_away x s edit ≡ true → (x.id ≡ id) × (is_slot s.slot (name x) ≡ true)
+  parts : (x : Object) (s : SlotEntry) → takes_slot x s edit ≡ true → (x.id ≡ id) × (is_slot s.slot (name x) ≡ true)
   parts x s t = let both = and_parts (x.id == id) (is_slot s.slot (name x)) (sym (form x s) ∙ t) in (eqb-true x.id id both.0, both.1)
 
-  pub object_slot : (o : ℕ) (p : Option (ℕ × ℕ)) → m ≡ Some o → m ≡ index_of dump.objects id → IsNamedSlot (object_at dump o).slots (name (object_at dump o)) o p → IsOnlySlot dump (λ x s. takes_away x s edit) p
+  pub object_slot : (o : ℕ) (p : Option (ℕ × ℕ)) → m ≡ Some o → m ≡ index_of dump.objects id → IsNamedSlot (object_at dump o).slots (name (object_at dump o)) o p → IsOnlySlot dump (λ x s. takes_slot x s edit) p
   object_slot o p is first named = record {
     passes = λ x i s at there.
         let object : x ≡ o = named.object x i at in
         let same : object_at dump x ≡ object_at dump o = ap (object_at dump) object in
         let has_id : (object_at dump o).id ≡ id = id-found dump id o (sym first ∙ is) in
         let slot : is_slot s.slot (name (object_at dump o)) ≡ true = named.named x i s at (ap (λ (y : Object). slice_get y.slots i) (sym same) ∙ there) in
-        ap (λ (y : Object). takes_away y s edit) same ∙ form (object_at dump o) s ∙ both-true ((object_at dump o).id == id) (is_slot s.slot (name (object_at dump o))) (eq-eqb (object_at dump o).id id has_id) slot;
+        ap (λ (y : Object). takes_slot y s edit) same ∙ form (object_at dump o) s ∙ both-true ((object_at dump o).id == id) (is_slot s.slot (name (object_at dump o))) (eq-eqb (object_at dump o).id id has_id) slot;
     only = λ x i s lt at t.
         let here = parts (object_at dump x) s t in
         let found : Some x ≡ Some o = sym (distinct x lt here.0) ∙ is in
@@ -179,13 +183,16 @@ module _ (log : List Event) (k : ℕ) (r : Option Edit) (lt : k < length log) (i
   any-more p edit some = ap (list_any p) (edits_by ∙ ap (λ (o : Option Edit). edits_before log k ++ cons_option o []) some) ∙ list_any-append p (edits_before log k) (edit ∷ []) ∙ ap (λ (b : Bool). list_any p (edits_before log k) || b) (or-false_right (p edit))
 
   pub more_slots : (dump : Dump) (edit : Edit) (keys keys' : List ℕ) → r ≡ Some edit → AreSlots dump (edits_before log k) keys
-      → ((o i : ℕ) (s : SlotEntry) → o < length dump.objects → slice_get (object_at dump o).slots i ≡ Some s → has_slot keys' o i ≡ (has_slot keys o i || takes_away (object_at dump o) s edit))
+      → ((o i : ℕ) (s : SlotEntry) → o < length dump.objects → slice_get (object_at dump o).slots i ≡ Some s → has_slot keys' o i ≡ (has_slot keys o i || takes_slot (object_at dump o) s edit))
       → AreSlots dump (edits_before log (k + 1)) keys'
   more_slots dump edit keys keys' some so_far new o i s o_lt at =
-      new o i s o_lt at ∙ ap (λ (b : Bool). b || takes_away (object_at dump o) s edit) (so_far o i s o_lt at) ∙ sym (any-more (takes_away (object_at dump o) s) edit some)
+      new o i s o_lt at ∙ ap (λ (b : Bool). b || takes_slot (object_at dump o) s edit) (so_far o i s o_lt at) ∙ sym (any-more (takes_slot (object_at dump o) s) edit some)
 
   pub more_roots : (edit : Edit) (numbers numbers' : List ℕ) → r ≡ Some edit → AreRoots (edits_before log k) numbers → ((n : ℕ) → has_root numbers' n ≡ (has_root numbers n || drops n edit)) → AreRoots (edits_before log (k + 1)) numbers'
   more_roots edit numbers numbers' some so_far new n = new n ∙ ap (λ (b : Bool). b || drops n edit) (so_far n) ∙ sym (any-more (drops n) edit some)
+
+  pub more_kinds : (edit : Edit) (cleared cleared' : Cleared) → r ≡ Some edit → AreKinds (edits_before log k) cleared → ((kind : EdgeKind) → is_cleared cleared' kind ≡ (is_cleared cleared kind || clears kind edit)) → AreKinds (edits_before log (k + 1)) cleared'
+  more_kinds edit cleared cleared' some so_far new kind = new kind ∙ ap (λ (b : Bool). b || clears kind edit) (so_far kind) ∙ sym (any-more (clears kind) edit some)
 
 -- before any event
 pub no_slots : (dump : Dump) (keys : List ℕ) → keys ≡ [] → AreSlots dump [] keys
@@ -196,13 +203,40 @@ pub no_roots : (numbers : List ℕ) → numbers ≡ [] → AreRoots [] numbers
 unfolding has_root
 no_roots numbers none r = ap (λ (ns : List ℕ). has_root ns r) none
 
+-- an edit takes away by the slot, or by the kind
+takes-parts : (x : Object) (s : SlotEntry) (edit : Edit) → takes_away x s edit ≡ (takes_slot x s edit || clears s.kind edit)
+takes-parts x s (edits.Cut id slot) = sym (or-false_right (takes_slot x s (edits.Cut id slot)))
+takes-parts x s (edits.Clear id) = sym (or-false_right (takes_slot x s (edits.Clear id)))
+takes-parts x s (edits.Drop r) = refl
+takes-parts x s (edits.Add id) = refl
+takes-parts x s (edits.ClearAll references) = refl
+
+or-mixed : (a b c d : Bool) → ((a || b) || (c || d)) ≡ ((a || c) || (b || d))
+or-mixed true b c d = refl
+or-mixed false true true d = refl
+or-mixed false true false d = refl
+or-mixed false false true d = refl
+or-mixed false false false d = refl
+
+any-parts : (p q r : Edit → Bool) → ((edit : Edit) → p edit ≡ (q edit || r edit)) → (es : List Edit) → list_any p es ≡ (list_any q es || list_any r es)
+any-parts p q r parts [] = refl
+any-parts p q r parts (e ∷ es) =
+    ap (λ (b : Bool). b || list_any p es) (parts e) ∙ ap (λ (b : Bool). (q e || r e) || b) (any-parts p q r parts es) ∙ or-mixed (q e) (r e) (list_any q es) (list_any r es)
+
 -- after all events
-pub is_removed_by : (dump : Dump) (log : List Event) (k : ℕ) (slots roots : List ℕ) → k ≡ length log → AreSlots dump (edits_before log k) slots → AreRoots (edits_before log k) roots → IsRemovedBy dump log (record { slots = slots; roots = roots })
-is_removed_by dump log k slots roots end p r =
+pub is_removed_by : (dump : Dump) (log : List Event) (k : ℕ) (slots roots : List ℕ) (cleared : Cleared) → k ≡ length log → AreSlots dump (edits_before log k) slots → AreKinds (edits_before log k) cleared → AreRoots (edits_before log k) roots
+    → IsRemovedBy dump log (record { slots = slots; cleared = cleared; roots = roots })
+is_removed_by dump log k slots roots cleared end by_slot by_kind by_root =
     let all : edits_before log k ≡ live_edits log = ap (λ (es : List Event). filter_map (live_edit log) (enumerate_from 0 es)) (take_all k log (omega arith)) in
     record {
-      slots = λ o i s lt at. p o i s lt at ∙ ap (list_any (takes_away (object_at dump o) s)) all ∙ sym (not-not (list_any (takes_away (object_at dump o) s) (live_edits log)));
-      roots = λ n. r n ∙ ap (list_any (drops n)) all;
+      slots = λ o i s lt at.
+          let x = object_at dump o in
+          ap (λ (b : Bool). b || is_cleared cleared s.kind) (by_slot o i s lt at)
+          ∙ ap (λ (b : Bool). list_any (takes_slot x s) (edits_before log k) || b) (by_kind s.kind)
+          ∙ sym (any-parts (takes_away x s) (takes_slot x s) (clears s.kind) (takes-parts x s) (edits_before log k))
+          ∙ ap (list_any (takes_away x s)) all
+          ∙ sym (not-not (list_any (takes_away x s) (live_edits log)));
+      roots = λ n. by_root n ∙ ap (list_any (drops n)) all;
     }
 
 -- the flag of an event
@@ -240,6 +274,10 @@ module _ (log : List Event) (k : ℕ) (x : Event) (live : List Bool) (d : Bool) 
 pub slot_found : (keys : List ℕ) (o i : ℕ) (found : Bool) → i < 4294967296 → found ≡ list_any (nat_eq (slot_key o i)) keys → found ≡ has_slot keys o i
 unfolding has_slot
 slot_found keys o i found small is = is ∙ sym (ap (λ (b : Bool). b && list_any (nat_eq (slot_key o i)) keys) (lt-ltb i 4294967296 small))
+
+-- the same where its kind isn't cleared
+pub slot_of_kind : (keys : List ℕ) (o i : ℕ) (cleared : Cleared) (kind : EdgeKind) (found : Bool) → is_cleared cleared kind ≡ false → found ≡ has_slot keys o i → found ≡ (has_slot keys o i || is_cleared cleared kind)
+slot_of_kind keys o i cleared kind found none is = is ∙ sym (ap (λ (b : Bool). has_slot keys o i || b) none ∙ or-false_right (has_slot keys o i))
 
 -- a look-up of a root
 pub root_found : (numbers : List ℕ) (r : ℕ) (found : Bool) → found ≡ list_any (nat_eq r) numbers → found ≡ has_root numbers r

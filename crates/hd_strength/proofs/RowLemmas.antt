@@ -208,6 +208,7 @@ edit-entry dump log k x None is = absurd cc
 edit-entry dump log k x (Some (edits.Cut id slot)) is = absurd cc
 edit-entry dump log k x (Some (edits.Clear id)) is = absurd cc
 edit-entry dump log k x (Some (edits.Drop r)) is = absurd cc
+edit-entry dump log k x (Some (edits.ClearAll references)) is = absurd cc
 edit-entry dump log k x (Some (edits.Add id)) is = standing-entry dump (length dump.roots + k) id x (is_dropped log (length dump.roots + k)) (index_of dump.objects id) refl is
 
 event-entry : (dump : Dump) (log : List Event) (k : ℕ) (x : RootEntry) (at : Option Event) → root_by_event dump log k at ≡ Some x → IsEntry dump (length dump.roots + k) x
@@ -282,12 +283,14 @@ addition : (dump : Dump) (log : List Event) (k : ℕ) (edit : Edit) (id : ℕ) �
 addition dump log k (edits.Cut i slot) id is = absurd cc
 addition dump log k (edits.Clear i) id is = absurd cc
 addition dump log k (edits.Drop n) id is = absurd cc
+addition dump log k (edits.ClearAll references) id is = absurd cc
 addition dump log k (edits.Add i) id is = let same : i ≡ id = cc in ap (λ (j : ℕ). option_map (λ (x : RootEntry). x.target) (standing_root dump log (length dump.roots + k) j)) same
 
 no-addition : (dump : Dump) (log : List Event) (k : ℕ) (edit : Edit) → added_id edit ≡ None → option_map (λ (x : RootEntry). x.target) (added_by dump log k (Some edit)) ≡ None
 no-addition dump log k (edits.Cut i slot) is = refl
 no-addition dump log k (edits.Clear i) is = refl
 no-addition dump log k (edits.Drop n) is = refl
+no-addition dump log k (edits.ClearAll references) is = refl
 no-addition dump log k (edits.Add i) is = absurd cc
 
 -- what the root holds that an event adds, by its live edit
@@ -320,6 +323,7 @@ adding : (r : ℕ) (what : What) (id : ℕ) → edit_of what ≡ Some (edits.Add
 adding r (whats.Do (edits.Cut i slot)) id is = absurd cc
 adding r (whats.Do (edits.Clear i)) id is = absurd cc
 adding r (whats.Do (edits.Drop s)) id is = absurd cc
+adding r (whats.Do (edits.ClearAll references)) id is = absurd cc
 adding r (whats.Do (edits.Add i)) id is = let same : i ≡ id = cc in ap (λ (n : ℕ). let root : RootOn = record { number = r; kind = None; id = n } in Some root) same
 adding r (whats.Undo k) id is = absurd cc
 
@@ -327,6 +331,7 @@ added-only : (r : ℕ) (what : What) (root : RootOn) → root_added r what ≡ S
 added-only r (whats.Do (edits.Cut i slot)) root is = absurd cc
 added-only r (whats.Do (edits.Clear i)) root is = absurd cc
 added-only r (whats.Do (edits.Drop s)) root is = absurd cc
+added-only r (whats.Do (edits.ClearAll references)) root is = absurd cc
 added-only r (whats.Do (edits.Add i)) root is =
     let entry : RootOn = record { number = r; kind = None; id = i } in
     let same : entry ≡ root = cc in
@@ -366,10 +371,10 @@ map_only f (z ∷ zs) y c = elim (Contains-cons_cases (f z) (map f zs) y c) [
 ]
 
 -- the numbers of roots that are there
-number_of_dump : (dump : Dump) (log : List Event) (r : ℕ) → r < length dump.roots → is_dropped log r ≡ false → root_stands (length dump.roots) log r ≡ true
+pub number_of_dump : (dump : Dump) (log : List Event) (r : ℕ) → r < length dump.roots → is_dropped log r ≡ false → root_stands (length dump.roots) log r ≡ true
 number_of_dump dump log r lt stays = rw (lt-ltb r (length dump.roots) lt, stays) refl
 
-number_of_event : (dump : Dump) (log : List Event) (k : ℕ) (event : Event) → slice_get log k ≡ Some event → is_root (length dump.roots) log (length dump.roots + k) ≡ adds_root (live_edit log (k, event))
+pub number_of_event : (dump : Dump) (log : List Event) (k : ℕ) (event : Event) → slice_get log k ≡ Some event → is_root (length dump.roots) log (length dump.roots + k) ≡ adds_root (live_edit log (k, event))
 number_of_event dump log k event at =
     let number : (length dump.roots + k) - length dump.roots ≡ k = omega arith in
     ap (λ (b : Bool). b || adds_root (live_edit_at log ((length dump.roots + k) - length dump.roots))) (not-below (length dump.roots + k) (length dump.roots) (omega arith))
@@ -392,6 +397,7 @@ stands-by dump log k x event None at live is = absurd cc
 stands-by dump log k x event (Some (edits.Cut id slot)) at live is = absurd cc
 stands-by dump log k x event (Some (edits.Clear id)) at live is = absurd cc
 stands-by dump log k x event (Some (edits.Drop r)) at live is = absurd cc
+stands-by dump log k x event (Some (edits.ClearAll references)) at live is = absurd cc
 stands-by dump log k x event (Some (edits.Add id)) at live is =
     let root : RootOn = record { number = length dump.roots + k; kind = None; id = id } in
     let parts = standing-parts (is_dropped log (length dump.roots + k)) (held_by dump root) x is in

@@ -1,3 +1,4 @@
+pub mod Cleared
 pub mod PackedReached
 pub mod Buckets
 pub mod Removed

@@ -1,13 +1,17 @@
--- What the live edits of a log take away: references, by the indexes of their slots, and roots of the dump and added
--- ones, by their numbers.
+-- What the live edits of a log take away: references, by the indexes of their slots or all of a kind, and roots of the
+-- dump and added ones, by their numbers.
 -- Source: this project.
-use Rattle.std.specs.Prelude.{◌≡◌, ℕ, ◌+◌, ◌*◌, ◌<◌, Bool, true, ◌&&◌, not, nat_eq, nat_lt, List, length, Option, Some, slice_get}
+use Rattle.std.specs.Prelude.{◌≡◌, ℕ, ◌+◌, ◌*◌, ◌<◌, ◌==◌, Bool, true, false, ◌&&◌, ◌||◌, not, nat_eq, nat_lt, List, length, Option, Some, slice_get}
 use Rattle.std.specs.List.{list_any}
 use Rattle.hd_terms.specs.declared.Slot.{Slot}
+use Rattle.hd_terms.specs.declared.EdgeKind.{EdgeKind}
 use Rattle.hd_terms.specs.declared.Edit.{Edit}
+use Rattle.hd_terms.specs.declared.Edit.TheVariants as edits
 use Rattle.hd_terms.specs.declared.Event.{Event}
 use Rattle.hd_terms.specs.Dump.{SlotEntry, Object, Dump, object_at}
-use Rattle.hd_terms.specs.EditedDump.{takes_away, is_untouched, is_slot, drops, is_dropped}
+use Rattle.hd_terms.specs.EditedDump.{is_untouched, same_slot, is_slot, drops, is_dropped}
+use Rattle.hd_strength.specs.declared.cleared.Cleared.{Cleared}
+use Rattle.hd_strength.specs.Cleared.{clears, is_cleared}
 
 -- the key of a slot, by its object and its index
 abbrev pub slot_key : ℕ → ℕ → ℕ
@@ -21,14 +25,15 @@ has_slot keys o i = nat_lt i 4294967296 && list_any (nat_eq (slot_key o i)) keys
 unfoldable pub has_root : List ℕ → ℕ → Bool
 has_root numbers r = list_any (nat_eq r) numbers
 
--- what is taken away: keys of slots, and numbers of roots
+-- what is taken away: keys of slots, kinds of references, and numbers of roots
 pub record Removals : Type 0 where
   pub slots : List ℕ
+  pub cleared : Cleared
   pub roots : List ℕ
 
--- the reference at an index of an object's slots is taken away
-abbrev pub is_removed : Removals → ℕ → ℕ → Bool
-is_removed t o i = has_slot t.slots o i
+-- the reference at an index of an object's slots, of a kind, is taken away: by its slot, or by its kind
+abbrev pub is_removed : Removals → ℕ → ℕ → EdgeKind → Bool
+is_removed t o i kind = has_slot t.slots o i || is_cleared t.cleared kind
 
 -- the root of a number is taken away
 abbrev pub is_root_removed : Removals → ℕ → Bool
@@ -36,12 +41,25 @@ is_root_removed t r = has_root t.roots r
 
 -- what is taken away is what the live edits of a log take away
 pub record IsRemovedBy (dump : Dump) (log : List Event) (t : Removals) : Type 0 where
-  pub slots : (o i : ℕ) (s : SlotEntry) → o < length dump.objects → slice_get (object_at dump o).slots i ≡ Some s → is_removed t o i ≡ not (is_untouched log (object_at dump o) s)
+  pub slots : (o i : ℕ) (s : SlotEntry) → o < length dump.objects → slice_get (object_at dump o).slots i ≡ Some s → is_removed t o i s.kind ≡ not (is_untouched log (object_at dump o) s)
   pub roots : (r : ℕ) → is_root_removed t r ≡ is_dropped log r
 
--- the slots from which some edits take the references
+-- an edit takes away the reference in one slot of an object: it cuts the slot, or clears the object whose referent the
+-- slot is
+abbrev pub takes_slot : Object → SlotEntry → Edit → Bool
+takes_slot x s (edits.Cut id cut) = (x.id == id) && same_slot s.slot cut
+takes_slot x s (edits.Clear id) = (x.id == id) && is_slot s.slot x.referent
+takes_slot x s (edits.Drop r) = false
+takes_slot x s (edits.Add id) = false
+takes_slot x s (edits.ClearAll references) = false
+
+-- the slots from which some edits take the references one by one
 abbrev pub AreSlots : Dump → List Edit → List ℕ → Type 0
-AreSlots dump es keys = (o i : ℕ) (s : SlotEntry) → o < length dump.objects → slice_get (object_at dump o).slots i ≡ Some s → has_slot keys o i ≡ list_any (takes_away (object_at dump o) s) es
+AreSlots dump es keys = (o i : ℕ) (s : SlotEntry) → o < length dump.objects → slice_get (object_at dump o).slots i ≡ Some s → has_slot keys o i ≡ list_any (takes_slot (object_at dump o) s) es
+
+-- the kinds of references that some edits clear
+abbrev pub AreKinds : List Edit → Cleared → Type 0
+AreKinds es cleared = (kind : EdgeKind) → is_cleared cleared kind ≡ list_any (clears kind) es
 
 -- the roots that some edits drop
 abbrev pub AreRoots : List Edit → List ℕ → Type 0

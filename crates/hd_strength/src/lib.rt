@@ -5,14 +5,15 @@ ghost use Rattle.std.specs.Prelude.{◌≡◌, ◌<◌, length};
 ghost use Rattle.hd_terms.specs.Settled.{reached_at};
 
 mod buckets;
+mod cleared;
 mod packed_reached;
 mod removed;
 mod scratch;
 
 use hd_terms::{Strength, Support};
 use packed_reached::PackedReached;
-pub use removed::Removed;
-pub use scratch::from_scratch;
+pub use removed::{Removed, live_edit};
+pub use scratch::{from_removed, from_scratch};
 use std::marker::Model;
 
 /// What is kept of each object: its strength, what it owes it to, and its stamp.

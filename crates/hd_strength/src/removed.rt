@@ -1,14 +1,16 @@
-//! What the live edits of a log take away, found once, so that a slot or a root is one look-up.
+//! What the live edits of a log take away, found once, so that a slot or a root is one look-up. Where all references of
+//! a kind are cleared, the kind is noted, and none of its slots.
 ghost use Rattle.std.specs.Prelude.{◌≡◌, ℕ, ◌||◌, ◌<◌, length, slice_get, Some, IfOk, OnOk};
 ghost use Rattle.hd_terms.specs.declared.Event.{Event as OneEvent};
 ghost use Rattle.hd_terms.specs.Dump.{SlotEntry, object_at};
-ghost use Rattle.hd_terms.specs.EditedDump.{drops, takes_away};
+ghost use Rattle.hd_terms.specs.EditedDump.{drops};
 ghost use Rattle.hd_terms.specs.Log.{live_edit, live_flags};
-ghost use Rattle.hd_strength.specs.Removed.{has_slot, has_root, is_root_removed, is_removed, slot_key, IsNamedSlot, IsOnlySlot, IsRemovedBy};
+ghost use Rattle.hd_strength.specs.Removed.{has_slot, has_root, is_root_removed, is_removed, slot_key, takes_slot, IsNamedSlot, IsOnlySlot, IsRemovedBy};
 
+use crate::cleared::Cleared;
 use hd_graph::Graph;
 use hd_log::Front;
-use hd_terms::{Edit, NoMemory, Slot, What};
+use hd_terms::{EdgeKind, Edit, NoMemory, Slot, What};
 use indexmap::IndexSet;
 use std::alloc::Global;
 use std::marker::Model;
@@ -17,6 +19,7 @@ use std::marker::Model;
 #[derive(Drop)]
 pub struct Removed {
     slots: IndexSet<u64>,
+    cleared: Cleared,
     roots: IndexSet<u64>,
 }
 
@@ -25,7 +28,7 @@ impl Model for Removed {
 
     ghost Value = { Removals };
 
-    ghost view = { λ t. record { slots = t.slots.keys; roots = t.roots.keys } };
+    ghost view = { λ t. record { slots = t.slots.keys; cleared = t.cleared; roots = t.roots.keys } };
 }
 
 /// The key of a slot, by its object and its index.
@@ -37,7 +40,7 @@ fn slot_key(o: u32, index: u32) -> u64
 }
 
 /// The edit of event k, where it is live. The flags say which events are.
-pub(crate) fn live_edit(front: &Front, live: &[bool], k: u32) -> Option<Edit>
+pub fn live_edit(front: &Front, live: &[bool], k: u32) -> Option<Edit>
     requires event { k < length front.now }
     requires flags { live.now ≡ live_flags front.now }
     ensures { (e : OneEvent) → slice_get front.now k ≡ Some e → result ≡ live_edit front.now (k, e) }
@@ -61,9 +64,9 @@ fn named_slot_index(graph: &Graph, o: u32, name: Option<Slot>) -> Option<(u32, u
     Some((o, index))
 }
 
-/// The slot from which an edit takes the reference, if there is one: the object, and the index of the slot.
+/// The one slot from which an edit takes the reference, if there is one: the object, and the index of the slot.
 fn edited_slot(graph: &Graph, edit: Edit) -> Option<(u32, u32)>
-    ensures { IsOnlySlot graph.now (λ x s. takes_away x s edit) result }
+    ensures { IsOnlySlot graph.now (λ x s. takes_slot x s edit) result }
 {
     match edit {
         Edit::Cut(id, slot) => {
@@ -74,14 +77,14 @@ fn edited_slot(graph: &Graph, edit: Edit) -> Option<(u32, u32)>
             let o = graph.index_of(id)?;
             named_slot_index(graph, o, graph.referent_of(o))
         }
-        Edit::Drop(_) | Edit::Add(_) => None,
+        Edit::Drop(_) | Edit::Add(_) | Edit::ClearAll(_) => None,
     }
 }
 
-/// Adds the slot from which an edit takes the reference.
+/// Adds the one slot from which an edit takes the reference, if there is one.
 fn take_slot(slots: &mut IndexSet<u64>, graph: &Graph, edit: Edit) -> Result<(), NoMemory>
     ensures { OnOk result ((o i : ℕ) (s : SlotEntry) → o < length graph.now.objects → slice_get (object_at graph.now o).slots i ≡ Some s
-        → has_slot slots.new.keys o i ≡ (has_slot slots.old.keys o i || takes_away (object_at graph.now o) s edit)) }
+        → has_slot slots.new.keys o i ≡ (has_slot slots.old.keys o i || takes_slot (object_at graph.now o) s edit)) }
 {
     if let Some((o, index)) = edited_slot(graph, edit) {
         slots.insert(slot_key(o, index))?;
@@ -106,21 +109,27 @@ impl Removed {
     {
         let live = front.live(alloc)?;
         let mut slots = IndexSet::new(alloc);
+        let mut cleared = Cleared::none();
         let mut roots = IndexSet::new(alloc);
         for k in 0..front.len() {
             if let Some(edit) = live_edit(front, &live, k) {
                 take_slot(&mut slots, graph, edit)?;
+                cleared = cleared.with(edit);
                 take_root(&mut roots, edit)?;
             }
         }
-        Ok(Removed { slots, roots })
+        Ok(Removed {
+            slots,
+            cleared,
+            roots,
+        })
     }
 
-    /// Whether the reference at an index of an object's slots is taken away.
-    pub fn slot(&self, o: u32, index: u32) -> bool
-        ensures { result ≡ is_removed self.now o index }
+    /// Whether the reference at an index of an object's slots, of a kind, is taken away.
+    pub fn slot(&self, o: u32, index: u32, kind: EdgeKind) -> bool
+        ensures { result ≡ is_removed self.now o index kind }
     {
-        self.slots.contains(&slot_key(o, index))
+        self.cleared.has(kind) || self.slots.contains(&slot_key(o, index))
     }
 
     /// Whether the root of a number is taken away.

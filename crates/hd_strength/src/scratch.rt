@@ -61,7 +61,7 @@ fn added_id(edit: Edit) -> Option<u64>
 {
     match edit {
         Edit::Add(id) => Some(id),
-        Edit::Cut(_, _) | Edit::Clear(_) | Edit::Drop(_) => None,
+        Edit::Cut(_, _) | Edit::Clear(_) | Edit::Drop(_) | Edit::ClearAll(_) => None,
     }
 }
 
@@ -133,7 +133,7 @@ fn offered_at(edited: Edited<'_>, kept: &[PackedReached], o: u32, index: u32) ->
     if kept[target as usize].strength().rank() > 0 {
         return None;
     }
-    if edited.removed.slot(o, index) {
+    if edited.removed.slot(o, index, read.kind) {
         return None;
     }
     Some(kept[o as usize].strength().weaker(read.kind.strength()))
@@ -239,6 +239,29 @@ fn spread(
     Ok(kept)
 }
 
+/// Strengths, supports and stamps of the objects of a graph under a log, by what the log's live edits take away.
+pub fn from_removed(
+    alloc: Global,
+    graph: &Graph,
+    front: &Front,
+    removed: &Removed,
+) -> Result<Strengths, NoMemory>
+    requires { IsRemovedBy graph.now front.now removed.now }
+    ensures count { IfOk result (λ ks. length ks ≡ length graph.now.objects) }
+    ensures settled { IfOk result (λ ks. Settled (standing graph.now front.now) ks) }
+    ensures stamps { IfOk result (λ ks. (o : ℕ) → (reached_at ks o).stamp ≤ length graph.now.objects) }
+{
+    let edited = Edited {
+        graph,
+        front,
+        removed,
+    };
+    let kept = apply_roots(alloc, edited)?;
+    let buckets = relax_roots(alloc, edited, &kept)?;
+    let kept = spread(edited, kept, buckets)?;
+    Ok(Strengths { kept })
+}
+
 /// Strengths, supports and stamps of the objects of a graph under a log.
 pub fn from_scratch(alloc: Global, graph: &Graph, front: &Front) -> Result<Strengths, NoMemory>
     ensures count { IfOk result (λ ks. length ks ≡ length graph.now.objects) }
@@ -246,13 +269,6 @@ pub fn from_scratch(alloc: Global, graph: &Graph, front: &Front) -> Result<Stren
     ensures stamps { IfOk result (λ ks. (o : ℕ) → (reached_at ks o).stamp ≤ length graph.now.objects) }
 {
     let removed = Removed::of(alloc, graph, front)?;
-    let edited = Edited {
-        graph,
-        front,
-        removed: &removed,
-    };
-    let kept = apply_roots(alloc, edited)?;
-    let buckets = relax_roots(alloc, edited, &kept)?;
-    let kept = spread(edited, kept, buckets)?;
-    Ok(Strengths { kept })
+    let strengths = from_removed(alloc, graph, front, &removed)?;
+    Ok(strengths)
 }

@@ -9,7 +9,6 @@ use Rattle.hd_terms.specs.declared.Slot.{Slot}
 use Rattle.hd_terms.specs.declared.Slot.TheVariants as slots
 use Rattle.hd_terms.specs.declared.RefKind.{RefKind}
 use Rattle.hd_terms.specs.declared.RefKind.TheVariants as references
-use Rattle.hd_terms.specs.declared.Edit.{Edit}
 use Rattle.hd_terms.specs.declared.Edit.TheVariants as edits
 use Rattle.hd_terms.specs.declared.commands.Command.{Command}
 use Rattle.hd_terms.specs.declared.commands.Command.TheVariants as commands
@@ -137,57 +136,44 @@ only_word [] = None
 only_word (word ∷ []) = Some word
 only_word (word ∷ more ∷ rest) = None
 
--- `strength ID`
-abbrev pub strength_of : Option ℕ → Result Command LineFault
-strength_of None = Err faults.BadArgument
-strength_of (Some id) = Ok (commands.Strength id)
+-- the command that the arguments spell, where they spell one
+abbrev pub spelled : Option Command → Result Command LineFault
+spelled None = Err faults.BadArgument
+spelled (Some command) = Ok command
 
+-- `strength ID` and `slots ID`
 abbrev pub strength_command : List (List ℕ) → Result Command LineFault
-strength_command arguments = strength_of (option_and_then id_of_word (only_word arguments))
-
--- `slots ID`
-abbrev pub slots_of : Option ℕ → Result Command LineFault
-slots_of None = Err faults.BadArgument
-slots_of (Some id) = Ok (commands.Slots id)
+strength_command arguments = spelled (option_map (λ (id : ℕ). commands.Strength id) (option_and_then id_of_word (only_word arguments)))
 
 abbrev pub slots_command : List (List ℕ) → Result Command LineFault
-slots_command arguments = slots_of (option_and_then id_of_word (only_word arguments))
+slots_command arguments = spelled (option_map (λ (id : ℕ). commands.Slots id) (option_and_then id_of_word (only_word arguments)))
 
 -- `cut ID SLOT`
-abbrev pub cut_of : Option ℕ → Option Slot → Result Command LineFault
-cut_of None slot = Err faults.BadArgument
-cut_of (Some id) None = Err faults.BadArgument
-cut_of (Some id) (Some slot) = Ok (commands.Edit (edits.Cut id slot))
+abbrev pub cut_of : Option ℕ → Option Slot → Option Command
+cut_of None slot = None
+cut_of (Some id) slot = option_map (λ (s : Slot). commands.Edit (edits.Cut id s)) slot
 
 abbrev pub cut_command : List (List ℕ) → Result Command LineFault
 cut_command [] = Err faults.BadArgument
-cut_command (id ∷ rest) = cut_of (id_of_word id) (option_and_then slot_of_word (only_word rest))
+cut_command (id ∷ rest) = spelled (cut_of (id_of_word id) (option_and_then slot_of_word (only_word rest)))
 
--- `clear ID`, `add ID`, `drop R` and `clearall KIND` take one word, and ask for the edit that it spells
-abbrev pub edit_command : Option Edit → Result Command LineFault
-edit_command None = Err faults.BadArgument
-edit_command (Some edit) = Ok (commands.Edit edit)
-
+-- `clear ID`, `add ID`, `drop R` and `clearall KIND`
 abbrev pub clear_command : List (List ℕ) → Result Command LineFault
-clear_command arguments = edit_command (option_map (λ (id : ℕ). edits.Clear id) (option_and_then id_of_word (only_word arguments)))
+clear_command arguments = spelled (option_map (λ (id : ℕ). commands.Edit (edits.Clear id)) (option_and_then id_of_word (only_word arguments)))
 
 abbrev pub add_command : List (List ℕ) → Result Command LineFault
-add_command arguments = edit_command (option_map (λ (id : ℕ). edits.Add id) (option_and_then id_of_word (only_word arguments)))
+add_command arguments = spelled (option_map (λ (id : ℕ). commands.Edit (edits.Add id)) (option_and_then id_of_word (only_word arguments)))
 
 abbrev pub drop_command : List (List ℕ) → Result Command LineFault
-drop_command arguments = edit_command (option_map (λ (r : ℕ). edits.Drop r) (option_and_then root_of_word (only_word arguments)))
+drop_command arguments = spelled (option_map (λ (r : ℕ). commands.Edit (edits.Drop r)) (option_and_then root_of_word (only_word arguments)))
 
 abbrev pub clearall_command : List (List ℕ) → Result Command LineFault
-clearall_command arguments = edit_command (option_map (λ (kind : RefKind). edits.ClearAll kind) (option_and_then kind_of_word (only_word arguments)))
+clearall_command arguments = spelled (option_map (λ (kind : RefKind). commands.Edit (edits.ClearAll kind)) (option_and_then kind_of_word (only_word arguments)))
 
 -- `undo`, and `undo N`
-abbrev pub undo_of : Option ℕ → Result Command LineFault
-undo_of None = Err faults.BadArgument
-undo_of (Some k) = Ok (commands.Undo (Some k))
-
 abbrev pub undo_command : List (List ℕ) → Result Command LineFault
 undo_command [] = Ok (commands.Undo None)
-undo_command (number ∷ rest) = undo_of (option_and_then number_of_word (only_word (number ∷ rest)))
+undo_command (number ∷ rest) = spelled (option_map (λ (k : ℕ). commands.Undo (Some k)) (option_and_then number_of_word (only_word (number ∷ rest))))
 
 -- `roots`, `events` and `quit` take no word
 abbrev pub bare_command : Command → List (List ℕ) → Result Command LineFault

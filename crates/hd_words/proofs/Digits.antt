@@ -31,11 +31,11 @@ least_growth base number digit most small =
     let product : base * number ≤ 16 * number = mul-le-mul_right number most in
     omega arith
 
--- 16 digits fit
-pub digits_fit : (number i digit : ℕ) → number < 2 ^ (4 * i) → i < 16 → digit < 16 → 16 * number + digit < 2 ^ 64
+-- 20 digits fit
+pub digits_fit : (number i digit : ℕ) → number < 2 ^ (4 * i) → i < 20 → digit < 16 → 16 * number + digit < 2 ^ 128
 digits_fit number i digit small few digit_small =
-    let p : 4 * i ≤ 60 = omega arith in
-    let most : 2 ^ (4 * i) ≤ 2 ^ 60 = pow_mono p in
+    let p : 4 * i ≤ 76 = omega arith in
+    let most : 2 ^ (4 * i) ≤ 2 ^ 76 = pow_mono p in
     omega arith
 
 -- one more digit makes the number 16 times larger at most

@@ -2,12 +2,13 @@
 ghost use Rattle.std.specs.Prelude.{◌≡◌, ◌≢◌, ℕ, ◌<◌, ◌≤◌, [], ◌∷◌, length, drop, slice_index, MatchOption};
 ghost use Rattle.std.specs.Io.BufRead.{strip_last};
 ghost use Rattle.std.specs.Option.{option_and_then, option_copied};
-ghost use Rattle.hd_terms.specs.Lines.{command_of, strength_command, slots_command, cut_command, undo_command, quit_command, only_word, id_of_word, number_of_word, slot_of_word};
+ghost use Rattle.hd_terms.specs.Lines.{command_of, strength_command, slots_command, cut_command, clear_command, add_command, drop_command, clearall_command, undo_command, bare_command, only_word, id_of_word, kind_of_word, number_of_word, root_of_word, slot_of_word};
 ghost use Rattle.hd_words.specs.Words.{words_between};
 
-use crate::numbers::{read_number, read_small};
+use crate::kind_words::read_kind;
+use crate::numbers::{read_hexadecimal, read_root, read_small};
 use crate::slot_words::read_slot;
-use hd_terms::{Command, Edit, LineFault, Slot};
+use hd_terms::{Command, Edit, LineFault, RefKind, Slot};
 
 /// The most bytes of a line before its newline.
 pub const LONGEST_LINE: usize = 4096;
@@ -26,12 +27,24 @@ pub fn read_command(line: &[u8]) -> Result<Command, LineFault>
         read_strength(rest)
     } else if word == b"slots".as_slice() {
         read_slots(rest)
+    } else if word == b"roots".as_slice() {
+        read_bare(Command::Roots, rest)
     } else if word == b"cut".as_slice() {
         read_cut(rest)
+    } else if word == b"clear".as_slice() {
+        read_clear(rest)
+    } else if word == b"drop".as_slice() {
+        read_drop(rest)
+    } else if word == b"add".as_slice() {
+        read_add(rest)
+    } else if word == b"clearall".as_slice() {
+        read_clearall(rest)
     } else if word == b"undo".as_slice() {
         read_undo(rest)
+    } else if word == b"events".as_slice() {
+        read_bare(Command::Events, rest)
     } else if word == b"quit".as_slice() {
-        read_quit(rest)
+        read_bare(Command::Quit, rest)
     } else {
         Err(LineFault::UnknownCommand)
     }
@@ -43,6 +56,56 @@ fn read_strength(rest: &[u8]) -> Result<Command, LineFault>
 {
     match read_only_id(rest) {
         Some(id) => Ok(Command::Strength(id)),
+        None => Err(LineFault::BadArgument),
+    }
+}
+
+/// What follows a command without arguments is nothing.
+fn read_bare(command: Command, rest: &[u8]) -> Result<Command, LineFault>
+    ensures { result ≡ bare_command command (words_between rest.now) }
+{
+    match split_word(rest) {
+        Some(_) => Err(LineFault::BadArgument),
+        None => Ok(command),
+    }
+}
+
+/// What follows `clear` is one ID.
+fn read_clear(rest: &[u8]) -> Result<Command, LineFault>
+    ensures { result ≡ clear_command (words_between rest.now) }
+{
+    match read_only_id(rest) {
+        Some(id) => Ok(Command::Edit(Edit::Clear(id))),
+        None => Err(LineFault::BadArgument),
+    }
+}
+
+/// What follows `add` is one ID.
+fn read_add(rest: &[u8]) -> Result<Command, LineFault>
+    ensures { result ≡ add_command (words_between rest.now) }
+{
+    match read_only_id(rest) {
+        Some(id) => Ok(Command::Edit(Edit::Add(id))),
+        None => Err(LineFault::BadArgument),
+    }
+}
+
+/// What follows `drop` is the number of a root.
+fn read_drop(rest: &[u8]) -> Result<Command, LineFault>
+    ensures { result ≡ drop_command (words_between rest.now) }
+{
+    match read_only_root(rest) {
+        Some(root) => Ok(Command::Edit(Edit::Drop(root))),
+        None => Err(LineFault::BadArgument),
+    }
+}
+
+/// What follows `clearall` is a kind of reference objects.
+fn read_clearall(rest: &[u8]) -> Result<Command, LineFault>
+    ensures { result ≡ clearall_command (words_between rest.now) }
+{
+    match read_only_kind(rest) {
+        Some(kind) => Ok(Command::Edit(Edit::ClearAll(kind))),
         None => Err(LineFault::BadArgument),
     }
 }
@@ -80,16 +143,6 @@ fn read_undo(rest: &[u8]) -> Result<Command, LineFault>
     match read_only_event(rest) {
         Some(number) => Ok(Command::Undo(Some(number))),
         None => Err(LineFault::BadArgument),
-    }
-}
-
-/// What follows `quit` is nothing.
-fn read_quit(rest: &[u8]) -> Result<Command, LineFault>
-    ensures { result ≡ quit_command (words_between rest.now) }
-{
-    match split_word(rest) {
-        Some(_) => Err(LineFault::BadArgument),
-        None => Ok(Command::Quit),
     }
 }
 
@@ -170,6 +223,20 @@ fn read_only_slot(rest: &[u8]) -> Option<Slot>
     read_slot(only_word(rest)?)
 }
 
+/// The number of a root that the only word spells.
+fn read_only_root(rest: &[u8]) -> Option<u64>
+    ensures { result ≡ option_and_then root_of_word (only_word (words_between rest.now)) }
+{
+    read_root(only_word(rest)?)
+}
+
+/// The kind of reference objects that the only word spells.
+fn read_only_kind(rest: &[u8]) -> Option<RefKind>
+    ensures { result ≡ option_and_then kind_of_word (only_word (words_between rest.now)) }
+{
+    read_kind(only_word(rest)?)
+}
+
 /// The number of an event that the only word spells.
 fn read_only_event(rest: &[u8]) -> Option<u32>
     ensures { result ≡ option_and_then number_of_word (only_word (words_between rest.now)) }
@@ -181,8 +248,8 @@ fn read_only_event(rest: &[u8]) -> Option<u32>
 fn read_id(word: &[u8]) -> Option<u64>
     ensures { result ≡ id_of_word word.now }
 {
-    if word.len() < 3 || word.len() > 18 || word[0] != b'0' || word[1] != b'x' {
+    if word.len() < 2 || word[0] != b'0' || word[1] != b'x' {
         return None;
     }
-    read_number(16, &word[2..])
+    read_hexadecimal(&word[2..])
 }

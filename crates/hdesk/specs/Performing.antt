@@ -2,6 +2,7 @@
 -- Source: this project.
 use Rattle.std.specs.Prelude.{◌≡◌, ◌≢◌, ◌⊎◌, ℕ, List, Option, Result, Ok, Err}
 use Rattle.std.specs.Io.KnownBytes.{Keeps}
+use Rattle.hd_terms.specs.declared.Mode.{Mode}
 use Rattle.hd_protocol.specs.declared.run.RunFault.{RunFault}
 use Rattle.hd_protocol.specs.declared.run.RunFault.TheVariants as faults
 use Rattle.hd_protocol.specs.Running.{RunsDump}
@@ -17,18 +18,18 @@ status (Err faults.Memory) = 1
 status (Err (faults.Serve f)) = 1
 status (Err faults.Close) = 1
 
--- lines were served over the bytes that were read from a file
-pub record RunsFile (input rest before after : Option (List ℕ)) (exit : ℕ) : Type 0 where
+-- lines were served over the bytes that were read from a file, opened in a mode
+pub record RunsFile (mode : Mode) (input rest before after : Option (List ℕ)) (exit : ℕ) : Type 0 where
   pub bytes : List ℕ
   pub ended : Result (Unit {0}) RunFault
-  pub runs : RunsDump bytes input rest before after ended
+  pub runs : RunsDump mode bytes input rest before after ended
   pub exit_is : exit ≡ status ended
 
--- the counts and totals of the bytes that were read from a file were printed, and no line was read
-pub record StatsFile (input rest before after : Option (List ℕ)) (exit : ℕ) : Type 0 where
+-- the counts and totals of the bytes that were read from a file, opened in a mode, were printed, and no line was read
+pub record StatsFile (mode : Mode) (input rest before after : Option (List ℕ)) (exit : ℕ) : Type 0 where
   pub bytes : List ℕ
   pub ended : Result (Unit {0}) RunFault
-  pub stats : StatsDump bytes before after ended
+  pub stats : StatsDump mode bytes before after ended
   pub unread : Keeps input rest
   pub exit_is : exit ≡ status ended
 
@@ -40,10 +41,10 @@ pub record FailsFirst (input rest before after : Option (List ℕ)) (exit : ℕ)
 
 -- what is asked for is done over the bytes that are read from the file, or they can't be read
 abbrev pub Performs : Task → (input rest before after : Option (List ℕ)) → (exit : ℕ) → Type 0
-Performs (tasks.Run file workers) input rest before after exit = RunsFile input rest before after exit ⊎ FailsFirst input rest before after exit
-Performs (tasks.Stat file workers) input rest before after exit = StatsFile input rest before after exit ⊎ FailsFirst input rest before after exit
+Performs (tasks.Run opening) input rest before after exit = RunsFile opening.mode input rest before after exit ⊎ FailsFirst input rest before after exit
+Performs (tasks.Stat opening) input rest before after exit = StatsFile opening.mode input rest before after exit ⊎ FailsFirst input rest before after exit
 
--- a run with words: one of the two tasks is done over the bytes that are read from a file, or nothing
+-- a run with words: one of the two tasks is done over the bytes that are read from a file, in some mode, or nothing
 abbrev pub RunsWords : (input rest before after : Option (List ℕ)) → (exit : ℕ) → Type 0
 RunsWords input rest before after exit =
-    RunsFile input rest before after exit ⊎ (StatsFile input rest before after exit ⊎ FailsFirst input rest before after exit)
+    (mode : Mode) × (RunsFile mode input rest before after exit ⊎ (StatsFile mode input rest before after exit ⊎ FailsFirst input rest before after exit))

@@ -7,8 +7,8 @@ use Rattle.hdesk.specs.declared.arguments.Task.TheVariants as tasks
 
 -- a task has from one worker to the most
 abbrev pub TaskWorkers : Task → Type 0
-TaskWorkers (tasks.Run file workers) = IsWorkers workers
-TaskWorkers (tasks.Stat file workers) = IsWorkers workers
+TaskWorkers (tasks.Run opening) = IsWorkers opening.workers
+TaskWorkers (tasks.Stat opening) = IsWorkers opening.workers
 
 abbrev pub HasWorkers : Option Task → Type 0
 HasWorkers None = Unit {0}

@@ -4,16 +4,26 @@ ghost use Rattle.hd_terms.specs.Workers.{IsWorkers};
 ghost use Rattle.hdesk.specs.Tasks.{HasWorkers};
 
 use clap::{Arg, ArgMatches, Command, Error, value_parser};
-use hd_terms::MOST_WORKERS;
+use hd_terms::{MOST_WORKERS, Mode};
 use std::alloc::{AllocError, Global};
+
+/// How a file is opened.
+#[derive(Clone, Copy, Debug, PartialEq, Eq)]
+pub struct Opening<'a> {
+    pub file: &'a str,
+    /// How many threads decode it, 1 to 16.
+    pub workers: u32,
+    /// How far phantom references are followed.
+    pub mode: Mode,
+}
 
 /// What the words ask for.
 #[derive(Clone, Copy, Debug, PartialEq, Eq)]
 pub enum Task<'a> {
     /// One analyst's lines are served over a file.
-    Run { file: &'a str, workers: u32 },
+    Run(Opening<'a>),
     /// The counts and totals of a file are printed.
-    Stat { file: &'a str, workers: u32 },
+    Stat(Opening<'a>),
 }
 
 /// How many workers decode, where nothing else is said.
@@ -31,7 +41,7 @@ Examples:
 fn file_argument<'a>(alloc: Global) -> Arg<'a> {
     Arg::new(alloc, "FILE")
         .required(true)
-        .help("A heap dump in the format JAVA PROFILE 1.0.2")
+        .help("A heap dump in the format JAVA PROFILE 1.0.2 or 1.0.1")
 }
 
 /// The option that says how many workers decode.
@@ -44,12 +54,23 @@ fn workers_option<'a>(alloc: Global) -> Arg<'a> {
         .help("How many threads decode the dump, 1 to 16")
 }
 
+/// The option that says how far phantom references are followed.
+fn phantom_option<'a>(alloc: Global) -> Arg<'a> {
+    Arg::new(alloc, "phantom")
+        .long("phantom")
+        .value_name("MODE")
+        .value_parser(["direct", "closure"].as_slice())
+        .default_value("direct")
+        .help("How far phantom references are followed: to their referents, or to all behind these")
+}
+
 /// A command of the program over a file.
 fn over_file<'a>(alloc: Global, name: &'a str, about: &'a str) -> Result<Command<'a>, AllocError> {
     let command = Command::new(alloc, name)
         .about(about)
         .arg(file_argument(alloc))?
-        .arg(workers_option(alloc))?;
+        .arg(workers_option(alloc))?
+        .arg(phantom_option(alloc))?;
     Ok(command)
 }
 
@@ -85,6 +106,14 @@ fn workers_of(matches: &ArgMatches<'_>) -> u32
     }
 }
 
+/// How far phantom references are followed, as the words say.
+fn mode_of(matches: &ArgMatches<'_>) -> Mode {
+    match matches.get_str("phantom") {
+        Some("closure") => Mode::Closure,
+        _ => Mode::Direct,
+    }
+}
+
 /// What the words ask for, or `None` where they name no command.
 ///
 /// # Errors
@@ -100,9 +129,13 @@ pub fn read_arguments<'a>(alloc: Global, words: &'a [String]) -> Result<Option<T
     let Some(file) = matches.get_str("FILE") else {
         return Ok(None);
     };
-    let workers = workers_of(matches);
+    let opening = Opening {
+        file,
+        workers: workers_of(matches),
+        mode: mode_of(matches),
+    };
     if name == "stat" {
-        return Ok(Some(Task::Stat { file, workers }));
+        return Ok(Some(Task::Stat(opening)));
     }
-    Ok(Some(Task::Run { file, workers }))
+    Ok(Some(Task::Run(opening)))
 }

@@ -2,6 +2,7 @@
 ghost use Rattle.std.specs.Prelude.{◌≡◌, ◌≢◌, ◌≤◌, [], Result, Err};
 ghost use Rattle.std.specs.Io.KnownBytes.{Keeps};
 ghost use Rattle.hd_terms.specs.Workers.{IsWorkers};
+ghost use Rattle.hd_terms.specs.declared.Mode.TheVariants.{Direct};
 ghost use Rattle.hd_protocol.specs.declared.run.RunFault.{RunFault};
 ghost use Rattle.hd_protocol.specs.Running.{RunsDump};
 ghost use Rattle.hdesk.specs.Performing.{status, Performs, RunsWords};
@@ -12,6 +13,7 @@ use crate::file::{FileFault, read_file};
 use clap::Error;
 use clap::error::ErrorKind;
 use hd_protocol::{RunFault, SAMPLE, open_bytes, run_bytes, serve, stat_bytes};
+use hd_terms::Mode;
 use std::fs::File;
 use std::io::{BufRead, Write};
 use std::rt::Files;
@@ -86,13 +88,14 @@ fn run_file<T: AllocGlobal + Files<File = File> + Threads + Sync, R: BufRead, W:
     rt: &T,
     bytes: Vec<u8>,
     workers: u32,
+    mode: Mode,
     input: &mut R,
     output: &mut W,
 ) -> Result<(), RunFault>
     requires workers { IsWorkers workers }
-    ensures { RunsDump bytes.items (R.remaining input.old) (R.remaining input.new) (W.contents output.old) (W.contents output.new) result }
+    ensures { RunsDump mode bytes.items (R.remaining input.old) (R.remaining input.new) (W.contents output.old) (W.contents output.new) result }
 {
-    let state = open_bytes(rt, bytes.as_slice(), workers)?;
+    let state = open_bytes(rt, bytes.as_slice(), workers, mode)?;
     drop(bytes);
     serve(rt.alloc(), input, output, state)?;
     Ok(())
@@ -111,13 +114,20 @@ fn perform<T: AllocGlobal + Files<File = File> + Threads + Sync, R: BufRead, W: 
     ensures performs { Performs task.entry (R.remaining input.old) (R.remaining input.new) (W.contents output.old) (W.contents output.new) result }
 {
     match task {
-        Task::Run { file, workers } => match read_file(rt, file) {
-            Ok(bytes) => report(run_file(rt, bytes, workers, input, output), faults),
-            Err(fault) => report_file(fault, file, faults),
+        Task::Run(opening) => match read_file(rt, opening.file) {
+            Ok(bytes) => {
+                let ended = run_file(rt, bytes, opening.workers, opening.mode, input, output);
+                report(ended, faults)
+            }
+            Err(fault) => report_file(fault, opening.file, faults),
         },
-        Task::Stat { file, workers } => match read_file(rt, file) {
-            Ok(bytes) => report(stat_bytes(rt, bytes.as_slice(), workers, output), faults),
-            Err(fault) => report_file(fault, file, faults),
+        Task::Stat(opening) => match read_file(rt, opening.file) {
+            Ok(bytes) => {
+                let (workers, mode) = (opening.workers, opening.mode);
+                let ended = stat_bytes(rt, bytes.as_slice(), workers, mode, output);
+                report(ended, faults)
+            }
+            Err(fault) => report_file(fault, opening.file, faults),
         },
     }
 }
@@ -133,17 +143,21 @@ pub fn program<
     E: Write,
 >(rt: &T, words: &[String], input: &mut R, output: &mut W, faults: &mut E) -> u8
     ensures run { words.now ≡ [] → (ended : Result (Unit {0}) RunFault) × (result ≡ status ended)
-        × RunsDump SAMPLE (R.remaining input.old) (R.remaining input.new) (W.contents output.old) (W.contents output.new) ended }
+        × RunsDump Direct SAMPLE (R.remaining input.old) (R.remaining input.new) (W.contents output.old) (W.contents output.new) ended }
     ensures words { words.now ≢ [] → RunsWords (R.remaining input.old) (R.remaining input.new) (W.contents output.old) (W.contents output.new) result }
     ensures usage { result ≡ USAGE → Keeps (R.remaining input.old) (R.remaining input.new) × Keeps (W.contents output.old) (W.contents output.new) }
 {
     if words.is_empty() {
-        return report(run_bytes(rt, &SAMPLE, WORKERS, input, output), faults);
+        let ended = run_bytes(rt, &SAMPLE, WORKERS, Mode::Direct, input, output);
+        return report(ended, faults);
     }
     match read_arguments(rt.alloc(), words) {
         Ok(Some(task)) => perform(rt, task, input, output, faults),
         Ok(None) => {
-            let _ = writeln!(faults, "usage: hdesk [run FILE | stat FILE] [--workers N]");
+            let _ = writeln!(
+                faults,
+                "usage: hdesk [run FILE | stat FILE] [--workers N] [--phantom MODE]"
+            );
             USAGE
         }
         Err(error) => report_usage(&error, faults),

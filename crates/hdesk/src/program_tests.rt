@@ -1,6 +1,8 @@
 //! The whole program over words and files, with its exit statuses and texts.
+use crate::arguments::{Opening, Task, read_arguments};
 use crate::program::{BAD_DUMP, DONE, FAILED, USAGE, program};
 use hd_protocol::SAMPLE;
+use hd_terms::Mode;
 use std::alloc::{AllocError, Global};
 use std::fs::{self, File};
 use std::io::{self, BufRead, Read};
@@ -54,8 +56,32 @@ fn usage_of<R: AllocGlobal + Files<File = File> + Threads + Sync>(
 }
 
 #[test]
+fn tasks(rt: HostRuntime) -> Result<(), Fail> {
+    let rows: [(&[&str], u32, Mode); 3] = [
+        (&["run", "x"], 4, Mode::Direct),
+        (
+            &["run", "x", "--phantom", "closure", "--workers", "2"],
+            2,
+            Mode::Closure,
+        ),
+        (&["run", "--phantom", "direct", "x"], 4, Mode::Direct),
+    ];
+    for (words, workers, mode) in rows {
+        let words = owned(rt.alloc(), words)?;
+        let wanted = Opening {
+            file: "x",
+            workers,
+            mode,
+        };
+        let read = read_arguments(rt.alloc(), words.as_slice()).ok();
+        assert_eq!(rt; read, Some(Some(Task::Run(wanted))));
+    }
+    Ok(())
+}
+
+#[test]
 fn usage_faults(rt: HostRuntime) -> Result<(), Fail> {
-    let rows: [&[&str]; 9] = [
+    let rows: [&[&str]; 11] = [
         &["--help"],
         &["nothing"],
         &["run"],
@@ -65,6 +91,8 @@ fn usage_faults(rt: HostRuntime) -> Result<(), Fail> {
         &["run", "x", "--workers", "17"],
         &["run", "x", "--workers", "four"],
         &["run", "x", "--worker", "4"],
+        &["stat", "x", "--phantom", "both"],
+        &["run", "x", "--phantom"],
     ];
     for words in rows {
         assert!(rt; !usage_of(&rt, words)?.is_empty());

@@ -1,4 +1,4 @@
-use Rattle.hd_strength.specs.Removed.{AreSlots, AreRoots}
+use Rattle.hd_strength.specs.Removed.{AreSlots, AreKinds, AreRoots}
 use Rattle.hd_strength.proofs.RemovedLemmas.{edits_before}
 use Rattle.hd_strength.proofs.removed.Removed.of.Given as goal
 
@@ -6,5 +6,6 @@ use Rattle.hd_strength.proofs.removed.Removed.of.Given as goal
 abbrev pub invariant-loop-k : goal.invariant-loop-k
 invariant-loop-k l = record {
   slots : AreSlots l.fn.graph (edits_before l.fn.front l.k) l.slots.keys;
+  cleared : AreKinds (edits_before l.fn.front l.k) l.cleared;
   roots : AreRoots (edits_before l.fn.front l.k) l.roots.keys;
 }

@@ -4,7 +4,7 @@ use Rattle.hd_terms.specs.Settled.{Reached}
 use Rattle.hd_strength.specs.Buckets.{bucket}
 use Rattle.hd_strength.specs.Rows.{edge_at}
 use Rattle.hd_strength.specs.Growing.{IsGrowing, Every}
-use Rattle.hd_strength.proofs.scratch.from_scratch.Goals as goal
+use Rattle.hd_strength.proofs.scratch.from_removed.Goals as goal
 
 pub spread-requires-clause-growing : goal.spread-requires-clause-growing
 spread-requires-clause-growing c =
