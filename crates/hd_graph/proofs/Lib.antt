@@ -19,3 +19,4 @@ pub mod OpenLemmas
 pub mod SmallLemmas
 pub mod RepeatLemmas
 pub mod CountLemmas
+pub mod KindLemmas

@@ -133,7 +133,7 @@ none-among names slot past =
     sym (ap (λ (b : Bool). cond b (Some n) None) (le-ltb n (length names) past))
 
 -- a slot that comes before another isn't that one
-differs : (a b c : Slot) → ComesBefore a b → same_slot b c ≡ true → same_slot a c ≡ false
+pub differs : (a b c : Slot) → ComesBefore a b → same_slot b c ≡ true → same_slot a c ≡ false
 differs a b c before same =
     let kind : (slot_code b).0 ≡ (slot_code c).0 = eqb-true (slot_code b).0 (slot_code c).0 (and-left (eqb (slot_code b).0 (slot_code c).0) (eqb (slot_code b).1 (slot_code c).1) same) in
     let number : (slot_code b).1 ≡ (slot_code c).1 = eqb-true (slot_code b).1 (slot_code c).1 (and-right (eqb (slot_code b).0 (slot_code c).0) (eqb (slot_code b).1 (slot_code c).1) same) in

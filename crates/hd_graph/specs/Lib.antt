@@ -1,6 +1,7 @@
 pub mod Arrays
 pub mod Shapes
 pub mod PackedShapes
+pub mod Kinds
 pub mod GraphInside
 pub mod ArrayRows
 pub mod Noted

@@ -8,6 +8,7 @@ ghost use Rattle.hd_graph.specs.Arrays.{row_index};
 ghost use Rattle.hd_graph.specs.Shapes.{shape_bytes, slot_name, slot_kind, shape_index, shape_referent, IsNamedAt, HasFewNames};
 ghost use Rattle.hd_graph.specs.PackedShapes.{shape_view};
 
+use crate::kinds::KindLists;
 use crate::shape::{Shape, Shapes};
 use hd_names::ClassNames;
 use hd_slots::SlotTable;
@@ -24,6 +25,7 @@ pub struct Graph {
     opaque: u64,
     mode: Mode,
     names: ClassNames,
+    kinds: KindLists,
 }
 
 /// How many sub-records of objects and records have the ID of an earlier one.
@@ -103,7 +105,7 @@ fn slot_at(shape: Shape<'_>, len: u32, i: u32) -> Slot
 }
 
 /// The index of a slot among those of an object with so many, if it has the slot.
-fn index_in(shape: Shape<'_>, len: u32, slot: Slot) -> Option<u32>
+pub(crate) fn index_in(shape: Shape<'_>, len: u32, slot: Slot) -> Option<u32>
     requires { HasFewNames (shape_view shape) }
     ensures { result ≡ shape_index (shape_view shape.entry) len slot }
 {
@@ -128,7 +130,7 @@ fn recorded_bytes(shape: Shape<'_>) -> u32
 }
 
 /// The kind of the reference in a slot of an object of a shape.
-fn kind_of_slot(shape: Shape<'_>, slot: Slot) -> EdgeKind
+pub(crate) fn kind_of_slot(shape: Shape<'_>, slot: Slot) -> EdgeKind
     ensures { result ≡ slot_kind (shape_view shape.entry) slot }
 {
     if let Shape::Instance(layout) = shape
@@ -141,7 +143,7 @@ fn kind_of_slot(shape: Shape<'_>, slot: Slot) -> EdgeKind
 }
 
 /// The slot that is the referent of an object of a shape.
-fn referent_in(shape: Shape<'_>) -> Option<Slot>
+pub(crate) fn referent_in(shape: Shape<'_>) -> Option<Slot>
     ensures { result ≡ shape_referent (shape_view shape.entry) }
 {
     match shape {
@@ -165,9 +167,10 @@ impl Model for Graph {
 impl Graph {
     ghost use Rattle.hd_graph.specs.Shapes.{IsSmall, AreColumns, row_objects};
     ghost use Rattle.hd_graph.specs.GraphInside.{root_of_row, repeated_in};
+    ghost use Rattle.hd_graph.specs.Kinds.{AreKinds};
 
     /// The graph of references and shapes, a row and a shape for each object, and roots, what was repeated, how many
-    /// instances are opaque, how phantom references are followed, and the names of classes.
+    /// instances are opaque, how phantom references are followed, the names of classes, and the references of each kind.
     pub(crate) fn new(
         slot_table: SlotTable,
         shapes: Shapes,
@@ -176,11 +179,13 @@ impl Graph {
         opaque: u64,
         mode: Mode,
         names: ClassNames,
+        kinds: KindLists,
     ) -> Graph
         requires columns { AreColumns shapes.objects slot_table.ids slot_table.rows }
         requires small { All IsSmall shapes.objects }
         requires few { length slot_table.ids < 2 ^ 31 }
         requires few_roots { length roots.items < 2 ^ 32 }
+        requires kinds { AreKinds (row_objects shapes.objects slot_table.ids slot_table.rows) kinds }
         ensures { result ≡ record { mode = mode; objects = row_objects shapes.objects slot_table.ids slot_table.rows; roots = map root_of_row roots.items; repeated = repeated_in repeats; opaque = opaque; names = names } }
     {
         Graph {
@@ -191,6 +196,7 @@ impl Graph {
             opaque,
             mode,
             names,
+            kinds,
         }
     }
 
@@ -206,6 +212,14 @@ impl Graph {
         ensures { result ≡ self.now.opaque }
     {
         self.opaque
+    }
+
+    /// The references that go through referents, by their kinds.
+    pub(crate) fn kinds(&self) -> &KindLists
+        ensures kinds { AreKinds self.now.objects result.now }
+        ensures few { length self.now.objects < 2 ^ 31 }
+    {
+        &self.kinds
     }
 
     /// How phantom references are followed in this dump.

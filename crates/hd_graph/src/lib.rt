@@ -7,6 +7,7 @@ mod counts;
 mod filling;
 mod graph;
 mod instance_rows;
+mod kinds;
 mod layouts;
 mod noted;
 mod number;

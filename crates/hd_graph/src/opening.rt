@@ -12,6 +12,7 @@ ghost use Rattle.hd_graph.specs.Building.{IsReadFaultOrMemory};
 
 use crate::filling::{Rows, rows_of};
 use crate::graph::{Graph, Repeats};
+use crate::kinds::kinds_of;
 use crate::noted::{repeated_loads, repeated_strings};
 use crate::number::{Numbered, number};
 use hd_classes::Classes;
@@ -55,6 +56,7 @@ impl Graph {
         let Numbered { ids, roots, tally } = number(alloc, list, classes, id_size)?;
         let Rows { slot_table, shapes } = rows_of(alloc, ids, classes, id_size, bytes, list)?;
         let slot_table = slot_table.resolve(rt, alloc)?;
+        let kinds = kinds_of(alloc, &slot_table, &shapes)?;
         let repeats = Repeats {
             objects: tally.repeated,
             strings,
@@ -68,6 +70,7 @@ impl Graph {
             tally.opaque,
             mode,
             names,
+            kinds,
         ))
     }
 }

@@ -2,7 +2,7 @@
 use crate::dumps::{TWO_ARRAYS, graph_of};
 use hd_log::Front;
 use hd_strength::from_scratch;
-use hd_terms::{EdgeKind, Group, RootKind, Slot, Strength, Support};
+use hd_terms::{EdgeKind, Group, RefKind, RootKind, Slot, Strength, Support};
 use std::test::Fail;
 
 #[test]
@@ -109,6 +109,23 @@ fn referent(rt: HostRuntime) -> Result<(), Fail> {
     assert_eq!(rt; graph.objects(), 7);
     assert_eq!(rt; graph.referent_of(0), Some(Slot::Field(0)));
     assert_eq!(rt; graph.referent_of(1), None);
+    Ok(())
+}
+
+/// A weak reference 0x21 and a finalizer 0x31 on one array, behind the six classes, and a list of the first.
+const WEAK_AND_FINAL: &str = "ids 4\nreference-names\nsegment\nreference-classes\nroot 1\n\
+    array 1: 21 31\nreference 21 of 13: 5\nreference 31 of 16: 5\narray 5:\n";
+
+#[test]
+fn edges_of_kinds(rt: HostRuntime) -> Result<(), Fail> {
+    let graph = graph_of(&rt, rt.alloc(), WEAK_AND_FINAL).ok_or("the dump opens")?;
+    assert_eq!(rt; graph.objects(), 10);
+    assert_eq!(rt; graph.kind_len(RefKind::Soft), 0);
+    assert_eq!(rt; graph.kind_len(RefKind::Phantom), 0);
+    assert_eq!(rt; graph.kind_len(RefKind::Weak), 1);
+    assert!(rt; graph.kind_edge(RefKind::Weak, 0) == (7, Slot::Field(0)));
+    assert_eq!(rt; graph.kind_len(RefKind::Final), 1);
+    assert!(rt; graph.kind_edge(RefKind::Final, 0) == (8, Slot::Field(0)));
     Ok(())
 }
 

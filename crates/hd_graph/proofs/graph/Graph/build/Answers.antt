@@ -1,3 +1,4 @@
+use Rattle.std.proofs.Common.{inl, refl}
 use Rattle.std.proofs.lemmas.Result.{err_from_is_err_and}
 use Rattle.hd_graph.specs.Building.{columns}
 use Rattle.hd_graph.proofs.OpenLemmas.{names-within, list-within, few-and-short, object-fault, few-ids, few-roots, whole-columns, small-shapes, opened}
@@ -22,6 +23,14 @@ rows_of-requires-clause-within g c = list-within c.args.bytes.now c.args.records
 
 pub rows_of-requires-clause-classes : goal.rows_of-requires-clause-classes
 rows_of-requires-clause-classes g c = few-and-short c.args.bytes.now c.args.records.now.id_size _ _ c.args.records.now.segments c.requires.records c.args.list.now c.requires.list c.args.classes.now c.requires.classes c.requires.no_cycle
+
+pub kinds_of-requires-clause-columns : goal.kinds_of-requires-clause-columns
+kinds_of-requires-clause-columns g c = rw c.in_ok-slot_table-2.ensures (whole-columns c.args.bytes.now c.args.records.now.id_size _ _ c.args.records.now.segments c.requires.records c.args.list.now c.requires.list c.args.classes.now c.requires.classes c.requires.no_cycle _ _ _ c.in_ok-ids.ensures.ok (columns c.in_ok-slot_table.field-0.slot_table c.in_ok-slot_table.field-0.shapes.objects) c.in_ok-slot_table.ensures)
+
+pub returns-in_err-kinds-clause-err : goal.returns-in_err-kinds-clause-err
+returns-in_err-kinds-clause-err g c =
+    let p = err_from_is_err_and c.from_residual-in_err-kinds.result c.from_residual-in_err-kinds.ensures.1 in
+    rw (p.1, p.2) (inl refl)
 
 pub new-requires-clause-columns : goal.new-requires-clause-columns
 new-requires-clause-columns g c = rw c.in_ok-slot_table-2.ensures (whole-columns c.args.bytes.now c.args.records.now.id_size _ _ c.args.records.now.segments c.requires.records c.args.list.now c.requires.list c.args.classes.now c.requires.classes c.requires.no_cycle _ _ _ c.in_ok-ids.ensures.ok (columns c.in_ok-slot_table.field-0.slot_table c.in_ok-slot_table.field-0.shapes.objects) c.in_ok-slot_table.ensures)

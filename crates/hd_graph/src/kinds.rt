@@ -1,0 +1,138 @@
+//! The references of each kind that isn't strong: they go through the referents of reference objects, and are found once.
+ghost use Rattle.std.specs.Prelude.{◌≡◌, ◌<◌, ◌^◌, [], ◌∷◌, ◌++◌, if◌then◌else◌, length, slice_get, Some, IfOk, OnOk};
+ghost use Rattle.hd_terms.specs.declared.RefKind.{RefKind as OneKind};
+ghost use Rattle.hd_terms.specs.Edges.{kind_edges};
+ghost use Rattle.hd_terms.specs.Paths.{Edge};
+ghost use Rattle.hd_terms.specs.Ranks.{kind_of_references, same_kind};
+ghost use Rattle.hd_graph.specs.Shapes.{AreColumns, row_objects};
+ghost use Rattle.hd_graph.specs.Kinds.{kept_of, IsReferentEdge, KeepsEdgesOf, AreKinds};
+
+use crate::graph::{Graph, index_in, kind_of_slot, referent_in};
+use crate::shape::Shapes;
+use hd_slots::SlotTable;
+use hd_terms::{EdgeKind, RefKind, Slot};
+use std::alloc::{AllocError, Global};
+
+/// A reference from an object to an object: the number of the first, and the index of the slot among its slots.
+#[derive(Clone, Copy)]
+pub(crate) struct KeptEdge {
+    pub(crate) source: u32,
+    pub(crate) index: u32,
+}
+
+const _: () = prove!(size_of::<KeptEdge>() <= 8);
+
+/// The references that go through referents, a list for each kind, in the order of their sources.
+#[derive(Drop)]
+pub(crate) struct KindLists {
+    soft: Vec<KeptEdge>,
+    weak: Vec<KeptEdge>,
+    finals: Vec<KeptEdge>,
+    phantom: Vec<KeptEdge>,
+}
+
+impl KindLists {
+    /// The references of a kind.
+    fn of(&self, kind: RefKind) -> &[KeptEdge]
+        ensures { result.now ≡ kept_of self.now kind }
+    {
+        match kind {
+            RefKind::Soft => self.soft.as_slice(),
+            RefKind::Weak => self.weak.as_slice(),
+            RefKind::Final => self.finals.as_slice(),
+            RefKind::Phantom => self.phantom.as_slice(),
+        }
+    }
+
+    /// Keeps a reference of a kind, unless it is strong.
+    fn push(&mut self, kind: EdgeKind, edge: KeptEdge) -> Result<(), AllocError>
+        ensures { OnOk result ((k : OneKind) → kept_of self.new k ≡ kept_of self.old k ++ (if same_kind kind (kind_of_references k) then edge ∷ [] else [])) }
+    {
+        match kind {
+            EdgeKind::Strong => {}
+            EdgeKind::Soft => self.soft.push(edge)?,
+            EdgeKind::Weak => self.weak.push(edge)?,
+            EdgeKind::Final => self.finals.push(edge)?,
+            EdgeKind::Phantom => self.phantom.push(edge)?,
+        }
+        Ok(())
+    }
+}
+
+/// The index of an object's referent among its slots, and the kind of the reference there, if it refers to an object.
+fn referent_edge(slot_table: &SlotTable, shapes: &Shapes, o: u32) -> Option<(u32, EdgeKind)>
+    requires columns { AreColumns shapes.now.objects slot_table.now.ids slot_table.now.rows }
+    requires object { o < length slot_table.now.ids }
+    ensures { IsReferentEdge (row_objects shapes.now.objects slot_table.now.ids slot_table.now.rows) o result }
+{
+    let shape = shapes.get(o);
+    let Some(referent) = referent_in(shape) else {
+        return None;
+    };
+    let Some(index) = index_in(shape, slot_table.row_len(o), referent) else {
+        return None;
+    };
+    let (_, target) = slot_table.get(o, index);
+    if target.is_some() {
+        return Some((index, kind_of_slot(shape, referent)));
+    }
+    None
+}
+
+/// Keeps the reference in the referent of an object, if there is one.
+fn keep_referent(
+    lists: &mut KindLists,
+    slot_table: &SlotTable,
+    shapes: &Shapes,
+    o: u32,
+) -> Result<(), AllocError>
+    requires columns { AreColumns shapes.now.objects slot_table.now.ids slot_table.now.rows }
+    requires object { o < length slot_table.now.ids }
+    ensures { OnOk result (KeepsEdgesOf (row_objects shapes.now.objects slot_table.now.ids slot_table.now.rows) o lists.old lists.new) }
+{
+    if let Some((index, kind)) = referent_edge(slot_table, shapes, o) {
+        lists.push(kind, KeptEdge { source: o, index })?;
+    }
+    Ok(())
+}
+
+/// The references that go through referents. Only the slots of objects that have a referent are looked at.
+pub(crate) fn kinds_of(
+    alloc: Global,
+    slot_table: &SlotTable,
+    shapes: &Shapes,
+) -> Result<KindLists, AllocError>
+    requires columns { AreColumns shapes.now.objects slot_table.now.ids slot_table.now.rows }
+    requires few { length slot_table.now.ids < 2 ^ 31 }
+    ensures { IfOk result (λ lists. AreKinds (row_objects shapes.now.objects slot_table.now.ids slot_table.now.rows) lists) }
+{
+    let mut lists = KindLists {
+        soft: Vec::new(alloc),
+        weak: Vec::new(alloc),
+        finals: Vec::new(alloc),
+        phantom: Vec::new(alloc),
+    };
+    let objects = slot_table.ids().len() as u32;
+    for o in 0..objects {
+        keep_referent(&mut lists, slot_table, shapes, o)?;
+    }
+    Ok(lists)
+}
+
+impl Graph {
+    /// How many references of the dump go through the referents of reference objects of a kind, to objects.
+    pub fn kind_len(&self, kind: RefKind) -> u32
+        ensures { result ≡ length (kind_edges self.now kind) }
+    {
+        self.kinds().of(kind).len() as u32
+    }
+
+    /// One of these references, in the order of the objects' numbers: the number of the reference object, and its referent.
+    pub fn kind_edge(&self, kind: RefKind, i: u32) -> (u32, Slot)
+        requires { i < length (kind_edges self.now kind) }
+        ensures { (e : Edge) × (slice_get (kind_edges self.now kind) i ≡ Some e) × (result ≡ (e.source, e.slot)) }
+    {
+        let kept = self.kinds().of(kind)[i as usize];
+        (kept.source, self.slots(kept.source, kept.index).slot)
+    }
+}
