@@ -19,15 +19,18 @@ use Rattle.hd_strength.proofs.RowLemmas.{number_of_event}
 use Rattle.hd_state.specs.RootsShown.{added_row, dump_rows, row_by, rows_before}
 
 -- one more root of the dump
-pub dump-more : (dump : Dump) (log : List Event) (r : ℕ) (root : Root) → slice_get dump.roots r ≡ Some root → dump_rows dump log (r + 1) ≡ dump_rows dump log r ++ root_row dump log (dump_root (r, root)) ∷ []
+dump-more : (dump : Dump) (log : List Event) (r : ℕ) (root : Root) → slice_get dump.roots r ≡ Some root → dump_rows dump log (r + 1) ≡ dump_rows dump log r ++ root_row dump log (dump_root (r, root)) ∷ []
 dump-more dump log r root at =
     let before = enumerate_from 0 (take r dump.roots) in
     ap (λ (xs : List (ℕ × Root)). map (root_row dump log) (map dump_root xs)) (numbered_more dump.roots r root at)
     ∙ ap (map (root_row dump log)) (map-append dump_root before ((r, root) ∷ []))
     ∙ map-append (root_row dump log) (map dump_root before) (dump_root (r, root) ∷ [])
 
+pub dump-pushed : (dump : Dump) (log : List Event) (r : ℕ) (root : Root) (rows rows' : List RootRow) (row : RootRow) → slice_get dump.roots r ≡ Some root → rows ≡ dump_rows dump log r → row ≡ root_row dump log (dump_root (r, root)) → rows' ≡ rows ++ row ∷ [] → rows' ≡ dump_rows dump log (r + 1)
+dump-pushed dump log r root rows rows' row at so_far is pushed = pushed ∙ ap (λ (xs : List RootRow). xs ++ row ∷ []) so_far ∙ ap (λ (x : RootRow). dump_rows dump log r ++ x ∷ []) is ∙ sym (dump-more dump log r root at)
+
 -- one more event
-pub event-more : (dump : Dump) (log : List Event) (k : ℕ) (r : Option RootRow) → k < length log → ((e : Event) → slice_get log k ≡ Some e → r ≡ row_by dump log k (live_edit log (k, e)))
+event-more : (dump : Dump) (log : List Event) (k : ℕ) (r : Option RootRow) → k < length log → ((e : Event) → slice_get log k ≡ Some e → r ≡ row_by dump log k (live_edit log (k, e)))
     → rows_before dump log (k + 1) ≡ rows_before dump log k ++ cons_option r []
 event-more dump log k r lt is =
     by_event log k lt (λ e at.
@@ -37,6 +40,9 @@ event-more dump log k r lt is =
     ∙ ap (λ (rows : List RootRow). roots ++ rows) (filter_map-append (added_row dump log) before ((k, e) ∷ []))
     ∙ sym (append_assoc roots (filter_map (added_row dump log) before) (cons_option (added_row dump log (k, e)) []))
     ∙ ap (λ (o : Option RootRow). (roots ++ filter_map (added_row dump log) before) ++ cons_option o []) (sym (is e at)))
+
+pub event-pushed : (dump : Dump) (log : List Event) (k : ℕ) (r : Option RootRow) (rows rows' : List RootRow) → k < length log → ((e : Event) → slice_get log k ≡ Some e → r ≡ row_by dump log k (live_edit log (k, e))) → rows ≡ rows_before dump log k → rows' ≡ rows ++ cons_option r [] → rows' ≡ rows_before dump log (k + 1)
+event-pushed dump log k r rows rows' lt is so_far pushed = pushed ∙ ap (λ (xs : List RootRow). xs ++ cons_option r []) so_far ∙ sym (event-more dump log k r lt is)
 
 -- whether an entry's root has its number
 abbrev has_number : Dump → List Event → RootOn → Bool

@@ -1,5 +1,5 @@
 -- Whether a slot is an edge that stands.
-use Rattle.std.proofs.Common.{◌≡◌, ◌∙◌, ℕ, ◌≤◌, Bool, true, false, not, List, length, Option, Some, slice_get, refl, sym, ap}
+use Rattle.std.proofs.Common.{◌≡◌, ◌∙◌, ℕ, ◌≤◌, Bool, true, false, not, List, length, Option, Some, slice_get, sym, ap}
 use Rattle.std.specs.Prelude.{◌&&◌, is_some}
 use Rattle.std.specs.Option.{option_map_or}
 use Rattle.std.proofs.lemmas.List.{get_or_past}
@@ -8,10 +8,7 @@ use Rattle.hd_terms.specs.declared.Event.{Event}
 use Rattle.hd_terms.specs.Dump.{SlotEntry, Object, Dump, no_object, object_at}
 use Rattle.hd_terms.specs.Edges.{index_of}
 use Rattle.hd_terms.specs.EditedDump.{edge_stands, is_standing_edge, is_untouched}
-
-not_not : (b : Bool) → not (not b) ≡ b
-not_not true = refl
-not_not false = refl
+use Rattle.hd_state.proofs.RowLemmas.{not_not}
 
 -- past the last object none stands
 pub past_objects : (dump : Dump) (log : List Event) (o i : ℕ) → length dump.objects ≤ o → false ≡ edge_stands dump log o i
