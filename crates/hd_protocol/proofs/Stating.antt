@@ -4,6 +4,7 @@ use Rattle.std.specs.List.{flat_map}
 use Rattle.std.specs.Io.KnownBytes.{Keeps, Appends}
 use Rattle.std.proofs.lemmas.List.Concat.{flat_map-append}
 use Rattle.hd_terms.specs.declared.Event.{Event}
+use Rattle.hd_terms.specs.declared.Mode.{Mode}
 use Rattle.hd_terms.specs.declared.Counts.{Counts}
 use Rattle.hd_terms.specs.declared.Strength.{Strength}
 use Rattle.hd_terms.specs.Dump.{Dump}
@@ -48,8 +49,8 @@ is_stat dump log counts totals t t1 t2 none empty same are first second = record
 }
 
 -- the whole text was written, but can't be handed on
-pub not_handed_on : (bytes text : List ℕ) (before mid after : Option (List ℕ)) (result : Result (Unit {0}) RunFault) → IsStatOf bytes text → Appends before mid text → Keeps mid after
-    → result ≡ Err (faults.Serve serve_faults.Write) → StatsDump bytes before after result
-not_handed_on bytes text before mid after result stat wrote same is =
+pub not_handed_on : (mode : Mode) (bytes text : List ℕ) (before mid after : Option (List ℕ)) (result : Result (Unit {0}) RunFault) → IsStatOf mode bytes text → Appends before mid text → Keeps mid after
+    → result ≡ Err (faults.Serve serve_faults.Write) → StatsDump mode bytes before after result
+not_handed_on mode bytes text before mid after result stat wrote same is =
     let whole : take (length text) text ≡ text = take_all (length text) text (omega arith) in
-    subst (StatsDump bytes before after) (sym is) (text, stat, length text, subst (Appends before after) (sym whole) (appends_kept before mid after text wrote same))
+    subst (StatsDump mode bytes before after) (sym is) (text, stat, length text, subst (Appends before after) (sym whole) (appends_kept before mid after text wrote same))

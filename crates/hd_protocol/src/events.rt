@@ -16,11 +16,12 @@ pub fn events_text(alloc: Global, state: &State) -> Result<String, NoMemory>
 {
     let front = state.front();
     let live = front.live(alloc)?;
+    let flags = live.as_slice();
     let mut text = String::new(alloc);
     let count = front.len();
     writeln!(text, "ok {count}")?;
     for k in 0..count {
-        put_event(&mut text, k, front.event(k), live[k as usize])?;
+        put_event(&mut text, k, front.event(k), flags[k as usize])?;
     }
     Ok(text)
 }

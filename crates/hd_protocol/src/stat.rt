@@ -1,12 +1,13 @@
 //! The counts of a dump, and the totals of each strength.
-ghost use Rattle.std.specs.Prelude.{◌≡◌, ◌≤◌, [], ◌∷◌, ◌++◌, string_bytes, decimal, IfOk, OnOk};
+ghost use Rattle.std.specs.Prelude.{◌≡◌, ◌≤◌, [], ◌∷◌, ◌++◌, string_bytes, decimal, IfErr, IfOk, OnOk};
 ghost use Rattle.std.specs.List.{flat_map};
 ghost use Rattle.hd_terms.specs.Workers.{IsWorkers};
 ghost use Rattle.hd_terms.specs.declared.Strength.{Strength as OneStrength};
 ghost use Rattle.hd_terms.specs.Replies.{with_newline, strength_name};
 ghost use Rattle.hd_terms.specs.Stat.{IsStat, count_lines, repeated_line, total_line, total_lines};
 ghost use Rattle.hd_state.specs.Totals.{total_for};
-ghost use Rattle.hd_protocol.specs.Stating.{StatsDump, shown_total};
+ghost use Rattle.hd_protocol.specs.Running.{IsOpenFault};
+ghost use Rattle.hd_protocol.specs.Stating.{IsStatOf, StatsDump, shown_total};
 
 use crate::reply::strength_text;
 use crate::run::{RunFault, open_bytes};
@@ -89,6 +90,22 @@ fn stat_text(alloc: Global, state: &State) -> Result<String, NoMemory>
     Ok(text)
 }
 
+/// Opens the bytes of a dump, and makes the text of its counts and totals.
+fn stat_of_bytes<T: AllocGlobal + Threads + Sync>(
+    rt: &T,
+    bytes: &[u8],
+    workers: u32,
+    mode: Mode,
+) -> Result<String, RunFault>
+    requires workers { IsWorkers workers }
+    ensures ok { IfOk result (λ text. IsStatOf mode bytes.now (string_bytes text)) }
+    ensures err { IfErr result (λ f. IsOpenFault bytes.now f) }
+{
+    let state = open_bytes(rt, bytes, workers, mode)?;
+    let text = stat_text(rt.alloc(), &state)?;
+    Ok(text)
+}
+
 /// Opens the bytes of a dump and writes its counts and totals.
 ///
 /// `workers` is the number of threads that decode, 1 to 16; `mode` says how far phantom references are followed.
@@ -102,8 +119,7 @@ pub fn stat_bytes<T: AllocGlobal + Threads + Sync, W: Write>(
     requires workers { IsWorkers workers }
     ensures { StatsDump mode bytes.now (W.contents output.old) (W.contents output.new) result }
 {
-    let state = open_bytes(rt, bytes, workers, mode)?;
-    let text = stat_text(rt.alloc(), &state)?;
+    let text = stat_of_bytes(rt, bytes, workers, mode)?;
     put_all(output, text.as_bytes())?;
     flush(output)?;
     Ok(())
