@@ -93,7 +93,7 @@ fn run_session<R: AllocGlobal + Threads + Sync>(
 ) -> Result<(), CaseFault> {
     let dump = case.dump()?;
     let question = Question::Session(input);
-    let replies = answer_of_all(rt, dump.as_slice(), case.opening(), question)?;
+    let replies = answer_of_all(rt, dump.as_slice(), case.settings(), question)?;
     case.put(last_lines(replies.as_slice(), count))?;
     Ok(())
 }
@@ -101,7 +101,7 @@ fn run_session<R: AllocGlobal + Threads + Sync>(
 /// Writes the counts and totals of the dump.
 fn run_stat<R: AllocGlobal + Threads + Sync>(rt: &R, case: &mut Case) -> Result<(), CaseFault> {
     let dump = case.dump()?;
-    let text = answer_of_all(rt, dump.as_slice(), case.opening(), Question::Stat)?;
+    let text = answer_of_all(rt, dump.as_slice(), case.settings(), Question::Stat)?;
     case.put(text.as_slice())?;
     Ok(())
 }
