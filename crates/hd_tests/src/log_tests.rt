@@ -63,3 +63,16 @@ fn refused_appends(rt: HostRuntime) -> Result<(), Fail> {
     }
     Ok(())
 }
+
+#[test]
+fn shared_logs(rt: HostRuntime) -> Result<(), Fail> {
+    let front = two_cuts(rt.alloc())?;
+    let shared = front.share()?;
+    let empty = Front::empty(rt.alloc())?;
+    assert!(rt; shared.begins_with(&front));
+    assert!(rt; !empty.begins_with(&front));
+    assert!(rt; shared.same_own(&front, 1));
+    assert!(rt; !shared.same_own(&empty, 1));
+    assert!(rt; shared.same_own(&empty, 2));
+    Ok(())
+}

@@ -1,7 +1,9 @@
 //! States: a step answers a new one and keeps the old one, and their slots.
 use crate::dumps::{TWO_ARRAYS, graph_of};
 use hd_state::{Done, State};
-use hd_terms::{EdgeKind, Edit, Event, LogFault, Slot, SlotMode, SlotRow, Strength, What};
+use hd_terms::{
+    EdgeKind, Edit, Event, LogFault, RootMode, RootRow, Slot, SlotMode, SlotRow, Strength, What,
+};
 use std::alloc::Global;
 use std::test::Fail;
 
@@ -58,5 +60,29 @@ fn slots_of_a_state(rt: HostRuntime) -> Result<(), Fail> {
     };
     assert_eq!(rt; rows.len(), 4);
     assert!(rt; rows.get(2) == Some(&third));
+    Ok(())
+}
+
+#[test]
+fn roots_of_a_state(rt: HostRuntime) -> Result<(), Fail> {
+    let add = Event {
+        who: 0,
+        what: What::Do(Edit::Add(9)),
+    };
+    let graph = graph_of(&rt, rt.alloc(), TWO_ARRAYS).ok_or("the dump opens")?;
+    let state = State::open(rt.alloc(), graph)?;
+    let roots = u64::from(state.graph().roots_len());
+    let (next, _) = stepped(rt.alloc(), &state, add).ok_or("the log takes an added root")?;
+    let rows = next.roots(rt.alloc())?;
+    let added = RootRow {
+        number: roots,
+        kind: None,
+        id: 9,
+        mode: RootMode::Absent,
+    };
+    assert!(rt; rows.last() == Some(&added));
+    assert!(rt; next.root_stands(roots));
+    assert!(rt; !state.root_stands(roots));
+    assert!(rt; next.edge_stands(0, 0));
     Ok(())
 }
