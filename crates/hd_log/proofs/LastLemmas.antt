@@ -18,13 +18,13 @@ enumerate-push n (y ∷ xs) x =
     let same : (n + 1) + length xs ≡ n + suc (length xs) = omega arith in
     ap (λ (ys : List _). (n, y) ∷ ys) (enumerate-push (n + 1) xs x ∙ ap (λ (m : ℕ). enumerate_from (n + 1) xs ++ (m, x) ∷ []) same)
 
--- one more numbered event
-pub numbered_more : (log : List Event) (k : ℕ) (e : Event) → slice_get log k ≡ Some e → enumerate_from 0 (take (k + 1) log) ≡ enumerate_from 0 (take k log) ++ (k, e) ∷ []
-numbered_more log k e is =
-    let lt : k < length log = slice_get_within log k e is in
-    let more : take (k + 1) log ≡ take k log ++ e ∷ [] = take_more log k e lt ∙ ap (λ (x : Event). take k log ++ x ∷ []) (get_or_from_slice_get log k e e is) in
-    let count : 0 + length (take k log) ≡ k = omega (arith, length-take k log) in
-    ap (enumerate_from 0) more ∙ enumerate-push 0 (take k log) e ∙ ap (λ (m : ℕ). enumerate_from 0 (take k log) ++ (m, e) ∷ []) count
+-- one more numbered element
+pub numbered_more : {X : Type 0} (xs : List X) (k : ℕ) (x : X) → slice_get xs k ≡ Some x → enumerate_from 0 (take (k + 1) xs) ≡ enumerate_from 0 (take k xs) ++ (k, x) ∷ []
+numbered_more xs k x is =
+    let lt : k < length xs = slice_get_within xs k x is in
+    let more : take (k + 1) xs ≡ take k xs ++ x ∷ [] = take_more xs k x lt ∙ ap (λ (y : _). take k xs ++ y ∷ []) (get_or_from_slice_get xs k x x is) in
+    let count : 0 + length (take k xs) ≡ k = omega (arith, length-take k xs) in
+    ap (enumerate_from 0) more ∙ enumerate-push 0 (take k xs) x ∙ ap (λ (m : ℕ). enumerate_from 0 (take k xs) ++ (m, x) ∷ []) count
 
 -- the last of a list with what an option has
 last-option : {X : Type 0} (o : Option X) (xs : List X) (x : Option X) → last_or o (xs ++ cons_option x []) ≡ cond (is_some x) x (last_or o xs)

@@ -1,3 +1,5 @@
 pub mod FallenLemmas
+pub mod RootLemmas
 pub mod RowLemmas
+pub mod StandingLemmas
 pub mod TotalLemmas

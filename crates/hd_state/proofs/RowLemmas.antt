@@ -13,7 +13,7 @@ use Rattle.hd_terms.specs.SlotRows.{slot_row, mode_of}
 use Rattle.hd_graph.specs.declared.graph.SlotRead.{SlotRead}
 use Rattle.hd_state.specs.Shown.{shown}
 
-not_not : (b : Bool) → not (not b) ≡ b
+pub not_not : (b : Bool) → not (not b) ≡ b
 not_not true = refl
 not_not false = refl
 

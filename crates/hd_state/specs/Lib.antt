@@ -4,3 +4,4 @@ pub mod Fallen
 pub mod Shown
 pub mod Done
 pub mod Totals
+pub mod RootsShown

@@ -2,11 +2,11 @@
 ghost use Rattle.std.specs.Prelude.{◌≡◌, ◌<◌, length, IfOk};
 ghost use Rattle.hd_terms.specs.Dump.{object_at};
 ghost use Rattle.hd_terms.specs.SlotRows.{slot_rows};
+ghost use Rattle.hd_strength.specs.Removed.{IsRemovedBy};
 ghost use Rattle.hd_state.specs.Shown.{shown};
 
-use hd_graph::{Graph, SlotRead};
-use hd_log::Front;
-use hd_strength::Removed;
+use crate::edited::Edited;
+use hd_graph::SlotRead;
 use hd_terms::{NoMemory, SlotMode, SlotRow};
 use std::alloc::Global;
 
@@ -32,19 +32,16 @@ fn row_of(read: SlotRead, removed: bool) -> SlotRow
 }
 
 /// All slots of an object, in their order.
-pub(crate) fn rows_of(
-    alloc: Global,
-    graph: &Graph,
-    front: &Front,
-    o: u32,
-) -> Result<Vec<SlotRow>, NoMemory>
-    requires { o < length graph.now.objects }
-    ensures { IfOk result (λ v. v.items ≡ slot_rows graph.now front.now (object_at graph.now o)) }
+pub(crate) fn rows_of(alloc: Global, edited: Edited<'_>, o: u32) -> Result<Vec<SlotRow>, NoMemory>
+    requires removed { IsRemovedBy edited.graph.now edited.front.now edited.removed.now }
+    requires object { o < length edited.graph.now.objects }
+    ensures { IfOk result (λ v. v.items ≡ slot_rows edited.entry.graph.now edited.entry.front.now (object_at edited.entry.graph.now o)) }
 {
-    let removed = Removed::of(alloc, graph, front)?;
-    let mut rows = Vec::with_capacity(alloc, graph.slots_len(o) as usize)?;
-    for i in 0..graph.slots_len(o) {
-        rows.push(row_of(graph.slots(o, i), removed.slot(o, i)))?;
+    let slots = edited.graph.slots_len(o);
+    let mut rows = Vec::with_capacity(alloc, slots as usize)?;
+    for i in 0..slots {
+        let read = edited.graph.slots(o, i);
+        rows.push(row_of(read, edited.removed.slot(o, i, read.kind)))?;
     }
     Ok(rows)
 }

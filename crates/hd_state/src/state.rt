@@ -3,30 +3,38 @@ ghost use Rattle.std.specs.Prelude.{◌≡◌, ◌<◌, [], ◌∷◌, ◌++◌,
 ghost use Rattle.std.specs.Arc.{arc_value};
 ghost use Rattle.hd_terms.specs.Log.{log_fault};
 ghost use Rattle.hd_terms.specs.Dump.{object_at};
-ghost use Rattle.hd_terms.specs.EditedDump.{standing};
+ghost use Rattle.hd_terms.specs.EditedDump.{edge_stands, root_stands, standing};
 ghost use Rattle.hd_terms.specs.Strengths.{HasStrength};
+ghost use Rattle.hd_terms.specs.RootRows.{root_rows};
 ghost use Rattle.hd_terms.specs.SlotRows.{slot_rows};
+ghost use Rattle.hd_strength.specs.Removed.{IsRemovedBy};
 ghost use Rattle.hd_state.specs.Done.{IsDone};
 ghost use Rattle.hd_terms.specs.declared.Strength.{Strength};
 ghost use Rattle.hd_terms.specs.Totals.{IsTotal};
 ghost use Rattle.hd_state.specs.Totals.{total_for};
 
+use crate::edited::{Edited, edge_stands, root_stands};
 use crate::fallen::count_fallen;
+use crate::roots::root_rows;
 use crate::rows::rows_of;
 use crate::totals::{StrengthTotals, count_totals};
 use hd_graph::Graph;
 use hd_log::Front;
-use hd_strength::{Strengths, from_scratch};
-use hd_terms::{Event, NoMemory, SlotRow, Strength, one_strength, settled_supports_give_strengths};
+use hd_strength::{Removed, Strengths, from_removed};
+use hd_terms::{
+    Event, NoMemory, RootRow, SlotRow, Strength, one_strength, settled_supports_give_strengths,
+};
 use std::alloc::Global;
 use std::marker::Model;
 use std::sync::Arc;
 
-/// What one log makes of a dump: the dump's graph, which all states share, the log, and the strength of each object.
+/// What one log makes of a dump: the dump's graph, which all states share, the log, what its live edits take away, and the
+/// strength of each object.
 #[derive(Drop)]
 pub struct State {
     graph: Arc<Graph>,
     front: Front,
+    removed: Removed,
     strengths: Strengths,
 }
 
@@ -64,10 +72,12 @@ impl State {
         ensures log { IfOk result (λ s. s.log ≡ []) }
     {
         let front = Front::empty(alloc)?;
-        let strengths = from_scratch(alloc, &graph, &front)?;
+        let removed = Removed::of(alloc, &graph, &front)?;
+        let strengths = from_removed(alloc, &graph, &front, &removed)?;
         Ok(State {
             graph,
             front,
+            removed,
             strengths,
         })
     }
@@ -88,7 +98,8 @@ impl State {
         let Ok(front) = self.front.extend(alloc, event) else {
             return Err(NoMemory);
         };
-        let strengths = from_scratch(alloc, &self.graph, &front)?;
+        let removed = Removed::of(alloc, &self.graph, &front)?;
+        let strengths = from_removed(alloc, &self.graph, &front, &removed)?;
         let done = Done {
             event: self.front.len(),
             fell: count_fallen(&self.strengths, &strengths),
@@ -98,6 +109,7 @@ impl State {
         let state = State {
             graph,
             front,
+            removed,
             strengths,
         };
         Ok((state, done))
@@ -135,6 +147,19 @@ impl State {
         count_totals(&self.graph, &self.strengths)
     }
 
+    /// The graph as the log leaves it.
+    fn edited(&self) -> Edited<'_>
+        ensures dump { result.graph.now ≡ self.now.dump }
+        ensures log { result.front.now ≡ self.now.log }
+        ensures removed { IsRemovedBy self.now.dump self.now.log result.removed.now }
+    {
+        Edited {
+            graph: &self.graph,
+            front: &self.front,
+            removed: &self.removed,
+        }
+    }
+
     /// All slots of an object, in their order, as the log leaves them.
     ///
     /// # Errors
@@ -144,6 +169,33 @@ impl State {
         requires { o < length self.now.dump.objects }
         ensures { IfOk result (λ v. v.items ≡ slot_rows self.now.dump self.now.log (object_at self.now.dump o)) }
     {
-        rows_of(alloc, &self.graph, &self.front, o)
+        rows_of(alloc, self.edited(), o)
+    }
+
+    /// All roots in the order of their numbers, as the log leaves them: those of the dump, and those that live edits add.
+    ///
+    /// # Errors
+    ///
+    /// Memory ran out.
+    pub fn roots(&self, alloc: Global) -> Result<Vec<RootRow>, NoMemory>
+        ensures { IfOk result (λ v. v.items ≡ root_rows self.now.dump self.now.log) }
+    {
+        root_rows(alloc, self.edited())
+    }
+
+    /// Whether the slot at an index of an object is an edge that stands: its ID is an object's, and no live edit takes it
+    /// away. Past the last object and the last slot there is none. It takes no memory.
+    pub fn edge_stands(&self, o: u32, i: u32) -> bool
+        ensures { result ≡ edge_stands self.now.dump self.now.log o i }
+    {
+        edge_stands(self.edited(), o, i)
+    }
+
+    /// Whether a root has this number, one of the dump's or that of a live event that adds one, and no live edit drops it. It
+    /// takes no memory.
+    pub fn root_stands(&self, r: u64) -> bool
+        ensures { result ≡ root_stands (length self.now.dump.roots) self.now.log r }
+    {
+        root_stands(self.edited(), r)
     }
 }
