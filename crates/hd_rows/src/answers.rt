@@ -15,7 +15,7 @@ pub enum Question<'a> {
 
 /// How a dump is opened: with each number of workers up to one, and in which mode.
 #[derive(Clone, Copy)]
-pub struct Opening {
+pub struct HowOpened {
     pub most_workers: u32,
     pub mode: Mode,
 }
@@ -59,7 +59,7 @@ pub fn answer<R: AllocGlobal + Threads + Sync>(
 pub fn answer_of_all<R: AllocGlobal + Threads + Sync>(
     rt: &R,
     dump: &[u8],
-    opened: Opening,
+    opened: HowOpened,
     question: Question<'_>,
 ) -> Result<Vec<u8>, AllocError> {
     let mode = opened.mode;

@@ -1,6 +1,6 @@
 //! A case: a dump, what has been put in for a session over it, and all that has been answered so far.
 use crate::CaseFault;
-use crate::answers::Opening;
+use crate::answers::HowOpened;
 use crate::input::{InputLine, put_input};
 use hd_spell::spell;
 use hd_terms::Mode;
@@ -53,8 +53,8 @@ impl Case {
     }
 
     /// How the dump is opened: with how many workers at most, and in which mode.
-    pub fn opening(&self) -> Opening {
-        Opening {
+    pub fn opening(&self) -> HowOpened {
+        HowOpened {
             most_workers: self.most_workers,
             mode: self.mode,
         }
