@@ -1,4 +1,4 @@
--- No class dump's text begins another's, and none begins what ends at a type that there is not.
+-- No class dump's text begins another's, and none begins what ends at an unknown type.
 use Rattle.std.proofs.Common.{◌≡◌, ◌∙◌, ℕ, ◌<◌, true, false, List, [], ◌∷◌, ◌++◌, length, sym, ap, refl, append_assoc, arith}
 use Rattle.std.specs.List.{flat_map, AllByRecursion}
 use Rattle.byteorder.specs.Endian.{big_number}
@@ -97,7 +97,7 @@ fields_apart size f g x y e jf jg =
 is_or_not : (t u : ℕ) → t ≡ u → is_type t ≡ false → is_type u ≡ true → ⊥
 is_or_not t u same other known = let both : is_type u ≡ false = ap is_type (sym same) ∙ other in cc
 
--- no constant or static begins with a type that there is not
+-- no constant or static begins with an unknown type
 no_value : (size : IdSize) (n : ℕ) (key : List ℕ) (code : ℕ) (more : List ℕ) → length key ≡ n → is_type code ≡ false → IsEnd ClassValue value_text (IsClassValue size n) (values_apart size n) (key ++ code ∷ more)
 no_value size n key code more long other v z is e =
     is_or_not code v.code (same_keyed key v.key code v.code more (v.value ++ z) (long ∙ sym is.key) (e ∙ keyed v.key v.code v.value z)).1 other is.known
@@ -179,7 +179,7 @@ classes_apart size h h' cs cs' ss ss' fs fs' x y e ih ih' ics ics' iss iss' ifs 
     let d = field_lists_apart size fs fs' x y c.1 ifs ifs' in
     (same_class h h' cs cs' ss ss' fs fs' a.0 b.0 c.0 d.0, d.1)
 
--- no class begins with what stands before a type, and then a type that there is not
+-- no class begins with what stands before a type, and then an unknown type
 pub no_class : (size : IdSize) (before : List ℕ) (code : ℕ) (more : List ℕ) (h : ClassHead) (cs ss : Counted ClassValue) (fs : Counted ClassField) (y : List ℕ) → IsBeforeType size before → is_type code ≡ false
     → before ++ (code ∷ more) ≡ (class_head_text h ++ counted_text value_text cs ++ counted_text value_text ss ++ counted_text field_text fs) ++ y
     → IsClassHead size h → IsCounted (IsClassValue size 2) cs → IsCounted (IsClassValue size (id_len size)) ss → IsCounted (IsClassField size) fs → ⊥

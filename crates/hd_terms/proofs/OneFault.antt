@@ -162,7 +162,7 @@ no_other_type size (PrimitiveArray id' serial' count' element' elements) id seri
     (li ∙ sym is.0) (ls ∙ sym is.1) (lc ∙ sym is.2) in
     never_both (is_element_type element) (ap is_element_type same.3 ∙ is.3) other
 
--- nor with the fields of a class up to a type that there is not
+-- nor with the fields of a class up to an unknown type
 no_other_class_type : (size : IdSize) (s : SubRecord) (before : List ℕ) (code : ℕ) (more z : List ℕ) → IsSubRecord size s → IsBeforeType size before → is_type code ≡ false → 0x20 ∷ before ++ code ∷ more ≡ sub_record_text s ++ z → ⊥
 no_other_class_type size (RootOf kind id rest) before code more z is front other e = root_or_class kind (sym (same_tag _ _ _ _ e))
 no_other_class_type size (ClassDump head constants statics fields) before code more z is front other e =
@@ -197,7 +197,7 @@ other_type_or_short size rest id serial count element more s is li ls lc e other
     no_other_type size s id serial count element (more ++ cut.missing) [] is li ls lc other
     (ap (λ (xs : List ℕ). 0x23 ∷ xs) (sym (behind id serial count element more cut.missing)) ∙ ap (λ (xs : List ℕ). xs ++ cut.missing) (sym e) ∙ cut.whole ∙ sym (append-nil (sub_record_text s)))
 
--- nor are the fields of a class up to a type that there is not
+-- nor are the fields of a class up to an unknown type
 other_class_type_or_short : (size : IdSize) (rest before : List ℕ) (code : ℕ) (more : List ℕ) (s : SubRecord) → IsSubRecord size s → IsBeforeType size before
     → rest ≡ 0x20 ∷ before ++ code ∷ more → is_type code ≡ false → IsCutOff rest (sub_record_text s) → ⊥
 other_class_type_or_short size rest before code more s is front e other cut =

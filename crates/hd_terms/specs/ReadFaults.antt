@@ -70,7 +70,7 @@ pub data IsStuck (size : IdSize) (rest : List ℕ) : Cause → Type 0 where
   -- the fields of a primitive array up to its type, which no element has
   other_type : (id serial count : List ℕ) (element : ℕ) (more : List ℕ) → length id ≡ id_len size → length serial ≡ 4 → length count ≡ 4
       → rest ≡ 0x23 ∷ id ++ serial ++ count ++ element ∷ more → is_element_type element ≡ false → IsStuck size rest causes.UnknownType
-  -- the fields of a class up to a type that there is not
+  -- the fields of a class up to an unknown type
   other_class_type : (before : List ℕ) (code : ℕ) (more : List ℕ) → IsBeforeType size before → rest ≡ 0x20 ∷ before ++ code ∷ more → is_type code ≡ false
       → IsStuck size rest causes.UnknownType
 

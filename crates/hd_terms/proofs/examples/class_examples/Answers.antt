@@ -147,7 +147,7 @@ returns-clause-short_class c =
       };
     })
 
--- a segment that begins with a class up to a type that there is not
+-- a segment that begins with a class up to an unknown type
 of_other_type : (n : ℕ) (before : List ℕ) (code : ℕ) (more : List ℕ) → length (0x20 ∷ before ++ code ∷ more) ≡ n → n ≡ big_number 4 (four n) → n ≤ 255 → IsBeforeType sizes.Four before → is_type code ≡ false
     → IsReadFault (head_of 4 ++ segment_head n ++ 0x20 ∷ before ++ code ∷ more) (fault causes.UnknownType 40)
 of_other_type n before code more long reads low front other =
