@@ -99,9 +99,15 @@ undo_asked log who (Some k) = Ok (whats.Undo k)
 -- refused before the log is asked
 abbrev pub asked : Dump → List Event → ℕ → Command → Option (Result What Refusal)
 asked dump log who (commands.Strength id) = None
+asked dump log who (commands.Chain id) = None
 asked dump log who (commands.Slots id) = None
+asked dump log who (commands.Into id) = None
 asked dump log who commands.Roots = None
+asked dump log who (commands.Classes s) = None
+asked dump log who (commands.Members group s) = None
 asked dump log who (commands.Edit edit) = Some (unless_refused (edit_refusal dump edit) (whats.Do edit))
 asked dump log who (commands.Undo number) = Some (undo_asked log who number)
+asked dump log who commands.Mark = None
+asked dump log who (commands.Fell m) = None
 asked dump log who commands.Events = None
 asked dump log who commands.Quit = None

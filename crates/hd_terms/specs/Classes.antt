@@ -142,14 +142,18 @@ is_referent t f = is_id_type f.code && (is_text t (codes "referent") f.name && i
 abbrev pub referent_in : ClassTable → List LayoutField → Option ℕ
 referent_in t layout = position (is_referent t) layout
 
+-- the kind of a class of this name, if it is one of the four
+abbrev pub kind_called : List ℕ → Option EdgeKind
+kind_called name =
+    if bytes_eq (map slashed name) (codes "java/lang/ref/SoftReference") then Some kinds.Soft
+    else if bytes_eq (map slashed name) (codes "java/lang/ref/WeakReference") then Some kinds.Weak
+    else if bytes_eq (map slashed name) (codes "java/lang/ref/FinalReference") then Some kinds.Final
+    else if bytes_eq (map slashed name) (codes "java/lang/ref/PhantomReference") then Some kinds.Phantom
+    else None
+
 -- the kind of the class of an ID, if it is one of the four
 abbrev pub reference_kind : ClassTable → ℕ → Option EdgeKind
-reference_kind t id =
-    if is_called t (codes "java/lang/ref/SoftReference") id then Some kinds.Soft
-    else if is_called t (codes "java/lang/ref/WeakReference") id then Some kinds.Weak
-    else if is_called t (codes "java/lang/ref/FinalReference") id then Some kinds.Final
-    else if is_called t (codes "java/lang/ref/PhantomReference") id then Some kinds.Phantom
-    else None
+reference_kind t id = option_and_then (λ (span : Span). kind_called (bytes_of_span t.bytes span)) (name_of t id)
 
 -- the kind of a chain: that of its first class that is one of the four, strong where none is
 abbrev pub kind_in : ClassTable → List ClassItem → EdgeKind

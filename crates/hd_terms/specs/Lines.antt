@@ -1,15 +1,19 @@
 -- Lines of an input, and the commands that they spell.
 -- Source: this project's protocol (docs/PROTOCOL.md).
 use Rattle.std.specs.Prelude.{ℕ, ◌+◌, ◌*◌, ◌-◌, ◌==◌, Bool, true, false, ◌&&◌, nat_lt, nat_le, if◌then◌else◌, List, [], ◌∷◌, length, filter, fold, codes, Option, Some, None, Result, Ok, Err}
-use Rattle.std.specs.Option.{option_map, option_and_then}
+use Rattle.std.specs.Option.{option_map, option_and_then, option_or}
 use Rattle.std.specs.List.{slice_split}
 use Rattle.std.specs.Str.{bytes_eq}
 use Rattle.std.specs.Io.BufRead.{strip_last}
 use Rattle.hd_terms.specs.declared.Slot.{Slot}
 use Rattle.hd_terms.specs.declared.Slot.TheVariants as slots
+use Rattle.hd_terms.specs.declared.Group.{Group}
+use Rattle.hd_terms.specs.declared.Group.TheVariants as groups
 use Rattle.hd_terms.specs.declared.RefKind.{RefKind}
 use Rattle.hd_terms.specs.declared.RefKind.TheVariants as references
 use Rattle.hd_terms.specs.declared.Edit.TheVariants as edits
+use Rattle.hd_terms.specs.declared.Strength.{Strength}
+use Rattle.hd_terms.specs.declared.Strength.TheVariants as strengths
 use Rattle.hd_terms.specs.declared.commands.Command.{Command}
 use Rattle.hd_terms.specs.declared.commands.Command.TheVariants as commands
 use Rattle.hd_terms.specs.declared.commands.LineFault.{LineFault}
@@ -106,6 +110,36 @@ kind_of_word word =
     else if bytes_eq word (codes "phantom") then Some references.Phantom
     else None
 
+-- a strength is a word, in upper case
+abbrev pub strength_of_word : List ℕ → Option Strength
+strength_of_word word =
+    if bytes_eq word (codes "STRONG") then Some strengths.Strong
+    else if bytes_eq word (codes "SOFT") then Some strengths.Soft
+    else if bytes_eq word (codes "WEAK") then Some strengths.Weak
+    else if bytes_eq word (codes "FINAL") then Some strengths.Final
+    else if bytes_eq word (codes "PHANTOM") then Some strengths.Phantom
+    else if bytes_eq word (codes "UNREACHABLE") then Some strengths.Unreachable
+    else None
+
+-- the group of primitive arrays that a word names: t and the number of a basic type
+abbrev pub array_group_of_word : List ℕ → Option Group
+array_group_of_word word =
+    if bytes_eq word (codes "t4") then Some (groups.Prim 4)
+    else if bytes_eq word (codes "t5") then Some (groups.Prim 5)
+    else if bytes_eq word (codes "t6") then Some (groups.Prim 6)
+    else if bytes_eq word (codes "t7") then Some (groups.Prim 7)
+    else if bytes_eq word (codes "t8") then Some (groups.Prim 8)
+    else if bytes_eq word (codes "t9") then Some (groups.Prim 9)
+    else if bytes_eq word (codes "t10") then Some (groups.Prim 10)
+    else if bytes_eq word (codes "t11") then Some (groups.Prim 11)
+    else None
+
+-- a group is the ID of a class, the type of the elements of primitive arrays, or c for the classes
+abbrev pub group_of_word : List ℕ → Option Group
+group_of_word word =
+    if bytes_eq word (codes "c") then Some groups.Classes
+    else option_or (array_group_of_word word) (option_map (λ (id : ℕ). groups.Class id) (id_of_word word))
+
 -- the slot of a letter and a number
 abbrev pub lettered_slot : ℕ → ℕ → Option Slot
 lettered_slot letter i =
@@ -141,12 +175,22 @@ abbrev pub spelled : Option Command → Result Command LineFault
 spelled None = Err faults.BadArgument
 spelled (Some command) = Ok command
 
--- `strength ID` and `slots ID`
-abbrev pub strength_command : List (List ℕ) → Result Command LineFault
-strength_command arguments = spelled (option_map (λ (id : ℕ). commands.Strength id) (option_and_then id_of_word (only_word arguments)))
+-- a command of one ID: `strength ID`, `chain ID`, `slots ID`, `into ID`, `clear ID` and `add ID`
+abbrev pub id_command : (ℕ → Command) → List (List ℕ) → Result Command LineFault
+id_command command arguments = spelled (option_map command (option_and_then id_of_word (only_word arguments)))
 
-abbrev pub slots_command : List (List ℕ) → Result Command LineFault
-slots_command arguments = spelled (option_map (λ (id : ℕ). commands.Slots id) (option_and_then id_of_word (only_word arguments)))
+-- `classes STRENGTH`
+abbrev pub classes_command : List (List ℕ) → Result Command LineFault
+classes_command arguments = spelled (option_map (λ (s : Strength). commands.Classes s) (option_and_then strength_of_word (only_word arguments)))
+
+-- `members G STRENGTH`
+abbrev pub members_of : Option Group → Option Strength → Option Command
+members_of None strength = None
+members_of (Some group) strength = option_map (λ (s : Strength). commands.Members group s) strength
+
+abbrev pub members_command : List (List ℕ) → Result Command LineFault
+members_command [] = Err faults.BadArgument
+members_command (group ∷ rest) = spelled (members_of (group_of_word group) (option_and_then strength_of_word (only_word rest)))
 
 -- `cut ID SLOT`
 abbrev pub cut_of : Option ℕ → Option Slot → Option Command
@@ -157,13 +201,7 @@ abbrev pub cut_command : List (List ℕ) → Result Command LineFault
 cut_command [] = Err faults.BadArgument
 cut_command (id ∷ rest) = spelled (cut_of (id_of_word id) (option_and_then slot_of_word (only_word rest)))
 
--- `clear ID`, `add ID`, `drop R` and `clearall KIND`
-abbrev pub clear_command : List (List ℕ) → Result Command LineFault
-clear_command arguments = spelled (option_map (λ (id : ℕ). commands.Edit (edits.Clear id)) (option_and_then id_of_word (only_word arguments)))
-
-abbrev pub add_command : List (List ℕ) → Result Command LineFault
-add_command arguments = spelled (option_map (λ (id : ℕ). commands.Edit (edits.Add id)) (option_and_then id_of_word (only_word arguments)))
-
+-- `drop R` and `clearall KIND`
 abbrev pub drop_command : List (List ℕ) → Result Command LineFault
 drop_command arguments = spelled (option_map (λ (r : ℕ). commands.Edit (edits.Drop r)) (option_and_then root_of_word (only_word arguments)))
 
@@ -175,7 +213,11 @@ abbrev pub undo_command : List (List ℕ) → Result Command LineFault
 undo_command [] = Ok (commands.Undo None)
 undo_command (number ∷ rest) = spelled (option_map (λ (k : ℕ). commands.Undo (Some k)) (option_and_then number_of_word (only_word (number ∷ rest))))
 
--- `roots`, `events` and `quit` take no word
+-- `fell M`
+abbrev pub fell_command : List (List ℕ) → Result Command LineFault
+fell_command arguments = spelled (option_map (λ (m : ℕ). commands.Fell m) (option_and_then number_of_word (only_word arguments)))
+
+-- `roots`, `mark`, `events` and `quit` take no word
 abbrev pub bare_command : Command → List (List ℕ) → Result Command LineFault
 bare_command command [] = Ok command
 bare_command command (more ∷ rest) = Err faults.BadArgument
@@ -184,15 +226,21 @@ bare_command command (more ∷ rest) = Err faults.BadArgument
 abbrev pub command_of_words : List (List ℕ) → Result Command LineFault
 command_of_words [] = Err faults.UnknownCommand
 command_of_words (word ∷ arguments) =
-    if bytes_eq word (codes "strength") then strength_command arguments
-    else if bytes_eq word (codes "slots") then slots_command arguments
+    if bytes_eq word (codes "strength") then id_command (λ id. commands.Strength id) arguments
+    else if bytes_eq word (codes "chain") then id_command (λ id. commands.Chain id) arguments
+    else if bytes_eq word (codes "slots") then id_command (λ id. commands.Slots id) arguments
+    else if bytes_eq word (codes "into") then id_command (λ id. commands.Into id) arguments
     else if bytes_eq word (codes "roots") then bare_command commands.Roots arguments
+    else if bytes_eq word (codes "classes") then classes_command arguments
+    else if bytes_eq word (codes "members") then members_command arguments
     else if bytes_eq word (codes "cut") then cut_command arguments
-    else if bytes_eq word (codes "clear") then clear_command arguments
+    else if bytes_eq word (codes "clear") then id_command (λ id. commands.Edit (edits.Clear id)) arguments
     else if bytes_eq word (codes "drop") then drop_command arguments
-    else if bytes_eq word (codes "add") then add_command arguments
+    else if bytes_eq word (codes "add") then id_command (λ id. commands.Edit (edits.Add id)) arguments
     else if bytes_eq word (codes "clearall") then clearall_command arguments
     else if bytes_eq word (codes "undo") then undo_command arguments
+    else if bytes_eq word (codes "mark") then bare_command commands.Mark arguments
+    else if bytes_eq word (codes "fell") then fell_command arguments
     else if bytes_eq word (codes "events") then bare_command commands.Events arguments
     else if bytes_eq word (codes "quit") then bare_command commands.Quit arguments
     else Err faults.UnknownCommand
@@ -205,10 +253,16 @@ command_of line = if nat_lt longest_line (length line) then Err faults.LineTooLo
 abbrev pub is_quit_command : Result Command LineFault → Bool
 is_quit_command (Err f) = false
 is_quit_command (Ok (commands.Strength id)) = false
+is_quit_command (Ok (commands.Chain id)) = false
 is_quit_command (Ok (commands.Slots id)) = false
+is_quit_command (Ok (commands.Into id)) = false
 is_quit_command (Ok commands.Roots) = false
+is_quit_command (Ok (commands.Classes s)) = false
+is_quit_command (Ok (commands.Members group s)) = false
 is_quit_command (Ok (commands.Edit edit)) = false
 is_quit_command (Ok (commands.Undo number)) = false
+is_quit_command (Ok commands.Mark) = false
+is_quit_command (Ok (commands.Fell m)) = false
 is_quit_command (Ok commands.Events) = false
 is_quit_command (Ok commands.Quit) = true
 

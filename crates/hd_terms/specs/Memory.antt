@@ -1,6 +1,6 @@
 -- What a session remembers from one line to the next.
 -- Source: this project.
-use Rattle.std.specs.Prelude.{List, [], ◌∷◌, Option, None}
+use Rattle.std.specs.Prelude.{ℕ, List, [], ◌∷◌, ◌++◌, Option, None}
 use Rattle.hd_terms.specs.declared.Event.{Event}
 
 -- the log, the logs of the marks by their numbers, and the log to which a private part goes back, if the session is in one
@@ -17,3 +17,11 @@ beginning seen front = record { log = seen; marks = front ∷ []; home = None }
 -- the same but for the log
 abbrev pub at_log : Memory → List Event → Memory
 at_log memory log = record { log = log; marks = memory.marks; home = memory.home }
+
+-- the most marks of a session, mark 0 among them
+abbrev pub most_marks : ℕ
+most_marks = 16
+
+-- the same with one more mark, of its log
+abbrev pub with_mark : Memory → Memory
+with_mark memory = record { log = memory.log; marks = memory.marks ++ memory.log ∷ []; home = memory.home }

@@ -1,7 +1,7 @@
 -- The reply to a line: bytes that are a function of the dump, of logs and of the line.
 -- Source: this project's protocol (docs/PROTOCOL.md).
-use Rattle.std.specs.Prelude.{◌≡◌, ℕ, false, true, Bool, if◌then◌else◌, List, [], ◌∷◌, ◌++◌, length, map, codes, decimal, Option, Some, None, Result, Ok, Err}
-use Rattle.std.specs.Fmt.{digits}
+use Rattle.std.specs.Prelude.{◌≡◌, ◌⊎◌, ◌≤◌, ℕ, false, true, Bool, if◌then◌else◌, List, [], ◌∷◌, ◌++◌, length, map, slice_get, codes, decimal, Option, Some, None, Result, Ok, Err}
+use Rattle.std.specs.Option.{option_map}
 use Rattle.std.specs.List.{flat_map, enumerate_from}
 use Rattle.hd_terms.specs.declared.Strength.{Strength}
 use Rattle.hd_terms.specs.declared.Strength.TheVariants as strengths
@@ -17,6 +17,8 @@ use Rattle.hd_terms.specs.declared.RootKind.TheVariants as roots
 use Rattle.hd_terms.specs.declared.RootMode.{RootMode}
 use Rattle.hd_terms.specs.declared.RootMode.TheVariants as root_modes
 use Rattle.hd_terms.specs.declared.RootRow.{RootRow}
+use Rattle.hd_terms.specs.declared.IntoRow.{IntoRow}
+use Rattle.hd_terms.specs.declared.ClassRow.{ClassRow}
 use Rattle.hd_terms.specs.declared.Edit.{Edit}
 use Rattle.hd_terms.specs.declared.Edit.TheVariants as edits
 use Rattle.hd_terms.specs.declared.What.{What}
@@ -26,14 +28,20 @@ use Rattle.hd_terms.specs.declared.errors.LogFault.TheVariants as faults
 use Rattle.hd_terms.specs.declared.errors.Refusal.{Refusal}
 use Rattle.hd_terms.specs.declared.errors.Refusal.TheVariants as refusals
 use Rattle.hd_terms.specs.declared.Event.{Event}
+use Rattle.hd_terms.specs.Paths.{Edge, RootEntry}
 use Rattle.hd_terms.specs.Strengths.{HasStrength}
-use Rattle.hd_terms.specs.Dump.{Dump, object_at}
+use Rattle.hd_terms.specs.Chains.{IsChain}
+use Rattle.hd_terms.specs.Dump.{Root, Dump, object_at}
 use Rattle.hd_terms.specs.Edges.{index_of}
 use Rattle.hd_terms.specs.EditedDump.{standing}
 use Rattle.hd_terms.specs.Ranks.{kind_of_references}
 use Rattle.hd_terms.specs.Log.{is_live}
 use Rattle.hd_terms.specs.SlotRows.{slot_rows}
 use Rattle.hd_terms.specs.RootRows.{root_rows}
+use Rattle.hd_terms.specs.IntoRows.{into_rows}
+use Rattle.hd_terms.specs.Listed.{AreMembers, AreFallen, AreClassRows}
+use Rattle.hd_terms.specs.Names.{id_text, group_text, group_name}
+use Rattle.hd_terms.specs.Memory.{most_marks}
 use Rattle.hd_terms.specs.Fell.{FellCount}
 use Rattle.hd_terms.specs.declared.commands.Command.{Command}
 use Rattle.hd_terms.specs.declared.commands.Command.TheVariants as commands
@@ -84,11 +92,9 @@ refusal_name refusals.NotReference = codes "NotReference"
 refusal_name refusals.EmptySlot = codes "EmptySlot"
 refusal_name refusals.NothingToUndo = codes "NothingToUndo"
 refusal_name refusals.NoSuchRoot = codes "NoSuchRoot"
+refusal_name refusals.NoSuchMark = codes "NoSuchMark"
+refusal_name refusals.MarksFull = codes "MarksFull"
 refusal_name (refusals.Log f) = log_fault_name f
-
--- an ID as it is printed: 0x and hexadecimal digits in lower case, without leading zeros
-abbrev pub id_text : ℕ → List ℕ
-id_text id = codes "0x" ++ digits 16 false id
 
 -- a slot as it is printed
 abbrev pub slot_name : Slot → List ℕ
@@ -172,6 +178,34 @@ log_lines log = map (log_line log) (enumerate_from 0 log)
 abbrev pub slot_line : SlotRow → List ℕ
 slot_line row = slot_name row.slot ++ 32 ∷ kind_name row.kind ++ 32 ∷ id_text row.id ++ 32 ∷ mode_name row.mode
 
+-- `SOURCE SLOT KIND MODE`
+abbrev pub into_line : IntoRow → List ℕ
+into_line row = id_text row.source ++ 32 ∷ slot_name row.slot ++ 32 ∷ kind_name row.kind ++ 32 ∷ mode_name row.mode
+
+-- the kind of the root of a number: one of the dump's, or none where an event added it
+abbrev pub root_kind : Dump → ℕ → Option RootKind
+root_kind dump r = option_map (λ (root : Root). root.kind) (slice_get dump.roots r)
+
+-- `root R KIND ID`
+abbrev pub chain_start : Dump → RootEntry → List ℕ
+chain_start dump r = codes "root " ++ decimal r.number ++ 32 ∷ root_name (root_kind dump r.number) ++ 32 ∷ id_text (object_at dump r.target).id
+
+-- `SLOT KIND ID`
+abbrev pub link_line : Dump → Edge → List ℕ
+link_line dump e = slot_name e.slot ++ 32 ∷ kind_name e.kind ++ 32 ∷ id_text (object_at dump e.target).id
+
+-- the lines of a chain: its root, and then a line for each link
+abbrev pub chain_lines : Dump → RootEntry → List Edge → List (List ℕ)
+chain_lines dump r es = chain_start dump r ∷ map (link_line dump) es
+
+-- `G COUNT BYTES NAME`
+abbrev pub class_line : Dump → ClassRow → List ℕ
+class_line dump row = group_text row.group ++ 32 ∷ decimal row.count ++ 32 ∷ decimal row.bytes ++ 32 ∷ group_name dump row.group
+
+-- the reply to `mark` where it adds a mark of this number
+abbrev pub mark_reply : ℕ → List ℕ
+mark_reply m = answered ((codes "mark " ++ decimal m) ∷ [])
+
 -- `event E fell F back B`
 abbrev pub event_line : (event fell back : ℕ) → List ℕ
 event_line event fell back = codes "event " ++ decimal event ++ codes " fell " ++ decimal fell ++ codes " back " ++ decimal back
@@ -181,20 +215,60 @@ abbrev pub RepliesStrength : Dump → List Event → Option ℕ → List ℕ →
 RepliesStrength dump log None reply = reply ≡ refused (refusal_name refusals.NoSuchObject)
 RepliesStrength dump log (Some o) reply = (s : Strength) × HasStrength (standing dump log) o s × (reply ≡ answered (strength_name s ∷ []))
 
+-- the reply to `chain` for an object of a strength: no line where it is unreachable, else those of a chain of its strength
+abbrev pub RepliesChainOf : Dump → List Event → ℕ → Strength → List ℕ → Type 0
+RepliesChainOf dump log o s reply =
+    ((s ≡ strengths.Unreachable) × (reply ≡ answered []))
+    ⊎ ((r : RootEntry) × (es : List Edge) × IsChain (standing dump log) r es o s × (reply ≡ answered (chain_lines dump r es)))
+
+-- the reply to `chain` for the object of a number, if there is one
+abbrev pub RepliesChain : Dump → List Event → Option ℕ → List ℕ → Type 0
+RepliesChain dump log None reply = reply ≡ refused (refusal_name refusals.NoSuchObject)
+RepliesChain dump log (Some o) reply = (s : Strength) × HasStrength (standing dump log) o s × RepliesChainOf dump log o s reply
+
+-- the reply to `into` for the object of a number, if there is one: a line for each reference to it
+abbrev pub RepliesInto : Dump → List Event → Option ℕ → List ℕ → Type 0
+RepliesInto dump log None reply = reply ≡ refused (refusal_name refusals.NoSuchObject)
+RepliesInto dump log (Some o) reply = reply ≡ answered (map into_line (into_rows dump log o))
+
+-- the reply to `classes`: a line for each group that has objects of the strength
+abbrev pub RepliesClasses : Dump → List Event → Strength → List ℕ → Type 0
+RepliesClasses dump log s reply = (rows : List ClassRow) × AreClassRows dump log s rows × (reply ≡ answered (map (class_line dump) rows))
+
+-- the reply to a list of objects: the ID of each
+abbrev pub RepliesIds : (AreMeant : List ℕ → Type 0) → List ℕ → Type 0
+RepliesIds AreMeant reply = (ids : List ℕ) × AreMeant ids × (reply ≡ answered (map id_text ids))
+
+-- the reply to `fell` for the log of a mark, if there is one: the objects that fell since
+abbrev pub RepliesFell : Dump → List Event → Option (List Event) → List ℕ → Type 0
+RepliesFell dump log None reply = reply ≡ refused (refusal_name refusals.NoSuchMark)
+RepliesFell dump log (Some before) reply = RepliesIds (AreFallen dump before log) reply
+
+-- the reply to `mark` where it is refused: there are as many marks as there may be
+pub record RefusesMark (marks : List (List Event)) (reply : List ℕ) : Type 0 where
+  pub full : most_marks ≤ length marks
+  pub reply_is : reply ≡ refused (refusal_name refusals.MarksFull)
+
 -- the reply to `slots` for the object of a number, if there is one: a line for each of its slots
 abbrev pub RepliesSlots : Dump → List Event → Option ℕ → List ℕ → Type 0
 RepliesSlots dump log None reply = reply ≡ refused (refusal_name refusals.NoSuchObject)
 RepliesSlots dump log (Some o) reply = reply ≡ answered (map slot_line (slot_rows dump log (object_at dump o)))
 
--- the reply to a command that asks nothing of the log, under the session's log and the logs of its marks. What an edit or an
--- undo is answered isn't said here
+-- the reply to a command that adds neither an event nor a mark, under the session's log and the logs of its marks. What an
+-- edit, an undo or a new mark is answered isn't said here
 abbrev pub RepliesTo : Dump → (log : List Event) → (marks : List (List Event)) → Result Command LineFault → List ℕ → Type 0
 RepliesTo dump log marks (Err f) reply = reply ≡ refused (line_fault_name f)
 RepliesTo dump log marks (Ok (commands.Strength id)) reply = RepliesStrength dump log (index_of dump.objects id) reply
+RepliesTo dump log marks (Ok (commands.Chain id)) reply = RepliesChain dump log (index_of dump.objects id) reply
 RepliesTo dump log marks (Ok (commands.Slots id)) reply = RepliesSlots dump log (index_of dump.objects id) reply
+RepliesTo dump log marks (Ok (commands.Into id)) reply = RepliesInto dump log (index_of dump.objects id) reply
 RepliesTo dump log marks (Ok commands.Roots) reply = reply ≡ answered (map root_line (root_rows dump log))
+RepliesTo dump log marks (Ok (commands.Classes s)) reply = RepliesClasses dump log s reply
+RepliesTo dump log marks (Ok (commands.Members group s)) reply = RepliesIds (AreMembers dump log group s) reply
 RepliesTo dump log marks (Ok (commands.Edit edit)) reply = ⊥
 RepliesTo dump log marks (Ok (commands.Undo number)) reply = ⊥
+RepliesTo dump log marks (Ok commands.Mark) reply = RefusesMark marks reply
+RepliesTo dump log marks (Ok (commands.Fell m)) reply = RepliesFell dump log (slice_get marks m) reply
 RepliesTo dump log marks (Ok commands.Events) reply = reply ≡ answered (log_lines log)
 RepliesTo dump log marks (Ok commands.Quit) reply = reply ≡ answered []
 
@@ -219,9 +293,15 @@ out_of_memory_reply = refused (log_fault_name faults.OutOfMemory)
 abbrev pub takes_memory : Result Command LineFault → Bool
 takes_memory (Err f) = false
 takes_memory (Ok (commands.Strength id)) = false
+takes_memory (Ok (commands.Chain id)) = true
 takes_memory (Ok (commands.Slots id)) = true
+takes_memory (Ok (commands.Into id)) = true
 takes_memory (Ok commands.Roots) = true
+takes_memory (Ok (commands.Classes s)) = true
+takes_memory (Ok (commands.Members group s)) = true
 takes_memory (Ok (commands.Edit edit)) = true
 takes_memory (Ok (commands.Undo number)) = true
+takes_memory (Ok commands.Mark) = true
+takes_memory (Ok (commands.Fell m)) = true
 takes_memory (Ok commands.Events) = true
 takes_memory (Ok commands.Quit) = false

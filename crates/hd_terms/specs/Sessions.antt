@@ -1,17 +1,18 @@
 -- Sessions: what one analyst's lines are answered, one after another.
 -- Source: this project. A session beside other analysts is the general form; alone, each turn begins with what the last
 -- one left.
-use Rattle.std.specs.Prelude.{◌≡◌, ℕ, ◌⊎◌, true, false, List, [], ◌∷◌, ◌++◌, length, map, Some, None, Ok, Err}
+use Rattle.std.specs.Prelude.{◌≡◌, ℕ, ◌<◌, ◌⊎◌, true, false, List, [], ◌∷◌, ◌++◌, length, map, Some, None, Ok, Err}
 use Rattle.std.specs.List.{flat_map, AllByRecursion}
 use Rattle.hd_terms.specs.declared.Event.{Event}
 use Rattle.hd_terms.specs.Dump.{Dump}
 use Rattle.hd_terms.specs.declared.What.{What}
 use Rattle.hd_terms.specs.declared.errors.Refusal.{Refusal}
 use Rattle.hd_terms.specs.declared.commands.Command.{Command}
-use Rattle.hd_terms.specs.Memory.{Memory, beginning, at_log}
+use Rattle.hd_terms.specs.declared.commands.Command.TheVariants as commands
+use Rattle.hd_terms.specs.Memory.{Memory, beginning, at_log, most_marks, with_mark}
 use Rattle.hd_terms.specs.Appending.{append_refusal}
 use Rattle.hd_terms.specs.Lines.{command_of, whole_lines, lines_of, run_lines, is_quit}
-use Rattle.hd_terms.specs.Replies.{IsReply, RepliesDone, refused, refusal_name, out_of_memory_reply, takes_memory}
+use Rattle.hd_terms.specs.Replies.{IsReply, RepliesDone, mark_reply, refused, refusal_name, out_of_memory_reply, takes_memory}
 use Rattle.hd_terms.specs.Asking.{asked}
 use Rattle.hd_terms.specs.Log.{IsLawful, own}
 
@@ -45,7 +46,7 @@ LeavesLog t log = t.after ≡ at_log t.before log
 
 -- what a turn of an analyst may be
 pub data IsTurn (dump : Dump) (who : ℕ) (t : Turn) : Type 0 where
-  -- a line that asks nothing of the log: the reply is the one under its log, and nothing is added
+  -- a line that adds neither an event nor a mark: the reply is the one under its log and its marks
   answered : IsReply dump t.before.log t.before.marks t.line t.reply → t.found ≡ t.before.log → LeavesLog t t.found → IsTurn dump who t
   -- an edit or undo that is refused before the log is asked
   declined : (c : Command) (r : Refusal) → command_of t.line ≡ Ok c → asked dump t.before.log who c ≡ Some (Err r) → t.reply ≡ refused (refusal_name r)
@@ -57,6 +58,9 @@ pub data IsTurn (dump : Dump) (who : ℕ) (t : Turn) : Type 0 where
   accepted : (c : Command) (what : What) → command_of t.line ≡ Ok c → asked dump t.before.log who c ≡ Some (Ok what)
       → append_refusal (length dump.roots) t.found (event_by who what) ≡ None → RepliesDone dump t.found (with_event t.found (event_by who what)) t.reply
       → LeavesLog t (with_event t.found (event_by who what)) → IsTurn dump who t
+  -- a mark is added: it keeps the log, and its number is answered
+  marked : command_of t.line ≡ Ok commands.Mark → length t.before.marks < most_marks → t.reply ≡ mark_reply (length t.before.marks)
+      → t.found ≡ t.before.log → t.after ≡ with_mark t.before → IsTurn dump who t
   -- a command that finds no memory: nothing is added
   out_of_memory : takes_memory (command_of t.line) ≡ true → t.reply ≡ out_of_memory_reply → t.found ≡ t.before.log → LeavesLog t t.found → IsTurn dump who t
 

@@ -9,11 +9,15 @@ use Rattle.hd_terms.specs.Strengths.{HasStrength}
 use Rattle.hd_terms.specs.Dump.{Dump, object_at}
 use Rattle.hd_terms.specs.EditedDump.{standing}
 
+-- a test decides which objects are meant
+abbrev pub Decides : Dump → (IsMeant : ℕ → Type 0) → (ℕ → Bool) → Type 0
+Decides dump IsMeant has = (o : ℕ) → o < length dump.objects → (has o ≡ true) ↔ IsMeant o
+
 -- the number of the objects that are meant, and the sum of their recorded bytes; `has` is a test that decides which
 -- objects are meant
 pub record IsTotalOf (dump : Dump) (IsMeant : ℕ → Type 0) (count bytes : ℕ) : Type 0 where
   pub has : ℕ → Bool
-  pub decides : (o : ℕ) → o < length dump.objects → (has o ≡ true) ↔ IsMeant o
+  pub decides : Decides dump IsMeant has
   pub count_is : count ≡ count_by has (range_with_len 0 (length dump.objects))
   pub bytes_is : bytes ≡ sum_by (λ o. if has o then (object_at dump o).bytes else 0) (range_with_len 0 (length dump.objects))
 
@@ -21,6 +25,10 @@ pub record IsTotalOf (dump : Dump) (IsMeant : ℕ → Type 0) (count bytes : ℕ
 abbrev pub IsTotal : Dump → List Event → Strength → (count bytes : ℕ) → Type 0
 IsTotal dump log s count bytes = IsTotalOf dump (λ o. HasStrength (standing dump log) o s) count bytes
 
+-- an object is of a group and has a strength under a log
+abbrev pub IsMember : Dump → List Event → Group → Strength → ℕ → Type 0
+IsMember dump log group s o = ((object_at dump o).group ≡ group) × HasStrength (standing dump log) o s
+
 -- the objects of a group and a strength under a log
 abbrev pub IsGroupTotal : Dump → List Event → Group → Strength → (count bytes : ℕ) → Type 0
-IsGroupTotal dump log group s count bytes = IsTotalOf dump (λ o. ((object_at dump o).group ≡ group) × HasStrength (standing dump log) o s) count bytes
+IsGroupTotal dump log group s count bytes = IsTotalOf dump (IsMember dump log group s) count bytes

@@ -1,19 +1,31 @@
 //! What a line of an analyst asks for.
-use crate::Edit;
+use crate::{Edit, Group, Strength};
 
 /// A command, as a line spells it.
 #[derive(Clone, Copy, Debug, PartialEq, Eq)]
 pub enum Command {
     /// The strength of the object of an ID.
     Strength(u64),
+    /// A chain from a root to the object of an ID.
+    Chain(u64),
     /// The slots of the object of an ID.
     Slots(u64),
+    /// The references to the object of an ID.
+    Into(u64),
     /// The roots, those of the dump and those that were added.
     Roots,
+    /// The groups that have objects of a strength.
+    Classes(Strength),
+    /// The objects of a group that have a strength.
+    Members(Group, Strength),
     /// An edit is added to the log.
     Edit(Edit),
     /// The event of a number is taken back; without a number the last of the analyst's own edits that is live.
     Undo(Option<u32>),
+    /// The log as it is now is kept, to be compared with later.
+    Mark,
+    /// The objects that have become unreachable since the mark of a number.
+    Fell(u32),
     /// The events of the log.
     Events,
     /// The end of the session.

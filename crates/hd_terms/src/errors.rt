@@ -54,7 +54,7 @@ impl<T: Drop> From<AllocFailed<T>> for LogFault {
     }
 }
 
-/// Why an edit or an undo is refused. The first that holds is answered.
+/// Why a command is refused. The first that holds is answered.
 #[derive(Clone, Copy, Debug, PartialEq, Eq)]
 pub enum Refusal {
     /// No object of the dump has the ID.
@@ -71,6 +71,10 @@ pub enum Refusal {
     NothingToUndo,
     /// A root has this number neither in the dump nor by a live edit that adds it.
     NoSuchRoot,
+    /// The analyst has no mark of this number.
+    NoSuchMark,
+    /// The analyst has 16 marks, and takes no more.
+    MarksFull,
     /// The log doesn't take the event.
     Log(LogFault),
 }

@@ -211,6 +211,18 @@ pub struct SlotRow {
     pub mode: SlotMode,
 }
 
+/// A reference to an object as it is shown under a log.
+#[derive(Clone, Copy, Debug, PartialEq, Eq)]
+pub struct IntoRow {
+    /// The ID of the object that the reference is from.
+    pub source: u64,
+    pub slot: Slot,
+    /// What the reference goes through.
+    pub kind: EdgeKind,
+    /// It stands, or a live edit takes it away.
+    pub mode: SlotMode,
+}
+
 /// A what-if edit. It is never written to the dump. A `u64` is an object's ID, in `Drop` a root's number.
 #[derive(Clone, Copy, Debug, PartialEq, Eq)]
 pub enum Edit {
@@ -271,6 +283,14 @@ pub enum Group {
     Class(u64),
     Prim(u8),
     Classes,
+}
+
+/// The objects of a group that have a strength: how many there are, and their recorded bytes.
+#[derive(Clone, Copy, Debug, PartialEq, Eq)]
+pub struct ClassRow {
+    pub group: Group,
+    pub count: u64,
+    pub bytes: u64,
 }
 
 /// What an object owes its strength to.
