@@ -43,15 +43,6 @@ pub record IsSourceOf (bytes : List ℕ) (records : Records) (list : List Sub) (
   pub of_list : s.list.now ≡ list
   pub kept : IsSource s
 
--- the kind of a class of this name, if it is one of the four
-abbrev pub kind_called : List ℕ → Option EdgeKind
-kind_called name =
-    if bytes_eq (map slashed name) (codes "java/lang/ref/SoftReference") then Some kinds.Soft
-    else if bytes_eq (map slashed name) (codes "java/lang/ref/WeakReference") then Some kinds.Weak
-    else if bytes_eq (map slashed name) (codes "java/lang/ref/FinalReference") then Some kinds.Final
-    else if bytes_eq (map slashed name) (codes "java/lang/ref/PhantomReference") then Some kinds.Phantom
-    else None
-
 -- the kind of a chain, by the IDs of its classes
 abbrev pub kind_among : ClassTable → List ℕ → EdgeKind
 kind_among t chain = unwrap_or (slice_get (filter_map (reference_kind t) chain) 0) kinds.Strong

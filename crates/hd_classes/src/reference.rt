@@ -4,7 +4,7 @@ ghost use Rattle.std.specs.List.{filter_map};
 ghost use Rattle.hd_terms.specs.declared.EdgeKind.TheVariants as kinds;
 ghost use Rattle.hd_terms.specs.Classes as classes;
 ghost use Rattle.hd_classes.specs.Known.{field_view};
-ghost use Rattle.hd_classes.specs.Sources.{IsSource, table_of, kind_called, kind_among};
+ghost use Rattle.hd_classes.specs.Sources.{IsSource, table_of, kind_among};
 
 use crate::known::LayoutField;
 use crate::names::is_named;
@@ -27,7 +27,7 @@ const PHANTOM: &[u8; 30] = b"java/lang/ref/PhantomReference";
 
 /// The kind of a class of this name, if it is one of the four.
 fn kind_called(name: &[u8]) -> Option<EdgeKind>
-    ensures { result ≡ kind_called name.now }
+    ensures { result ≡ classes.kind_called name.now }
 {
     if is_named(name, SOFT) {
         return Some(EdgeKind::Soft);

@@ -222,6 +222,17 @@ abbrev pub bare_command : Command → List (List ℕ) → Result Command LineFau
 bare_command command [] = Ok command
 bare_command command (more ∷ rest) = Err faults.BadArgument
 
+-- the commands that change the log
+abbrev pub change_command : List ℕ → List (List ℕ) → Result Command LineFault
+change_command word arguments =
+    if bytes_eq word (codes "cut") then cut_command arguments
+    else if bytes_eq word (codes "clear") then id_command (λ id. commands.Edit (edits.Clear id)) arguments
+    else if bytes_eq word (codes "drop") then drop_command arguments
+    else if bytes_eq word (codes "add") then id_command (λ id. commands.Edit (edits.Add id)) arguments
+    else if bytes_eq word (codes "clearall") then clearall_command arguments
+    else if bytes_eq word (codes "undo") then undo_command arguments
+    else Err faults.UnknownCommand
+
 -- the first word decides, in lower case; then the arguments have to fit
 abbrev pub command_of_words : List (List ℕ) → Result Command LineFault
 command_of_words [] = Err faults.UnknownCommand
@@ -233,17 +244,11 @@ command_of_words (word ∷ arguments) =
     else if bytes_eq word (codes "roots") then bare_command commands.Roots arguments
     else if bytes_eq word (codes "classes") then classes_command arguments
     else if bytes_eq word (codes "members") then members_command arguments
-    else if bytes_eq word (codes "cut") then cut_command arguments
-    else if bytes_eq word (codes "clear") then id_command (λ id. commands.Edit (edits.Clear id)) arguments
-    else if bytes_eq word (codes "drop") then drop_command arguments
-    else if bytes_eq word (codes "add") then id_command (λ id. commands.Edit (edits.Add id)) arguments
-    else if bytes_eq word (codes "clearall") then clearall_command arguments
-    else if bytes_eq word (codes "undo") then undo_command arguments
     else if bytes_eq word (codes "mark") then bare_command commands.Mark arguments
     else if bytes_eq word (codes "fell") then fell_command arguments
     else if bytes_eq word (codes "events") then bare_command commands.Events arguments
     else if bytes_eq word (codes "quit") then bare_command commands.Quit arguments
-    else Err faults.UnknownCommand
+    else change_command word arguments
 
 -- the command that a line spells, or the first of its faults: too long, unknown, a wrong argument
 abbrev pub command_of : List ℕ → Result Command LineFault

@@ -15,10 +15,13 @@ id_text id = codes "0x" ++ digits 16 false id
 abbrev pub hex_digit_text : ℕ → ℕ
 hex_digit_text n = if nat_lt n 10 then 48 + n else 87 + n
 
--- a byte of a name as it is printed: itself from 0x21 to 0x7e, but for the backslash; any other byte as \x and two
--- hexadecimal digits
+-- a byte as \x and two hexadecimal digits
+abbrev pub escaped : ℕ → List ℕ
+escaped b = 0x5c ∷ 0x78 ∷ hex_digit_text (b / 16) ∷ hex_digit_text (b % 16) ∷ []
+
+-- a byte of a name as it is printed: itself from 0x21 to 0x7e, but for the backslash; any other byte escaped
 abbrev pub name_byte : ℕ → List ℕ
-name_byte b = if (nat_le 0x21 b && nat_le b 0x7e) && not (b == 0x5c) then b ∷ [] else 0x5c ∷ 0x78 ∷ hex_digit_text (b / 16) ∷ hex_digit_text (b % 16) ∷ []
+name_byte b = if (nat_le 0x21 b && nat_le b 0x7e) && not (b == 0x5c) then b ∷ [] else escaped b
 
 -- the name of a class; a question mark where it has none, or an empty one
 abbrev pub class_name : Option (List ℕ) → List ℕ

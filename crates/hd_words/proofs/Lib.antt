@@ -1,2 +1,3 @@
-pub mod Words
+pub mod WordLemmas
 pub mod Digits
+pub mod FlatMaps

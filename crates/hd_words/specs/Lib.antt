@@ -1,2 +1,3 @@
 pub mod Words
 pub mod SlotWords
+pub mod EventLines

@@ -1,14 +1,15 @@
 //! The commands that lines spell.
-ghost use Rattle.std.specs.Prelude.{◌≡◌, ◌≢◌, ℕ, ◌<◌, ◌≤◌, [], ◌∷◌, length, drop, slice_index, MatchOption};
-ghost use Rattle.std.specs.Io.BufRead.{strip_last};
-ghost use Rattle.std.specs.Option.{option_and_then, option_copied};
-ghost use Rattle.hd_terms.specs.Lines.{command_of, strength_command, slots_command, cut_command, clear_command, add_command, drop_command, clearall_command, undo_command, bare_command, only_word, id_of_word, kind_of_word, number_of_word, root_of_word, slot_of_word};
+ghost use Rattle.std.specs.Prelude.{◌≡◌};
+ghost use Rattle.hd_terms.specs.Lines.{bare_command, change_command, command_of, cut_command, members_command, spelled, undo_command};
 ghost use Rattle.hd_words.specs.Words.{words_between};
 
-use crate::kind_words::read_kind;
-use crate::numbers::{read_hexadecimal, read_root, read_small};
-use crate::slot_words::read_slot;
-use hd_terms::{Command, Edit, LineFault, RefKind, Slot};
+use crate::arguments::{
+    read_id, read_only_id, read_only_kind, read_only_number, read_only_root, read_only_slot,
+    read_only_strength,
+};
+use crate::group_words::read_group;
+use crate::words::{split_word, without_return};
+use hd_terms::{Command, Edit, LineFault};
 
 /// The most bytes of a line before its newline.
 pub const LONGEST_LINE: usize = 4096;
@@ -24,38 +25,59 @@ pub fn read_command(line: &[u8]) -> Result<Command, LineFault>
         return Err(LineFault::UnknownCommand);
     };
     if word == b"strength".as_slice() {
-        read_strength(rest)
+        spelled(read_only_id(rest).map(|id| Command::Strength(id)))
+    } else if word == b"chain".as_slice() {
+        spelled(read_only_id(rest).map(|id| Command::Chain(id)))
     } else if word == b"slots".as_slice() {
-        read_slots(rest)
+        spelled(read_only_id(rest).map(|id| Command::Slots(id)))
+    } else if word == b"into".as_slice() {
+        spelled(read_only_id(rest).map(|id| Command::Into(id)))
     } else if word == b"roots".as_slice() {
         read_bare(Command::Roots, rest)
-    } else if word == b"cut".as_slice() {
-        read_cut(rest)
-    } else if word == b"clear".as_slice() {
-        read_clear(rest)
-    } else if word == b"drop".as_slice() {
-        read_drop(rest)
-    } else if word == b"add".as_slice() {
-        read_add(rest)
-    } else if word == b"clearall".as_slice() {
-        read_clearall(rest)
-    } else if word == b"undo".as_slice() {
-        read_undo(rest)
+    } else if word == b"classes".as_slice() {
+        spelled(read_only_strength(rest).map(|strength| Command::Classes(strength)))
+    } else if word == b"members".as_slice() {
+        read_members(rest)
+    } else if word == b"mark".as_slice() {
+        read_bare(Command::Mark, rest)
+    } else if word == b"fell".as_slice() {
+        spelled(read_only_number(rest).map(|mark| Command::Fell(mark)))
     } else if word == b"events".as_slice() {
         read_bare(Command::Events, rest)
     } else if word == b"quit".as_slice() {
         read_bare(Command::Quit, rest)
     } else {
+        read_change(word, rest)
+    }
+}
+
+/// The command that changes the log, by its first word and what follows it.
+fn read_change(word: &[u8], rest: &[u8]) -> Result<Command, LineFault>
+    ensures { result ≡ change_command word.now (words_between rest.now) }
+{
+    if word == b"cut".as_slice() {
+        read_cut(rest)
+    } else if word == b"clear".as_slice() {
+        spelled(read_only_id(rest).map(|id| Command::Edit(Edit::Clear(id))))
+    } else if word == b"drop".as_slice() {
+        spelled(read_only_root(rest).map(|root| Command::Edit(Edit::Drop(root))))
+    } else if word == b"add".as_slice() {
+        spelled(read_only_id(rest).map(|id| Command::Edit(Edit::Add(id))))
+    } else if word == b"clearall".as_slice() {
+        spelled(read_only_kind(rest).map(|kind| Command::Edit(Edit::ClearAll(kind))))
+    } else if word == b"undo".as_slice() {
+        read_undo(rest)
+    } else {
         Err(LineFault::UnknownCommand)
     }
 }
 
-/// What follows `strength` is one ID.
-fn read_strength(rest: &[u8]) -> Result<Command, LineFault>
-    ensures { result ≡ strength_command (words_between rest.now) }
+/// The command that the arguments spell, or that they spell none.
+fn spelled(command: Option<Command>) -> Result<Command, LineFault>
+    ensures { result ≡ spelled command }
 {
-    match read_only_id(rest) {
-        Some(id) => Ok(Command::Strength(id)),
+    match command {
+        Some(command) => Ok(command),
         None => Err(LineFault::BadArgument),
     }
 }
@@ -70,53 +92,16 @@ fn read_bare(command: Command, rest: &[u8]) -> Result<Command, LineFault>
     }
 }
 
-/// What follows `clear` is one ID.
-fn read_clear(rest: &[u8]) -> Result<Command, LineFault>
-    ensures { result ≡ clear_command (words_between rest.now) }
+/// What follows `members` is a group and a strength.
+fn read_members(rest: &[u8]) -> Result<Command, LineFault>
+    ensures { result ≡ members_command (words_between rest.now) }
 {
-    match read_only_id(rest) {
-        Some(id) => Ok(Command::Edit(Edit::Clear(id))),
-        None => Err(LineFault::BadArgument),
-    }
-}
-
-/// What follows `add` is one ID.
-fn read_add(rest: &[u8]) -> Result<Command, LineFault>
-    ensures { result ≡ add_command (words_between rest.now) }
-{
-    match read_only_id(rest) {
-        Some(id) => Ok(Command::Edit(Edit::Add(id))),
-        None => Err(LineFault::BadArgument),
-    }
-}
-
-/// What follows `drop` is the number of a root.
-fn read_drop(rest: &[u8]) -> Result<Command, LineFault>
-    ensures { result ≡ drop_command (words_between rest.now) }
-{
-    match read_only_root(rest) {
-        Some(root) => Ok(Command::Edit(Edit::Drop(root))),
-        None => Err(LineFault::BadArgument),
-    }
-}
-
-/// What follows `clearall` is a kind of reference objects.
-fn read_clearall(rest: &[u8]) -> Result<Command, LineFault>
-    ensures { result ≡ clearall_command (words_between rest.now) }
-{
-    match read_only_kind(rest) {
-        Some(kind) => Ok(Command::Edit(Edit::ClearAll(kind))),
-        None => Err(LineFault::BadArgument),
-    }
-}
-
-/// What follows `slots` is one ID.
-fn read_slots(rest: &[u8]) -> Result<Command, LineFault>
-    ensures { result ≡ slots_command (words_between rest.now) }
-{
-    match read_only_id(rest) {
-        Some(id) => Ok(Command::Slots(id)),
-        None => Err(LineFault::BadArgument),
+    let Some((word, more)) = split_word(rest) else {
+        return Err(LineFault::BadArgument);
+    };
+    match (read_group(word), read_only_strength(more)) {
+        (Some(group), Some(strength)) => Ok(Command::Members(group, strength)),
+        _ => Err(LineFault::BadArgument),
     }
 }
 
@@ -140,116 +125,5 @@ fn read_undo(rest: &[u8]) -> Result<Command, LineFault>
     if split_word(rest).is_none() {
         return Ok(Command::Undo(None));
     }
-    match read_only_event(rest) {
-        Some(number) => Ok(Command::Undo(Some(number))),
-        None => Err(LineFault::BadArgument),
-    }
-}
-
-/// A line without one carriage return at its end.
-fn without_return(line: &[u8]) -> &[u8]
-    ensures { result.now ≡ strip_last 13 line.now }
-{
-    let n = line.len();
-    if n > 0 && line[n - 1] == b'\r' {
-        &line[..n - 1]
-    } else {
-        line
-    }
-}
-
-/// How many spaces some bytes begin with.
-fn spaces(bytes: &[u8]) -> usize
-    ensures within { result ≤ length bytes.now }
-    ensures words { words_between (drop result bytes.now) ≡ words_between bytes.now }
-    ensures stops { result < length bytes.now → slice_index bytes.now result ≢ 32 }
-{
-    for (i, byte) in bytes.iter().enumerate() {
-        if *byte != b' ' {
-            return i;
-        }
-    }
-    bytes.len()
-}
-
-/// How many bytes come before the first space.
-fn until_space(bytes: &[u8]) -> usize
-    ensures within { result ≤ length bytes.now }
-    ensures before { (k : ℕ) → k < result → slice_index bytes.now k ≢ 32 }
-    ensures stops { result < length bytes.now → slice_index bytes.now result ≡ 32 }
-{
-    for (i, byte) in bytes.iter().enumerate() {
-        if *byte == b' ' {
-            return i;
-        }
-    }
-    bytes.len()
-}
-
-/// The first word, and what follows it.
-fn split_word(bytes: &[u8]) -> Option<(&[u8], &[u8])>
-    ensures { MatchOption result (words_between bytes.now ≡ []) (λ p. words_between bytes.now ≡ p.0.now ∷ words_between p.1.now) }
-{
-    let rest = &bytes[spaces(bytes)..];
-    if rest.is_empty() {
-        return None;
-    }
-    let end = until_space(rest);
-    Some((&rest[..end], &rest[end..]))
-}
-
-/// The only word, if there is one and no other.
-fn only_word(bytes: &[u8]) -> Option<&[u8]>
-    ensures { option_copied result ≡ only_word (words_between bytes.now) }
-{
-    let (word, more) = split_word(bytes)?;
-    if split_word(more).is_some() {
-        return None;
-    }
-    Some(word)
-}
-
-/// The ID that the only word spells.
-fn read_only_id(rest: &[u8]) -> Option<u64>
-    ensures { result ≡ option_and_then id_of_word (only_word (words_between rest.now)) }
-{
-    read_id(only_word(rest)?)
-}
-
-/// The slot that the only word spells.
-fn read_only_slot(rest: &[u8]) -> Option<Slot>
-    ensures { result ≡ option_and_then slot_of_word (only_word (words_between rest.now)) }
-{
-    read_slot(only_word(rest)?)
-}
-
-/// The number of a root that the only word spells.
-fn read_only_root(rest: &[u8]) -> Option<u64>
-    ensures { result ≡ option_and_then root_of_word (only_word (words_between rest.now)) }
-{
-    read_root(only_word(rest)?)
-}
-
-/// The kind of reference objects that the only word spells.
-fn read_only_kind(rest: &[u8]) -> Option<RefKind>
-    ensures { result ≡ option_and_then kind_of_word (only_word (words_between rest.now)) }
-{
-    read_kind(only_word(rest)?)
-}
-
-/// The number of an event that the only word spells.
-fn read_only_event(rest: &[u8]) -> Option<u32>
-    ensures { result ≡ option_and_then number_of_word (only_word (words_between rest.now)) }
-{
-    read_small(only_word(rest)?)
-}
-
-/// The ID that a word spells.
-fn read_id(word: &[u8]) -> Option<u64>
-    ensures { result ≡ id_of_word word.now }
-{
-    if word.len() < 2 || word[0] != b'0' || word[1] != b'x' {
-        return None;
-    }
-    read_hexadecimal(&word[2..])
+    spelled(read_only_number(rest).map(|event| Command::Undo(Some(event))))
 }

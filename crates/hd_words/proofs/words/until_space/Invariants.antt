@@ -1,5 +1,5 @@
 use Rattle.std.proofs.Common.{◌≢◌, ℕ, ◌<◌, slice_index}
-use Rattle.hd_words.proofs.command.until_space.Given as goal
+use Rattle.hd_words.proofs.words.until_space.Given as goal
 
 -- no space so far
 abbrev pub invariant-loop-i : goal.invariant-loop-i

@@ -1,6 +1,6 @@
 use Rattle.std.proofs.Common.{◌<◌, ◌-◌, List, ℕ, length, take, drop, refl, arith}
-use Rattle.hd_words.proofs.Words.{words_split}
-use Rattle.hd_words.proofs.command.split_word.Goals as goal
+use Rattle.hd_words.proofs.WordLemmas.{words_split}
+use Rattle.hd_words.proofs.words.split_word.Goals as goal
 
 pub returns : goal.returns
 returns c =

@@ -1,6 +1,6 @@
 use Rattle.std.proofs.Common.{◌≡◌, drop}
 use Rattle.hd_words.specs.Words.{words_between}
-use Rattle.hd_words.proofs.command.spaces.Given as goal
+use Rattle.hd_words.proofs.words.spaces.Given as goal
 
 -- what is left has the words
 abbrev pub invariant-loop-i : goal.invariant-loop-i

@@ -1,0 +1,66 @@
+//! Replies of many lines: `ok N`, and a line for each of N rows.
+ghost use Rattle.std.specs.Prelude.{◌≡◌, ◌++◌, ℕ, List, All, map, string_bytes, IfOk, OnOk};
+ghost use Rattle.std.specs.List.{flat_map};
+ghost use Rattle.hd_terms.specs.Replies.{answered, with_newline};
+
+use std::alloc::{AllocError, Global};
+use std::fmt::Write;
+
+/// How rows are written as lines.
+pub trait LineFormat {
+    /// What a line is written of.
+    type Row;
+
+    /// The rows that can be written.
+    ghost can_write: { Self → Self.Row → Type 0 };
+
+    /// The line of a row.
+    ghost line: { Self → Self.Row → List ℕ };
+
+    /// Puts the line of a row behind a text, without the newline that ends it.
+    fn put(&self, text: &mut String, row: &Self::Row) -> Result<(), AllocError>
+        requires { can_write self.now row.now }
+        ensures { OnOk result (string_bytes text.new ≡ string_bytes text.old ++ line self.now row.now) };
+}
+
+/// Puts the line of each row behind a text.
+#[tactic(auto, using(crate::proofs::FlatMaps::flat_push))]
+pub fn put_lines<F: LineFormat>(
+    text: &mut String,
+    format: &F,
+    rows: &[F::Row],
+) -> Result<(), AllocError>
+    requires { All (F.can_write format.now) rows.now }
+    ensures { OnOk result (string_bytes text.new ≡ string_bytes text.old ++ flat_map with_newline (map (F.line format.now) rows.now)) }
+{
+    for row in rows {
+        put_line(text, format, row)?;
+    }
+    Ok(())
+}
+
+/// Puts the line of a row and its newline behind a text.
+fn put_line<F: LineFormat>(text: &mut String, format: &F, row: &F::Row) -> Result<(), AllocError>
+    requires { F.can_write format.now row.now }
+    ensures { OnOk result (string_bytes text.new ≡ string_bytes text.old ++ with_newline (F.line format.now row.now)) }
+{
+    format.put(text, row)?;
+    text.push('\n')?;
+    Ok(())
+}
+
+/// `ok N`, and the line of each of N rows.
+pub fn lines_text<F: LineFormat>(
+    alloc: Global,
+    format: &F,
+    rows: &[F::Row],
+) -> Result<String, AllocError>
+    requires { All (F.can_write format.now) rows.now }
+    ensures { IfOk result (λ text. string_bytes text ≡ answered (map (F.line format.now) rows.now)) }
+{
+    let mut text = String::new(alloc);
+    let count = rows.len();
+    writeln!(text, "ok {count}")?;
+    put_lines(&mut text, format, rows)?;
+    Ok(text)
+}
