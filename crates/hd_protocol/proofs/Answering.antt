@@ -5,58 +5,56 @@ use Rattle.hd_terms.specs.declared.commands.Command.{Command}
 use Rattle.hd_terms.specs.declared.commands.Command.TheVariants as commands
 use Rattle.hd_terms.specs.declared.commands.LineFault.{LineFault}
 use Rattle.hd_terms.specs.declared.errors.Refusal.{Refusal}
-use Rattle.hd_terms.specs.Edges.{index_of}
 use Rattle.hd_terms.specs.Lines.{command_of, is_quit, is_quit_command}
 use Rattle.hd_terms.specs.Asking.{asked}
-use Rattle.hd_terms.specs.Replies.{RepliesTo, RepliesSlots, answered, event_line, refused, refusal_name, out_of_memory_reply, takes_memory}
+use Rattle.hd_terms.specs.Replies.{RepliesTo, answered, event_line, mark_reply, refused, refusal_name, out_of_memory_reply, takes_memory}
 use Rattle.hd_terms.specs.Sessions.{IsTurn, event_by, with_event}
 use Rattle.hd_terms.specs.Sessions as sessions
 use Rattle.hd_state.specs.declared.state.Done.{Done}
-use Rattle.hd_state.specs.Situation.{Situation}
+use Rattle.hd_protocol.specs.Work.{Work, work_at}
 use Rattle.std.specs.Prelude.{if◌then◌else◌}
 use Rattle.std.specs.Io.KnownBytes.{Appends}
 use Rattle.hd_protocol.specs.declared.serving.ServeFault.{ServeFault}
 use Rattle.hd_protocol.specs.declared.serving.ServeFault.TheVariants as serve_faults
 use Rattle.hd_protocol.specs.declared.serving.Flow.{Flow}
 use Rattle.hd_protocol.specs.declared.serving.Flow.TheVariants as flows
-use Rattle.hd_protocol.specs.Serving.{remembered, EndsLine, RunsLine}
+use Rattle.hd_protocol.specs.Serving.{EndsLine, RunsLine}
 use Rattle.hd_protocol.specs.Editing.{Adds, IsWhyNot, EditEnds, edit_reply}
 use Rattle.hd_protocol.specs.Answering.{IsAnswered}
+use Rattle.hd_protocol.specs.Marking.{MarkEnds, mark_end_reply}
 
--- nothing is asked of the log
-pub asks_nothing : (state : Situation) (reading : Result Command LineFault) (reply : List ℕ) → RepliesTo state.dump state.log (remembered state.log).marks reading reply → IsAnswered state state reading reply
-asks_nothing state reading reply h = record {
+-- neither an event nor a mark is added
+pub adds_nothing : (work : Work) (reading : Result Command LineFault) (reply : List ℕ) → RepliesTo work.dump work.memory.log work.memory.marks reading reply → IsAnswered work work reading reply
+adds_nothing work reading reply h = record {
   same_dump = refl;
-  is_turn = λ line spells. sessions.answered (subst (λ (r : Result Command LineFault). RepliesTo state.dump state.log (remembered state.log).marks r reply) (sym spells) h) refl refl;
+  is_turn = λ line spells. sessions.answered (subst (λ (r : Result Command LineFault). RepliesTo work.dump work.memory.log work.memory.marks r reply) (sym spells) h) refl refl;
 }
 
--- there is no memory
-pub wants_memory : (state : Situation) (reading : Result Command LineFault) (reply : List ℕ) → takes_memory reading ≡ true → reply ≡ out_of_memory_reply → IsAnswered state state reading reply
-wants_memory state reading reply takes is = record {
+-- memory ran out
+pub ran_out : (work : Work) (reading : Result Command LineFault) (reply : List ℕ) → takes_memory reading ≡ true → reply ≡ out_of_memory_reply → IsAnswered work work reading reply
+ran_out work reading reply takes is = record {
   same_dump = refl;
   is_turn = λ line spells. sessions.out_of_memory (ap takes_memory spells ∙ takes) is refl refl;
 }
 
--- what is known of one command, state and reply holds of those that are the same
-pub answered_as : (old new new' : Situation) (command command' : Command) (reply reply' : List ℕ) → command ≡ command' → new ≡ new' → reply ≡ reply'
+-- what is known of one command, work and reply holds of those that are the same
+pub answered_as : (old new new' : Work) (command command' : Command) (reply reply' : List ℕ) → command ≡ command' → new ≡ new' → reply ≡ reply'
     → IsAnswered old new' (Ok command') reply' → IsAnswered old new (Ok command) reply
-answered_as old new new' command command' reply reply' same_command same_state same_reply h =
-    rw (same_command, same_state, same_reply) h
+answered_as old new new' command command' reply reply' same_command same_work same_reply h =
+    rw (same_command, same_work, same_reply) h
 
--- `slots` is answered by a refusal, or by a text
-pub slots_short : (state : Situation) (id : ℕ) (reply : List ℕ) → (reply ≡ out_of_memory_reply) ⊎ RepliesSlots state.dump state.log (index_of state.dump.objects id) reply → IsAnswered state state (Ok (commands.Slots id)) reply
-slots_short state id reply (inl memory) = wants_memory state (Ok (commands.Slots id)) reply refl memory
-slots_short state id reply (inr is) = asks_nothing state (Ok (commands.Slots id)) reply is
-
-pub slots_long : (state : Situation) (id : ℕ) (reply : List ℕ) → RepliesSlots state.dump state.log (index_of state.dump.objects id) reply → IsAnswered state state (Ok (commands.Slots id)) reply
-slots_long state id reply is = asks_nothing state (Ok (commands.Slots id)) reply is
+-- a query that takes memory is answered so, or memory ran out
+pub short_answer : (work : Work) (query : Command) (reply : List ℕ) → takes_memory (Ok query) ≡ true
+    → (reply ≡ out_of_memory_reply) ⊎ RepliesTo work.dump work.memory.log work.memory.marks (Ok query) reply → IsAnswered work work (Ok query) reply
+short_answer work query reply takes (inl memory) = ran_out work (Ok query) reply takes memory
+short_answer work query reply takes (inr is) = adds_nothing work (Ok query) reply is
 
 -- an edit or an undo
-module _ (old new : Situation) (c : Command) (want : Result What Refusal) (asks : asked old.dump old.log 0 c ≡ Some want) (takes : takes_memory (Ok c) ≡ true) where
+module _ (old new : Work) (c : Command) (want : Result What Refusal) (asks : asked old.dump old.memory.log 0 c ≡ Some want) (takes : takes_memory (Ok c) ≡ true) where
   -- its event is added
   adds : (done : Done) → Adds old new want done → IsAnswered old new (Ok c) (edit_reply (Ok done))
   adds done a = record {
-    same_dump = a.same_dump;
+    same_dump = ap (λ (w : Work). w.dump) a.added;
     is_turn = λ line spells. sessions.accepted c a.what spells (asks ∙ ap (λ (w : Result What Refusal). Some w) a.asked_for) a.taken
         (record {
           fell = done.fell;
@@ -65,24 +63,24 @@ module _ (old new : Situation) (c : Command) (want : Result What Refusal) (asks 
           back_is = a.counts.back;
           reply_is = ap (λ (n : ℕ). answered (event_line n done.fell done.back ∷ [])) a.counts.event;
         })
-        (ap remembered a.added);
+        (ap (λ (w : Work). w.memory) a.added);
   }
 
   -- nothing changes
-  same_memory : new ≡ old → remembered new.log ≡ remembered old.log
-  same_memory same = ap (λ (s : Situation). remembered s.log) same
+  same_memory : new ≡ old → new.memory ≡ old.memory
+  same_memory same = ap (λ (w : Work). w.memory) same
 
   stays : (r : Refusal) → new ≡ old → IsWhyNot old want r → IsAnswered old new (Ok c) (refused (refusal_name r))
   stays r same (inl memory) = record {
-    same_dump = ap (λ (s : Situation). s.dump) same;
+    same_dump = ap (λ (w : Work). w.dump) same;
     is_turn = λ line spells. sessions.out_of_memory (ap takes_memory spells ∙ takes) (ap (λ (q : Refusal). refused (refusal_name q)) memory) refl (same_memory same);
   }
   stays r same (inr (inl before)) = record {
-    same_dump = ap (λ (s : Situation). s.dump) same;
+    same_dump = ap (λ (w : Work). w.dump) same;
     is_turn = λ line spells. sessions.declined c r spells (asks ∙ ap (λ (w : Result What Refusal). Some w) before) refl refl (same_memory same);
   }
   stays r same (inr (inr log)) = record {
-    same_dump = ap (λ (s : Situation). s.dump) same;
+    same_dump = ap (λ (w : Work). w.dump) same;
     is_turn = λ line spells. sessions.rejected c log.what r spells (asks ∙ ap (λ (w : Result What Refusal). Some w) log.asked_for) log.refuses refl (same_memory same);
   }
 
@@ -90,8 +88,25 @@ module _ (old new : Situation) (c : Command) (want : Result What Refusal) (asks 
   edit_answered (Ok done) h = adds done h
   edit_answered (Err r) h = stays r h.0 h.1
 
+-- a mark is added, or not
+pub mark_answered : (old new : Work) (ended : Result ℕ Refusal) → MarkEnds old new ended → IsAnswered old new (Ok commands.Mark) (mark_end_reply ended)
+mark_answered old new (Ok m) h = record {
+  same_dump = ap (λ (w : Work). w.dump) h.marked;
+  is_turn = λ line spells. sessions.marked spells h.room (ap mark_reply h.number) refl (ap (λ (w : Work). w.memory) h.marked);
+}
+mark_answered old new (Err r) (same, inl memory) = record {
+  same_dump = ap (λ (w : Work). w.dump) same;
+  is_turn = λ line spells. sessions.out_of_memory (ap takes_memory spells) (ap (λ (q : Refusal). refused (refusal_name q)) memory) refl (ap (λ (w : Work). w.memory) same);
+}
+mark_answered old new (Err r) (same, inr full) = record {
+  same_dump = ap (λ (w : Work). w.dump) same;
+  is_turn = λ line spells. sessions.answered
+      (subst (λ (q : Result Command LineFault). RepliesTo old.dump old.memory.log old.memory.marks q (refused (refusal_name r))) (sym spells)
+      (record { full = full.1; reply_is = ap (λ (q : Refusal). refused (refusal_name q)) full.0 })) refl (ap (λ (w : Work). w.memory) same);
+}
+
 -- a line is run once its reply is written, or a front of it
-module _ (old new : Situation) (line reply : List ℕ) (reading : Result Command LineFault) (before after : Option (List ℕ)) (read : reading ≡ command_of line) (h : IsAnswered old new reading reply) where
+module _ (old new : Work) (line reply : List ℕ) (reading : Result Command LineFault) (before after : Option (List ℕ)) (read : reading ≡ command_of line) (h : IsAnswered old new reading reply) where
   ends : (result : Result Flow ServeFault) → EndsLine line reply before after result → RunsLine old new line before after result
   ends result e = record { reply = reply; same_dump = h.same_dump; is_turn = λ spelled same. h.is_turn spelled (same ∙ sym read); ends = e }
 

@@ -3,7 +3,7 @@ pub mod Lines
 pub mod Turns
 pub mod ServedLines
 pub mod Refusals
-pub mod RowTexts
-pub mod EventTexts
+pub mod EventRows
 pub mod Answering
 pub mod Stating
+pub mod ChainReplies

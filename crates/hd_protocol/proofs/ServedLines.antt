@@ -6,15 +6,14 @@ use Rattle.std.proofs.KnownBytes.{Keeps-refl}
 use Rattle.std.proofs.lemmas.List.{take_more}
 use Rattle.hd_terms.specs.Dump.{Dump}
 use Rattle.hd_terms.specs.Lines.{whole_lines, lines_of, run_lines, is_quit, is_quit_command, command_of}
-use Rattle.hd_terms.specs.declared.Event.{Event}
-use Rattle.hd_terms.specs.Memory.{Memory}
+use Rattle.hd_terms.specs.Memory.{Memory, beginning}
 use Rattle.hd_terms.specs.Sessions.{IsTurn, IsServed, IsServedUntilRead, IsServedUntilWrite}
-use Rattle.hd_state.specs.Situation.{Situation}
+use Rattle.hd_protocol.specs.Work.{Work}
 use Rattle.hd_protocol.specs.declared.serving.ServeFault.{ServeFault}
 use Rattle.hd_protocol.specs.declared.serving.ServeFault.TheVariants as faults
 use Rattle.hd_protocol.specs.declared.serving.Flow.{Flow}
 use Rattle.hd_protocol.specs.declared.serving.Flow.TheVariants as flows
-use Rattle.hd_protocol.specs.Serving.{open_line, kept_of, remembered, turn_alone, IsAnsweredSoFar, Midway, midway, IsOpen, Stands, RunsBytes, IsTurnOf, RunsLine, StandsAtEnd, RunsEnd, ServesAll, ServesUntilRead, ServesUntilWrite, Serves}
+use Rattle.hd_protocol.specs.Serving.{open_line, kept_of, turn_alone, IsAnsweredSoFar, Midway, midway, IsOpen, Stands, RunsBytes, IsTurnOf, RunsLine, StandsAtEnd, RunsEnd, ServesAll, ServesUntilRead, ServesUntilWrite, Serves}
 use Rattle.hd_protocol.proofs.Lines.{whole_lines-newline, open_line-newline, whole_lines-other, open_line-other, lines_of-none, lines_of-some, lines_of-newline, run_lines-all, run_lines-push, run_lines-quit, command_of-kept, kept_of-push, kept_of-none, kept_of-some}
 use Rattle.hd_protocol.proofs.Turns.{answered_none, answered_push, all_push}
 use Rattle.hd_protocol.proofs.Writing.{appends_nil, appends_both, appends_kept, consumes_nil, consumes_both, consumes_kept}
@@ -41,7 +40,7 @@ fault dump seen rest written more memory lines answered_lines read are so_far = 
 )
 
 -- nothing was read
-pub open_none : (dump : Dump) → IsOpen dump [] (midway (record { dump = dump; log = [] }) []) []
+pub open_none : (dump : Dump) → IsOpen dump [] (midway (record { dump = dump; memory = beginning [] [] }) []) []
 open_none dump = record { same_dump = refl; so_far = answered_none dump; none_quits = tt; kept_is = refl }
 
 module _ (dump : Dump) (seen : List ℕ) (m : Midway) (written : List ℕ) (o : IsOpen dump seen m written) where
@@ -53,13 +52,13 @@ module _ (dump : Dump) (seen : List ℕ) (m : Midway) (written : List ℕ) (o : 
   quit_of_open = ap is_quit_command same_command
 
   -- the open line is answered
-  answered_open : (after : List Event) (reply : List ℕ) → IsTurnOf m.state.dump m.kept m.state.log after reply → IsAnsweredSoFar dump (whole_lines seen ++ open_line seen ∷ []) (written ++ reply) (remembered after)
+  answered_open : (after : Memory) (reply : List ℕ) → IsTurnOf m.work.dump m.kept m.work.memory after reply → IsAnsweredSoFar dump (whole_lines seen ++ open_line seen ∷ []) (written ++ reply) after
   answered_open after reply h =
-      answered_push dump (whole_lines seen) written (remembered m.state.log) (remembered after) (open_line seen) reply o.so_far
-      (subst (λ (d : Dump). IsTurn d 0 (turn_alone (open_line seen) (remembered m.state.log) (remembered after) reply)) o.same_dump (h (open_line seen) same_command))
+      answered_push dump (whole_lines seen) written m.work.memory after (open_line seen) reply o.so_far
+      (subst (λ (d : Dump). IsTurn d 0 (turn_alone (open_line seen) m.work.memory after reply)) o.same_dump (h (open_line seen) same_command))
 
   -- a byte that is no newline
-  pub after_other : (b : ℕ) → (b ≡ 10 → ⊥) → IsOpen dump (seen ++ b ∷ []) (midway m.state (kept_of (m.kept ++ b ∷ []))) written
+  pub after_other : (b : ℕ) → (b ≡ 10 → ⊥) → IsOpen dump (seen ++ b ∷ []) (midway m.work (kept_of (m.kept ++ b ∷ []))) written
   after_other b other =
       let no_newline : (b == 10) ≡ false = ne_eqb b 10 other in
       let whole : whole_lines (seen ++ b ∷ []) ≡ whole_lines seen = whole_lines-other seen b no_newline in
@@ -71,84 +70,84 @@ module _ (dump : Dump) (seen : List ℕ) (m : Midway) (written : List ℕ) (o : 
       }
 
   -- a newline after a line that isn't `quit`
-  after_newline : (new : Situation) (reply : List ℕ) → new.dump ≡ m.state.dump → IsTurnOf m.state.dump m.kept m.state.log new.log reply → is_quit m.kept ≡ false
+  after_newline : (new : Work) (reply : List ℕ) → new.dump ≡ m.work.dump → IsTurnOf m.work.dump m.kept m.work.memory new.memory reply → is_quit m.kept ≡ false
       → IsOpen dump (seen ++ 10 ∷ []) (midway new []) (written ++ reply)
   after_newline new reply same h goes_on =
       let whole : whole_lines (seen ++ 10 ∷ []) ≡ whole_lines seen ++ open_line seen ∷ [] = whole_lines-newline seen in
       record {
         same_dump = same ∙ o.same_dump;
-        so_far = rw whole (answered_open new.log reply h);
+        so_far = rw whole (answered_open new.memory reply h);
         none_quits = rw whole (all_push (λ line. is_quit line ≡ false) (whole_lines seen) (open_line seen) o.none_quits (quit_of_open ∙ goes_on));
         kept_is = ap kept_of (sym (open_line-newline seen));
       }
 
   -- a newline after `quit`
-  after_quit : (after : List Event) (reply : List ℕ) → IsTurnOf m.state.dump m.kept m.state.log after reply → is_quit m.kept ≡ true → (rest : List ℕ) → IsServed dump ((seen ++ 10 ∷ []) ++ rest) (written ++ reply)
+  after_quit : (after : Memory) (reply : List ℕ) → IsTurnOf m.work.dump m.kept m.work.memory after reply → is_quit m.kept ≡ true → (rest : List ℕ) → IsServed dump ((seen ++ 10 ∷ []) ++ rest) (written ++ reply)
   after_quit after reply h quits rest =
-      served dump ((seen ++ 10 ∷ []) ++ rest) (written ++ reply) (remembered after) (whole_lines seen ++ open_line seen ∷ [])
+      served dump ((seen ++ 10 ∷ []) ++ rest) (written ++ reply) after (whole_lines seen ++ open_line seen ∷ [])
       (ap (λ l. run_lines (lines_of l)) (append_assoc seen (10 ∷ []) rest)
       ∙ ap run_lines (lines_of-newline seen rest)
       ∙ run_lines-quit (whole_lines seen) (open_line seen) (lines_of rest) o.none_quits (quit_of_open ∙ quits))
       (answered_open after reply h)
 
   -- a fault while the reply to the open line was written
-  answered_front : (after : List Event) (reply : List ℕ) (k : ℕ) → IsTurnOf m.state.dump m.kept m.state.log after reply
-      → IsAnsweredSoFar dump (whole_lines seen ++ open_line seen ∷ []) ((written ++ take k reply) ++ drop k reply) (remembered after)
+  answered_front : (after : Memory) (reply : List ℕ) (k : ℕ) → IsTurnOf m.work.dump m.kept m.work.memory after reply
+      → IsAnsweredSoFar dump (whole_lines seen ++ open_line seen ∷ []) ((written ++ take k reply) ++ drop k reply) after
   answered_front after reply k h =
       rw (append_assoc written (take k reply) (drop k reply), take-append-drop k reply) (answered_open after reply h)
 
-  after_fault : (after : List Event) (reply : List ℕ) (k : ℕ) → IsTurnOf m.state.dump m.kept m.state.log after reply → (rest : List ℕ) → IsServedUntilWrite dump ((seen ++ 10 ∷ []) ++ rest) (written ++ take k reply)
+  after_fault : (after : Memory) (reply : List ℕ) (k : ℕ) → IsTurnOf m.work.dump m.kept m.work.memory after reply → (rest : List ℕ) → IsServedUntilWrite dump ((seen ++ 10 ∷ []) ++ rest) (written ++ take k reply)
   after_fault after reply k h rest =
-      fault dump (seen ++ 10 ∷ []) rest (written ++ take k reply) (drop k reply) (remembered after) (whole_lines seen ++ open_line seen ∷ []) (whole_lines seen ++ open_line seen ∷ [])
+      fault dump (seen ++ 10 ∷ []) rest (written ++ take k reply) (drop k reply) after (whole_lines seen ++ open_line seen ∷ []) (whole_lines seen ++ open_line seen ∷ [])
       (inl (sym (whole_lines-newline seen))) (run_lines-push (whole_lines seen) (open_line seen) o.none_quits) (answered_front after reply k h)
 
   -- a newline, when the line was run
-  newline_ok : (new : Situation) (before after : Option (List ℕ)) (flow : Flow) → RunsLine m.state new m.kept before after (Ok flow)
+  newline_ok : (new : Work) (before after : Option (List ℕ)) (flow : Flow) → RunsLine m.work new m.kept before after (Ok flow)
       → (more : List ℕ) × Appends before after more × Stands dump (seen ++ 10 ∷ []) (midway new []) (written ++ more) (Ok flow)
   newline_ok new before after flows.GoesOn run = (run.reply, run.ends.0, after_newline new run.reply run.same_dump run.is_turn run.ends.1)
-  newline_ok new before after flows.Quits run = (run.reply, run.ends.0, after_quit new.log run.reply run.is_turn run.ends.1)
+  newline_ok new before after flows.Quits run = (run.reply, run.ends.0, after_quit new.memory run.reply run.is_turn run.ends.1)
 
   -- a newline, when the writer failed
-  newline_err : (new : Situation) (before after : Option (List ℕ)) (m' : Midway) (e : ServeFault) → RunsLine m.state new m.kept before after (Err e)
+  newline_err : (new : Work) (before after : Option (List ℕ)) (m' : Midway) (e : ServeFault) → RunsLine m.work new m.kept before after (Err e)
       → (more : List ℕ) × Appends before after more × Stands dump (seen ++ 10 ∷ []) m' (written ++ more) (Err e)
   newline_err new before after m' faults.Read run = absurd run.ends
-  newline_err new before after m' faults.Write run = (take run.ends.0 run.reply, run.ends.1, after_fault new.log run.reply run.ends.0 run.is_turn)
+  newline_err new before after m' faults.Write run = (take run.ends.0 run.reply, run.ends.1, after_fault new.memory run.reply run.ends.0 run.is_turn)
   newline_err new before after m' faults.OutOfMemory run = absurd run.ends
 
   -- the end of the input, with no byte open
   pub end_none : length m.kept ≡ 0 → IsServed dump seen written
   end_none none =
       let open_none_too : length (open_line seen) ≡ 0 = kept_of-none (open_line seen) (ap length (sym o.kept_is) ∙ none) in
-      served dump seen written (remembered m.state.log) (whole_lines seen) (ap run_lines (lines_of-none seen open_none_too) ∙ run_lines-all (whole_lines seen) o.none_quits) o.so_far
+      served dump seen written m.work.memory (whole_lines seen) (ap run_lines (lines_of-none seen open_none_too) ∙ run_lines-all (whole_lines seen) o.none_quits) o.so_far
 
   -- the end of the input, with a last line
   last : 0 < length m.kept → lines_of seen ≡ whole_lines seen ++ open_line seen ∷ []
   last some = lines_of-some seen (kept_of-some (open_line seen) (subst (λ l. 0 < length l) o.kept_is some))
 
-  end_served : 0 < length m.kept → (after : List Event) (reply : List ℕ) → IsTurnOf m.state.dump m.kept m.state.log after reply → IsServed dump seen (written ++ reply)
+  end_served : 0 < length m.kept → (after : Memory) (reply : List ℕ) → IsTurnOf m.work.dump m.kept m.work.memory after reply → IsServed dump seen (written ++ reply)
   end_served some after reply h =
-      served dump seen (written ++ reply) (remembered after) (whole_lines seen ++ open_line seen ∷ [])
+      served dump seen (written ++ reply) after (whole_lines seen ++ open_line seen ∷ [])
       (ap run_lines (last some) ∙ run_lines-push (whole_lines seen) (open_line seen) o.none_quits) (answered_open after reply h)
 
-  end_fault : 0 < length m.kept → (after : List Event) (reply : List ℕ) (k : ℕ) → IsTurnOf m.state.dump m.kept m.state.log after reply → IsServedUntilWrite dump seen (written ++ take k reply)
+  end_fault : 0 < length m.kept → (after : Memory) (reply : List ℕ) (k : ℕ) → IsTurnOf m.work.dump m.kept m.work.memory after reply → IsServedUntilWrite dump seen (written ++ take k reply)
   end_fault some after reply k h =
       subst (λ l. IsServedUntilWrite dump l (written ++ take k reply)) (append-nil seen)
-      (fault dump seen [] (written ++ take k reply) (drop k reply) (remembered after) (whole_lines seen ++ open_line seen ∷ []) (whole_lines seen ++ open_line seen ∷ [])
+      (fault dump seen [] (written ++ take k reply) (drop k reply) after (whole_lines seen ++ open_line seen ∷ []) (whole_lines seen ++ open_line seen ∷ [])
       (inr (refl, sym (last some))) (run_lines-push (whole_lines seen) (open_line seen) o.none_quits) (answered_front after reply k h))
 
-  end_ok : 0 < length m.kept → (new : Situation) (before after : Option (List ℕ)) (flow : Flow) → RunsLine m.state new m.kept before after (Ok flow) → (more : List ℕ) × Appends before after more × IsServed dump seen (written ++ more)
-  end_ok some new before after flows.GoesOn run = (run.reply, run.ends.0, end_served some new.log run.reply run.is_turn)
-  end_ok some new before after flows.Quits run = (run.reply, run.ends.0, end_served some new.log run.reply run.is_turn)
+  end_ok : 0 < length m.kept → (new : Work) (before after : Option (List ℕ)) (flow : Flow) → RunsLine m.work new m.kept before after (Ok flow) → (more : List ℕ) × Appends before after more × IsServed dump seen (written ++ more)
+  end_ok some new before after flows.GoesOn run = (run.reply, run.ends.0, end_served some new.memory run.reply run.is_turn)
+  end_ok some new before after flows.Quits run = (run.reply, run.ends.0, end_served some new.memory run.reply run.is_turn)
 
-  end_err : 0 < length m.kept → (new : Situation) (before after : Option (List ℕ)) (e : ServeFault) → RunsLine m.state new m.kept before after (Err e) → (more : List ℕ) × Appends before after more × StandsAtEnd dump seen (written ++ more) (Err e)
+  end_err : 0 < length m.kept → (new : Work) (before after : Option (List ℕ)) (e : ServeFault) → RunsLine m.work new m.kept before after (Err e) → (more : List ℕ) × Appends before after more × StandsAtEnd dump seen (written ++ more) (Err e)
   end_err some new before after faults.Read run = absurd run.ends
-  end_err some new before after faults.Write run = (take run.ends.0 run.reply, run.ends.1, end_fault some new.log run.reply run.ends.0 run.is_turn)
+  end_err some new before after faults.Write run = (take run.ends.0 run.reply, run.ends.1, end_fault some new.memory run.reply run.ends.0 run.is_turn)
   end_err some new before after faults.OutOfMemory run = absurd run.ends
 
   -- a fault between lines
   pub flush_fault : (rest : List ℕ) → IsServedUntilWrite dump (seen ++ rest) written
   flush_fault rest =
-      fault dump seen rest written [] (remembered m.state.log) (whole_lines seen) (whole_lines seen) (inl refl) (run_lines-all (whole_lines seen) o.none_quits) (rw (append-nil written) o.so_far)
+      fault dump seen rest written [] m.work.memory (whole_lines seen) (whole_lines seen) (inl refl) (run_lines-all (whole_lines seen) o.none_quits) (rw (append-nil written) o.so_far)
 
   -- the reader failed
   pub read_fault : (rest : List ℕ) → IsServedUntilRead dump (seen ++ rest) rest written
@@ -167,7 +166,7 @@ longer : (seen bs cs rest : List ℕ) → (seen ++ bs) ++ (cs ++ rest) ≡ (seen
 longer seen bs cs rest = sym (append_assoc (seen ++ bs) cs rest) ∙ ap (λ l. l ++ rest) (append_assoc seen bs cs)
 
 -- a newline runs the open line
-module _ (old new : Situation) (line kept : List ℕ) (b : ℕ) (before after : Option (List ℕ)) (newline : b ≡ 10) (same : line ≡ kept) where
+module _ (old new : Work) (line kept : List ℕ) (b : ℕ) (before after : Option (List ℕ)) (newline : b ≡ 10) (same : line ≡ kept) where
   pub runs_newline : (kept' : List ℕ) (flow : Flow) → kept' ≡ [] → RunsLine old new line before after (Ok flow) → RunsBytes (b ∷ []) (midway old kept) (midway new kept') before after (Ok flow)
   runs_newline kept' flow none run =
       let ran : RunsBytes (10 ∷ []) (midway old kept) (midway new []) before after (Ok flow) =
@@ -182,7 +181,7 @@ module _ (old new : Situation) (line kept : List ℕ) (b : ℕ) (before after : 
       subst (λ d. RunsBytes (d ∷ []) (midway old kept) m' before after result) (sym newline) (subst (λ r. RunsBytes (10 ∷ []) (midway old kept) m' before after r) (sym is) ran)
 
 -- any other byte is kept
-pub runs_other : (state : Situation) (kept kept' : List ℕ) (b : ℕ) (a : Option (List ℕ)) → (b ≡ 10 → ⊥) → kept' ≡ kept_of (kept ++ b ∷ []) → RunsBytes (b ∷ []) (midway state kept) (midway state kept') a a (Ok flows.GoesOn)
+pub runs_other : (state : Work) (kept kept' : List ℕ) (b : ℕ) (a : Option (List ℕ)) → (b ≡ 10 → ⊥) → kept' ≡ kept_of (kept ++ b ∷ []) → RunsBytes (b ∷ []) (midway state kept) (midway state kept') a a (Ok flows.GoesOn)
 runs_other state kept kept' b a other is = λ dump seen written o.
     ([], appends_nil a a (Keeps-refl a), rw (append-nil written, is) (after_other dump seen (midway state kept) written o b other))
 
@@ -238,10 +237,10 @@ module _ (m : Midway) (a b : Option (List ℕ)) (done : Unit {0}) where
   pub runs_end_none : length m.kept ≡ 0 → RunsEnd m a a (Ok done)
   runs_end_none none = λ dump seen written o. ([], appends_nil a a (Keeps-refl a), rw (append-nil written) (end_none dump seen m written o none))
 
-  pub runs_end : (new : Situation) (flow : Flow) → 0 < length m.kept → RunsLine m.state new m.kept a b (Ok flow) → RunsEnd m a b (Ok done)
+  pub runs_end : (new : Work) (flow : Flow) → 0 < length m.kept → RunsLine m.work new m.kept a b (Ok flow) → RunsEnd m a b (Ok done)
   runs_end new flow some run = λ dump seen written o. end_ok dump seen m written o some new a b flow run
 
-  pub runs_end_fault : (new : Situation) (e : ServeFault) (result : Result (Unit {0}) ServeFault) → result ≡ Err e → 0 < length m.kept → RunsLine m.state new m.kept a b (Err e) → RunsEnd m a b result
+  pub runs_end_fault : (new : Work) (e : ServeFault) (result : Result (Unit {0}) ServeFault) → result ≡ Err e → 0 < length m.kept → RunsLine m.work new m.kept a b (Err e) → RunsEnd m a b result
   runs_end_fault new e result is some run = subst (RunsEnd m a b) (sym is) (λ dump seen written o. end_err dump seen m written o some new a b e run)
 
 -- how serving stands between refills: what was read, what was written, and that it is open
@@ -252,7 +251,7 @@ pub record IsRunning (dump : Dump) (input rest before after : Option (List ℕ))
   pub appended : Appends before after written
   pub is_open : IsOpen dump seen m written
 
-pub running_none : (dump : Dump) (input before : Option (List ℕ)) → IsRunning dump input input before before (midway (record { dump = dump; log = [] }) [])
+pub running_none : (dump : Dump) (input before : Option (List ℕ)) → IsRunning dump input input before before (midway (record { dump = dump; memory = beginning [] [] }) [])
 running_none dump input before = record { seen = []; written = []; consumed = consumes_nil input; appended = appends_nil before before (Keeps-refl before); is_open = open_none dump }
 
 -- what holds of the bytes that were read and of those that are left holds of the input
@@ -361,3 +360,13 @@ served_kept dump (Some bytes) before after after' s same = (s.0, appends_kept be
 pub served_lost : (dump : Dump) (input before after after' : Option (List ℕ)) → ServesAll dump input before after → Keeps after after' → ServesUntilWrite dump input before after'
 served_lost dump None before after after' s same = tt
 served_lost dump (Some bytes) before after after' s same = (s.0, appends_kept before after after' s.0 s.1 same, until_write dump bytes s.0 s.2)
+
+-- what is known of a dump holds of one that is the same
+pub serves_same : (dump dump' : Dump) (input rest before after : Option (List ℕ)) (result : Result (Unit {0}) ServeFault) → dump ≡ dump' → Serves dump input rest before after result → Serves dump' input rest before after result
+serves_same dump dump' input rest before after result same s = subst (λ (d : Dump). Serves d input rest before after result) same s
+
+pub lost_same : (dump dump' : Dump) (input before after after' : Option (List ℕ)) → dump ≡ dump' → ServesAll dump input before after → Keeps after after' → ServesUntilWrite dump' input before after'
+lost_same dump dump' input before after after' same s kept = served_lost dump' input before after after' (subst (λ (d : Dump). ServesAll d input before after) same s) kept
+
+pub kept_same : (dump dump' : Dump) (input before after after' : Option (List ℕ)) → dump ≡ dump' → ServesAll dump input before after → Keeps after after' → ServesAll dump' input before after'
+kept_same dump dump' input before after after' same s kept = served_kept dump' input before after after' (subst (λ (d : Dump). ServesAll d input before after) same s) kept

@@ -66,6 +66,7 @@ lawful_turn dump line before after reply lawful (sessions.rejected c what r is a
 lawful_turn dump line before after reply lawful (sessions.accepted c what is asks none says a) =
     lawful_at before after (before.log ++ event_by 0 what ∷ []) a
     (takes before.log (event_by 0 what) lawful (appends (length dump.roots) before.log 0 what none))
+lawful_turn dump line before after reply lawful (sessions.marked is room says f a) = subst IsLawful (sym (ap (λ (m : Memory). m.log) a)) lawful
 lawful_turn dump line before after reply lawful (sessions.out_of_memory takes says f a) = lawful_at before after before.log a lawful
 
 -- nothing was answered

@@ -3,13 +3,12 @@
 use Rattle.std.specs.Prelude.{◌≡◌, ℕ, true, false, List, [], ◌∷◌, ◌++◌, take, Option, Some, Result, Ok, Err, IfSome}
 use Rattle.std.specs.List.{AllByRecursion}
 use Rattle.std.specs.Io.KnownBytes.{Keeps, Appends}
-use Rattle.hd_terms.specs.declared.Event.{Event}
 use Rattle.hd_terms.specs.Dump.{Dump}
 use Rattle.hd_terms.specs.Lines.{command_of, pieces, whole_lines, is_quit}
 use Rattle.hd_terms.specs.Log.{IsLawful}
-use Rattle.hd_terms.specs.Memory.{Memory, beginning, at_log}
+use Rattle.hd_terms.specs.Memory.{Memory, beginning}
 use Rattle.hd_terms.specs.Sessions.{Turn, IsTurn, IsSessionAlone, memory_after, replies, IsServed, IsServedUntilRead, IsServedUntilWrite}
-use Rattle.hd_state.specs.Situation.{Situation}
+use Rattle.hd_protocol.specs.Work.{Work}
 use Rattle.hd_protocol.specs.declared.serving.ServeFault.{ServeFault}
 use Rattle.hd_protocol.specs.declared.serving.ServeFault.TheVariants as faults
 use Rattle.hd_protocol.specs.declared.serving.Flow.{Flow}
@@ -29,10 +28,6 @@ open_line seen = last_piece (pieces seen)
 abbrev pub kept_of : List ℕ → List ℕ
 kept_of line = take 4097 line
 
--- what a session remembers that has a log, and neither marks of its own nor a private part
-abbrev pub remembered : List Event → Memory
-remembered log = at_log (beginning [] []) log
-
 -- the turn of an analyst alone: what is remembered before it and after it
 abbrev pub turn_alone : (line : List ℕ) → (before after : Memory) → (reply : List ℕ) → Turn
 turn_alone line before after reply = record { line = line; before = before; found = before.log; after = after; reply = reply }
@@ -49,18 +44,18 @@ pub record IsAnsweredSoFar (dump : Dump) (lines : List (List ℕ)) (written : Li
 abbrev pub NoneQuits : List (List ℕ) → Type 0
 NoneQuits lines = AllByRecursion (λ line. is_quit line ≡ false) lines
 
--- what is known between two bytes: the dump with its log, and what is kept of the open line
+-- what is known between two bytes: the dump with what is remembered, and what is kept of the open line
 pub record Midway : Type 0 where
-  pub state : Situation
+  pub work : Work
   pub kept : List ℕ
 
-abbrev pub midway : Situation → List ℕ → Midway
-midway state kept = record { state = state; kept = kept }
+abbrev pub midway : Work → List ℕ → Midway
+midway work kept = record { work = work; kept = kept }
 
 -- the whole lines of what was read are answered, none of them is `quit`, and the open line is kept
 pub record IsOpen (dump : Dump) (seen : List ℕ) (m : Midway) (written : List ℕ) : Type 0 where
-  pub same_dump : m.state.dump ≡ dump
-  pub so_far : IsAnsweredSoFar dump (whole_lines seen) written (remembered m.state.log)
+  pub same_dump : m.work.dump ≡ dump
+  pub so_far : IsAnsweredSoFar dump (whole_lines seen) written m.work.memory
   pub none_quits : NoneQuits (whole_lines seen)
   pub kept_is : m.kept ≡ kept_of (open_line seen)
 
@@ -85,15 +80,15 @@ EndsLine line reply before after (Err faults.Read) = ⊥
 EndsLine line reply before after (Err faults.Write) = (k : ℕ) × Appends before after (take k reply)
 EndsLine line reply before after (Err faults.OutOfMemory) = ⊥
 
--- a line that spells the same as this one has this reply, from one log to another
-abbrev pub IsTurnOf : Dump → (line : List ℕ) → (log after : List Event) → (reply : List ℕ) → Type 0
-IsTurnOf dump line log after reply = (spelled : List ℕ) → command_of spelled ≡ command_of line → IsTurn dump 0 (turn_alone spelled (remembered log) (remembered after) reply)
+-- a line that spells the same as this one has this reply, and turns what is remembered so
+abbrev pub IsTurnOf : Dump → (line : List ℕ) → (before after : Memory) → (reply : List ℕ) → Type 0
+IsTurnOf dump line before after reply = (spelled : List ℕ) → command_of spelled ≡ command_of line → IsTurn dump 0 (turn_alone spelled before after reply)
 
 -- a line is run
-pub record RunsLine (old new : Situation) (line : List ℕ) (before after : Option (List ℕ)) (result : Result Flow ServeFault) : Type 0 where
+pub record RunsLine (old new : Work) (line : List ℕ) (before after : Option (List ℕ)) (result : Result Flow ServeFault) : Type 0 where
   pub reply : List ℕ
   pub same_dump : new.dump ≡ old.dump
-  pub is_turn : IsTurnOf old.dump line old.log new.log reply
+  pub is_turn : IsTurnOf old.dump line old.memory new.memory reply
   pub ends : EndsLine line reply before after result
 
 -- how it stands at the end of the input

@@ -6,8 +6,9 @@ ghost use Rattle.hd_terms.specs.Edges.{index_of};
 ghost use Rattle.hd_terms.specs.Asking.{add_refusal, clear_refusal, cut_refusal, edit_refusal, empty_refusal, is_cuttable, undo_asked, unless_refused};
 ghost use Rattle.hd_protocol.specs.Editing.{EditEnds};
 
+use crate::analyst::Analyst;
 use hd_graph::Graph;
-use hd_state::{Done, State};
+use hd_state::Done;
 use hd_terms::{Edit, Event, LogFault, Refusal, Slot, What};
 use std::alloc::Global;
 
@@ -15,27 +16,35 @@ use std::alloc::Global;
 const ANALYST: u8 = 0;
 
 /// Adds an edit to the log.
-pub fn apply_edit(alloc: Global, state: &mut State, edit: Edit) -> Result<Done, Refusal>
-    ensures { EditEnds state.old state.new (unless_refused (edit_refusal state.old.dump edit) (whats.Do edit)) result }
+pub(crate) fn apply_edit(
+    alloc: Global,
+    analyst: &mut Analyst,
+    edit: Edit,
+) -> Result<Done, Refusal>
+    ensures { EditEnds analyst.old analyst.new (unless_refused (edit_refusal analyst.old.dump edit) (whats.Do edit)) result }
 {
-    if let Some(refusal) = refusal_of_edit(state.graph(), edit) {
+    if let Some(refusal) = refusal_of_edit(analyst.state().graph(), edit) {
         return Err(refusal);
     }
-    append(alloc, state, What::Do(edit))
+    append(alloc, analyst, What::Do(edit))
 }
 
 /// Takes back the event of a number, or without one the last live edit.
-pub fn undo(alloc: Global, state: &mut State, number: Option<u32>) -> Result<Done, Refusal>
-    ensures { EditEnds state.old state.new (undo_asked state.old.log 0 number) result }
+pub(crate) fn undo(
+    alloc: Global,
+    analyst: &mut Analyst,
+    number: Option<u32>,
+) -> Result<Done, Refusal>
+    ensures { EditEnds analyst.old analyst.new (undo_asked analyst.old.memory.log 0 number) result }
 {
     let number = match number {
         Some(number) => number,
-        None => match state.front().last_live(ANALYST) {
+        None => match analyst.state().front().last_live(ANALYST) {
             Some(number) => number,
             None => return Err(Refusal::NothingToUndo),
         },
     };
-    append(alloc, state, What::Undo(number))
+    append(alloc, analyst, What::Undo(number))
 }
 
 /// Why an edit may not be made over a dump, if it may not. Whether there is a root to drop is for the log to say.
@@ -120,19 +129,17 @@ fn is_cuttable(slot: Slot) -> bool
 
 /// Adds the analyst's event to the log, and steps the state to it. Where it is refused, or finds no memory, nothing
 /// changes.
-fn append(alloc: Global, state: &mut State, what: What) -> Result<Done, Refusal>
-    ensures { EditEnds state.old state.new (Ok what) result }
+fn append(alloc: Global, analyst: &mut Analyst, what: What) -> Result<Done, Refusal>
+    ensures { EditEnds analyst.old analyst.new (Ok what) result }
 {
     let event = Event { who: ANALYST, what };
+    let state = analyst.state();
     let roots = u64::from(state.graph().roots_len());
     if let Some(refusal) = state.front().append_refusal(roots, &event) {
         return Err(refusal);
     }
-    match state.step(alloc, event) {
-        Ok((next, done)) => {
-            *state = next;
-            Ok(done)
-        }
+    match analyst.step(alloc, event) {
+        Ok(done) => Ok(done),
         Err(_) => Err(Refusal::Log(LogFault::OutOfMemory)),
     }
 }

@@ -1,16 +1,17 @@
 //! What an analyst says and hears: lines become commands, commands run over a dump's state, and each is replied to.
 #![tactic(auto)]
 
+mod analyst;
+mod class_lines;
 mod edit;
-mod events;
 mod fixed_buffer;
+mod link_lines;
 mod reply;
-mod roots;
 mod run;
 mod sample;
 mod serving;
-mod slots;
 mod stat;
+mod texts;
 
 pub use hd_words::{LONGEST_LINE, read_command};
 pub use run::{RunFault, open_bytes, run_bytes};

@@ -2,12 +2,14 @@
 ghost use Rattle.std.specs.Prelude.{◌≡◌, ℕ, ◌≤◌, [], ◌∷◌, ◌++◌, length, take, Ok, Err, IfOk, IfErr, OnOk, OnErr, OnSome, if◌then◌else◌};
 ghost use Rattle.std.specs.Io.KnownBytes.{Keeps, Appends, Consumes, IsAtEnd};
 ghost use Rattle.hd_terms.specs.Lines.{is_quit_command};
+ghost use Rattle.hd_terms.specs.Memory.{beginning};
 ghost use Rattle.hd_protocol.specs.Serving.{kept_of, midway, RunsLine, RunsBytes, RunsEnd, Serves};
 
+use crate::analyst::Analyst;
 use crate::fixed_buffer::FixedBuffer;
 use crate::reply::{LONGEST_REPLY, answer};
 use hd_state::State;
-use hd_terms::{Command, LineFault};
+use hd_terms::{Command, LineFault, NoMemory};
 use hd_words::{LONGEST_LINE, read_command};
 use std::alloc::{AllocError, Global};
 use std::io::{BufRead, Write};
@@ -33,6 +35,16 @@ impl From<AllocError> for ServeFault {
     ghost from_gives = { λ _ e. e ≡ OutOfMemory };
 
     fn from(_error: AllocError) -> ServeFault {
+        ServeFault::OutOfMemory
+    }
+}
+
+impl From<NoMemory> for ServeFault {
+    ghost use Rattle.hd_protocol.specs.declared.serving.ServeFault.TheVariants.{OutOfMemory};
+
+    ghost from_gives = { λ _ e. e ≡ OutOfMemory };
+
+    fn from(_error: NoMemory) -> ServeFault {
         ServeFault::OutOfMemory
     }
 }
@@ -101,11 +113,11 @@ fn refill<R: BufRead>(reader: &mut R, chunk: &mut FixedBuffer<CHUNK>) -> Result<
     Ok(())
 }
 
-/// What serves an analyst: the state, the line that isn't ended yet, and room for a reply.
+/// What serves an analyst: what is kept for the analyst, the line that isn't ended yet, and room for a reply.
 #[derive(Drop)]
 struct Service {
     alloc: Global,
-    state: State,
+    analyst: Analyst,
     line: FixedBuffer<KEPT_LINE>,
     reply: FixedBuffer<LONGEST_REPLY>,
 }
@@ -113,12 +125,12 @@ struct Service {
 /// Runs the open line, and writes its reply.
 fn run_line<W: Write>(writer: &mut W, service: &mut Service) -> Result<Flow, ServeFault>
     ensures line { service.new.line ≡ service.old.line }
-    ensures runs { RunsLine service.old.state service.new.state service.old.line (W.contents writer.old) (W.contents writer.new) result }
+    ensures runs { RunsLine service.old.analyst service.new.analyst service.old.line (W.contents writer.old) (W.contents writer.new) result }
 {
     let reading = read_command(service.line.as_slice());
     match answer(
         service.alloc,
-        &mut service.state,
+        &mut service.analyst,
         reading,
         &mut service.reply,
     ) {
@@ -140,7 +152,7 @@ fn flow_after(reading: Result<Command, LineFault>) -> Flow
 
 /// Runs one byte: a newline ends the open line, any other byte goes onto it.
 fn run_byte<W: Write>(writer: &mut W, service: &mut Service, byte: u8) -> Result<Flow, ServeFault>
-    ensures { RunsBytes (byte ∷ []) (midway service.old.state service.old.line) (midway service.new.state service.new.line) (W.contents writer.old) (W.contents writer.new) result }
+    ensures { RunsBytes (byte ∷ []) (midway service.old.analyst service.old.line) (midway service.new.analyst service.new.line) (W.contents writer.old) (W.contents writer.new) result }
 {
     if byte == b'\n' {
         let flow = run_line(writer, service)?;
@@ -166,7 +178,7 @@ fn run_chunk<W: Write>(
     service: &mut Service,
     bytes: &[u8],
 ) -> Result<Flow, ServeFault>
-    ensures { RunsBytes bytes.now (midway service.old.state service.old.line) (midway service.new.state service.new.line) (W.contents writer.old) (W.contents writer.new) result }
+    ensures { RunsBytes bytes.now (midway service.old.analyst service.old.line) (midway service.new.analyst service.new.line) (W.contents writer.old) (W.contents writer.new) result }
 {
     for byte in bytes {
         match run_byte(writer, service, *byte)? {
@@ -179,7 +191,7 @@ fn run_chunk<W: Write>(
 
 /// Runs what is left at the end of the input, if it has a byte.
 fn run_end<W: Write>(writer: &mut W, service: &mut Service) -> Result<(), ServeFault>
-    ensures { RunsEnd (midway service.old.state service.old.line) (W.contents writer.old) (W.contents writer.new) result }
+    ensures { RunsEnd (midway service.old.analyst service.old.line) (W.contents writer.old) (W.contents writer.new) result }
 {
     if service.line.as_slice().is_empty() {
         return Ok(());
@@ -195,9 +207,9 @@ fn run_input<R: BufRead, W: Write>(
     service: &mut Service,
     chunk: &mut FixedBuffer<CHUNK>,
 ) -> Result<(), ServeFault>
-    requires log { service.old.state.log ≡ [] }
+    requires memory { service.old.analyst.memory ≡ beginning [] [] }
     requires line { service.old.line ≡ [] }
-    ensures { Serves service.old.state.dump (R.remaining reader.old) (R.remaining reader.new) (W.contents writer.old) (W.contents writer.new) result }
+    ensures { Serves service.old.analyst.dump (R.remaining reader.old) (R.remaining reader.new) (W.contents writer.old) (W.contents writer.new) result }
 {
     for _ in 0..MOST_REFILLS {
         flush(writer)?;
@@ -230,9 +242,10 @@ pub fn serve<R: BufRead, W: Write>(
     let mut chunk = FixedBuffer::new(alloc)?;
     let line = FixedBuffer::new(alloc)?;
     let reply = FixedBuffer::new(alloc)?;
+    let analyst = Analyst::new(alloc, state)?;
     let mut service = Service {
         alloc,
-        state,
+        analyst,
         line,
         reply,
     };

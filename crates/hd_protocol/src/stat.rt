@@ -9,11 +9,11 @@ ghost use Rattle.hd_state.specs.Totals.{total_for};
 ghost use Rattle.hd_protocol.specs.Running.{IsOpenFault};
 ghost use Rattle.hd_protocol.specs.Stating.{IsStatOf, StatsDump, shown_total};
 
-use crate::reply::strength_text;
 use crate::run::{RunFault, open_bytes};
 use crate::serving::{flush, put_all};
 use hd_state::{State, StrengthTotals, Total};
 use hd_terms::{Counts, Mode, NoMemory, Strength};
+use hd_words::strength_text;
 use std::alloc::{AllocError, Global};
 use std::fmt::Write as _;
 use std::io::Write;

@@ -6,5 +6,5 @@ use Rattle.hd_protocol.proofs.serving.run_chunk.Given as goal
 -- the bytes so far were run
 abbrev pub invariant-loop-byte : goal.invariant-loop-byte
 invariant-loop-byte g l =
-    RunsBytes (take l.byte-index l.bytes) (midway l.initial.service.state l.initial.service.line) (midway l.service.state l.service.line)
+    RunsBytes (take l.byte-index l.bytes) (midway l.initial.service.analyst l.initial.service.line) (midway l.service.analyst l.service.line)
     (g.W.Write.contents l.initial.writer) (g.W.Write.contents l.writer) (Ok flows.GoesOn)

@@ -9,17 +9,17 @@ use Rattle.hd_protocol.proofs.serving.run_line.Goals.{in-Some+in_ok-put_all-in-S
 pub returns-in_err-put_all-in-Some-clause-runs : goal.returns-in_err-put_all-in-Some-clause-runs
 returns-in_err-put_all-in-Some-clause-runs g c =
     let p = err_from_is_err_and c.from_residual.result c.from_residual.ensures.1 in
-    line_fault c.args.service.now.state c.answer.new.state c.args.service.now.line c.as_bytes.result.now c.read_command-reading.result _ _
+    line_fault c.args.service.now.analyst c.answer.new.analyst c.args.service.now.line c.as_bytes.result.now c.read_command-reading.result _ _
     (c.read_command-reading.ensures ∙ ap command_of c.as_slice.ensures.bytes)
-    (subst (IsAnswered c.args.service.now.state c.answer.new.state c.read_command-reading.result) (sym c.as_bytes.ensures.value) c.in-Some.ensures)
+    (subst (IsAnswered c.args.service.now.analyst c.answer.new.analyst c.read_command-reading.result) (sym c.as_bytes.ensures.value) c.in-Some.ensures)
     c.in_err-put_all-in-Some.ensures.err.0 c.in_err-put_all-in-Some.field-0.0 c.from_residual.result (p.1 ∙ ap Err p.2) c.in_err-put_all-in-Some.ensures.write c.in_err-put_all-in-Some.ensures.err.1
 
 pub returns-in_err-put_all-in-None-clause-runs : goal.returns-in_err-put_all-in-None-clause-runs
 returns-in_err-put_all-in-None-clause-runs g c =
     let p = err_from_is_err_and c.from_residual-in_err-put_all-in-None.result c.from_residual-in_err-put_all-in-None.ensures.1 in
-    line_fault c.args.service.now.state c.answer.new.state c.args.service.now.line c.as_slice-in-None.result.now c.read_command-reading.result _ _
+    line_fault c.args.service.now.analyst c.answer.new.analyst c.args.service.now.line c.as_slice-in-None.result.now c.read_command-reading.result _ _
     (c.read_command-reading.ensures ∙ ap command_of c.as_slice.ensures.bytes)
-    (subst (IsAnswered c.args.service.now.state c.answer.new.state c.read_command-reading.result) (sym c.as_slice-in-None.ensures.bytes) c.in-None.ensures)
+    (subst (IsAnswered c.args.service.now.analyst c.answer.new.analyst c.read_command-reading.result) (sym c.as_slice-in-None.ensures.bytes) c.in-None.ensures)
     c.in_err-put_all-in-None.ensures.err.0 c.in_err-put_all-in-None.field-0.0 c.from_residual-in_err-put_all-in-None.result (p.1 ∙ ap Err p.2) c.in_err-put_all-in-None.ensures.write c.in_err-put_all-in-None.ensures.err.1
 
 pub returns-clause-runs : goal.returns-clause-runs
@@ -27,11 +27,11 @@ returns-clause-runs g c =
     let read : c.read_command-reading.result ≡ command_of c.args.service.now.line = c.read_command-reading.ensures ∙ ap command_of c.as_slice.ensures.bytes in
     elim c.match-answer.branch [
       | in-Some+in_ok-put_all-in-Some w ↦ rw w.writer-is
-          (line_done c.args.service.now.state c.answer.new.state c.args.service.now.line w.as_bytes.result.now c.read_command-reading.result _ _ read
-          (subst (IsAnswered c.args.service.now.state c.answer.new.state c.read_command-reading.result) (sym w.as_bytes.ensures.value) w.in-Some.ensures)
+          (line_done c.args.service.now.analyst c.answer.new.analyst c.args.service.now.line w.as_bytes.result.now c.read_command-reading.result _ _ read
+          (subst (IsAnswered c.args.service.now.analyst c.answer.new.analyst c.read_command-reading.result) (sym w.as_bytes.ensures.value) w.in-Some.ensures)
           c.flow_after.result c.flow_after.ensures w.in_ok-put_all-in-Some.ensures.ok)
       | in-None+in_ok-put_all-in-None w ↦ rw w.writer-is
-          (line_done c.args.service.now.state c.answer.new.state c.args.service.now.line w.as_slice-in-None.result.now c.read_command-reading.result _ _ read
-          (subst (IsAnswered c.args.service.now.state c.answer.new.state c.read_command-reading.result) (sym w.as_slice-in-None.ensures.bytes) w.in-None.ensures)
+          (line_done c.args.service.now.analyst c.answer.new.analyst c.args.service.now.line w.as_slice-in-None.result.now c.read_command-reading.result _ _ read
+          (subst (IsAnswered c.args.service.now.analyst c.answer.new.analyst c.read_command-reading.result) (sym w.as_slice-in-None.ensures.bytes) w.in-None.ensures)
           c.flow_after.result c.flow_after.ensures w.in_ok-put_all-in-None.ensures.ok)
     ]
