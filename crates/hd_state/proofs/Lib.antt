@@ -1,4 +1,5 @@
 pub mod FallenLemmas
+pub mod ListedLemmas
 pub mod RootLemmas
 pub mod RowLemmas
 pub mod StandingLemmas

@@ -3,10 +3,14 @@
 
 mod edited;
 mod fallen;
+mod listing;
+mod mark;
 mod roots;
 mod rows;
+mod solved;
 mod state;
 mod totals;
 
+pub use mark::Mark;
 pub use state::{Done, State};
 pub use totals::{StrengthTotals, Total};
