@@ -17,7 +17,7 @@ use Rattle.hd_terms.specs.Totals.{Decides}
 use Rattle.hd_terms.specs.Fell.{FellCount, Falls, IsUnreachable}
 use Rattle.hd_state.specs.Fallen.{is_unreachable, falls_from}
 
-unreachable-true : (s : Strength) → is_unreachable s ≡ true → s ≡ strengths.Unreachable
+pub unreachable-true : (s : Strength) → is_unreachable s ≡ true → s ≡ strengths.Unreachable
 unreachable-true strengths.Unreachable e = refl
 unreachable-true strengths.Phantom e = absurd cc
 unreachable-true strengths.Final e = absurd cc

@@ -1,3 +1,4 @@
+pub mod ChainLemmas
 pub mod FallenLemmas
 pub mod ListedLemmas
 pub mod RootLemmas

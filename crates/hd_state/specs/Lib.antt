@@ -7,4 +7,5 @@ pub mod Shown
 pub mod Done
 pub mod Totals
 pub mod Listed
+pub mod ChainFound
 pub mod RootsShown

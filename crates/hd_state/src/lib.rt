@@ -1,6 +1,7 @@
 //! What one log makes of a dump: a graph that never changes, a log, and the strengths that the two give.
 #![tactic(auto)]
 
+mod chain;
 mod edited;
 mod fallen;
 mod listing;
@@ -11,6 +12,7 @@ mod solved;
 mod state;
 mod totals;
 
+pub use chain::{Chain, Link};
 pub use mark::Mark;
 pub use state::{Done, State};
 pub use totals::{StrengthTotals, Total};

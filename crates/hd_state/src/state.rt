@@ -13,8 +13,10 @@ ghost use Rattle.hd_terms.specs.declared.Strength.{Strength};
 ghost use Rattle.hd_terms.specs.Totals.{IsTotal, IsGroupTotal};
 ghost use Rattle.hd_terms.specs.Listed.{AreFallen, AreMembers};
 ghost use Rattle.hd_state.specs.Kept.{AreKept};
+ghost use Rattle.hd_state.specs.ChainFound.{IsChainFound};
 ghost use Rattle.hd_state.specs.Totals.{total_for};
 
+use crate::chain::{Chain, chain_of};
 use crate::edited::{Edited, edge_stands, root_stands};
 use crate::fallen::count_fallen;
 use crate::listing::{fallen_ids, member_ids};
@@ -217,6 +219,18 @@ impl State {
     {
         let total = count_group(self.solved(), group, strength);
         (total.count, total.bytes)
+    }
+
+    /// The chain of an object: a root path of the object's strength in which no object occurs twice. There is none where the
+    /// object is unreachable, or the graph has no object of this number. It has fewer links than the graph has objects.
+    ///
+    /// # Errors
+    ///
+    /// Memory ran out.
+    pub fn chain(&self, alloc: Global, o: u32) -> Result<Option<Chain>, NoMemory>
+        ensures { IfOk result (λ c. IsChainFound self.now.dump self.now.log o c) }
+    {
+        chain_of(alloc, self.solved(), o)
     }
 
     /// The graph as the log leaves it.
