@@ -13,10 +13,11 @@ use Rattle.hd_terms.specs.Dump.{Dump}
 use Rattle.hd_terms.specs.EditedDump.{standing}
 use Rattle.hd_terms.specs.Strengths.{HasStrength}
 use Rattle.hd_terms.specs.Settled.{Reached, Settled, reached_at}
+use Rattle.hd_terms.specs.Totals.{Decides}
 use Rattle.hd_terms.specs.Fell.{FellCount, Falls, IsUnreachable}
 use Rattle.hd_state.specs.Fallen.{is_unreachable, falls_from}
 
-unreachable-true : (s : Strength) → is_unreachable s ≡ true → s ≡ strengths.Unreachable
+pub unreachable-true : (s : Strength) → is_unreachable s ≡ true → s ≡ strengths.Unreachable
 unreachable-true strengths.Unreachable e = refl
 unreachable-true strengths.Phantom e = absurd cc
 unreachable-true strengths.Final e = absurd cc
@@ -46,21 +47,25 @@ module _ (gives : (g : Standing) (ks : List Reached) → Settled g ks → (o : �
   said : (log : List Event) (ks : List Reached) → Settled (standing dump log) ks → (o : ℕ) → IsUnreachable dump log o → is_unreachable (reached_at ks o).strength ≡ true
   said log ks h o u = ap is_unreachable (one (standing dump log) o (reached_at ks o).strength strengths.Unreachable (gives (standing dump log) ks h o) u)
 
-  pub fell-count : (before after : List Event) (ks ls : List Reached) → Settled (standing dump before) ks → Settled (standing dump after) ls → length ls ≡ length dump.objects
-      → (n : ℕ) → n ≡ count_by (falls_from ks ls) (range_with_len 0 (length ls)) → FellCount dump before after n
-  fell-count before after ks ls h k same n counted = record {
-    falls = falls_from ks ls;
-    decides = λ o within. (falls, fallen o);
-    count = counted ∙ ap (λ (m : ℕ). count_by (falls_from ks ls) (range_with_len 0 m)) same;
-  }
+  -- the test decides which objects fall
+  pub decides-falls : (before after : List Event) (ks ls : List Reached) → Settled (standing dump before) ks → Settled (standing dump after) ls → Decides dump (Falls dump before after) (falls_from ks ls)
+  decides-falls before after ks ls h k o within = (falls o, fallen o)
     where
-      falls : {o : ℕ} → falls_from ks ls o ≡ true → Falls dump before after o
-      falls {o} e =
+      falls : (o : ℕ) → falls_from ks ls o ≡ true → Falls dump before after o
+      falls o e =
           let parts = both (is_unreachable (reached_at ls o).strength) (is_unreachable (reached_at ks o).strength) e in
           (says after ls k o parts.0, λ u. absurd (true≢false (sym (said before ks h o u) ∙ parts.1)))
 
       fallen : (o : ℕ) → Falls dump before after o → falls_from ks ls o ≡ true
       fallen o f = neither (is_unreachable (reached_at ls o).strength) (is_unreachable (reached_at ks o).strength) (said after ls k o f.0) (λ e. f.1 (says before ks h o e))
+
+  pub fell-count : (before after : List Event) (ks ls : List Reached) → Settled (standing dump before) ks → Settled (standing dump after) ls → length ls ≡ length dump.objects
+      → (n : ℕ) → n ≡ count_by (falls_from ks ls) (range_with_len 0 (length ls)) → FellCount dump before after n
+  fell-count before after ks ls h k same n counted = record {
+    falls = falls_from ks ls;
+    decides = decides-falls before after ks ls h k;
+    count = counted ∙ ap (λ (m : ℕ). count_by (falls_from ks ls) (range_with_len 0 m)) same;
+  }
 
 module _ (p : ℕ → Bool) (n o : ℕ) (within : o < n) where
   here : p (get_or (range_with_len 0 n) o 0) ≡ p o

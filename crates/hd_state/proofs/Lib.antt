@@ -1,4 +1,6 @@
+pub mod ChainLemmas
 pub mod FallenLemmas
+pub mod ListedLemmas
 pub mod RootLemmas
 pub mod RowLemmas
 pub mod StandingLemmas

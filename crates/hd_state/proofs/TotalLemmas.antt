@@ -15,10 +15,10 @@ use Rattle.hd_terms.specs.Dump.{Dump, object_at}
 use Rattle.hd_terms.specs.EditedDump.{standing}
 use Rattle.hd_terms.specs.Strengths.{HasStrength}
 use Rattle.hd_terms.specs.Settled.{Reached, Settled, reached_at}
-use Rattle.hd_terms.specs.Totals.{IsTotal}
+use Rattle.hd_terms.specs.Totals.{Decides, IsTotal, IsTotalOf}
 use Rattle.hd_state.specs.declared.totals.Total.{Total}
 use Rattle.hd_state.specs.declared.totals.StrengthTotals.{StrengthTotals}
-use Rattle.hd_state.specs.Totals.{total_for, plus_object, with_object, has_kept, bytes_with, AreCounted}
+use Rattle.hd_state.specs.Totals.{total_for, plus_object, with_object, has_kept, bytes_with, bytes_if, AreCounted, IsTotalBefore}
 use Rattle.hd_state.proofs.FallenLemmas.{count-more, count-all}
 
 -- the strength of a rank
@@ -126,20 +126,60 @@ module _ (dump : Dump) (ks : List Reached) (o : ℕ) (old : StrengthTotals) (h :
     small = λ s. omega (arith, bytes-is s, h.small s, case-le (has_kept ks s o) (object_at dump o).bytes);
   }
 
+-- the total of the objects that pass a test
+module _ (dump : Dump) (test : ℕ → Bool) where
+  pub no-total : IsTotalBefore dump test 0 (record { count = 0; bytes = 0 })
+  no-total = record { count = refl; bytes = refl; few = omega arith; small = omega arith }
+
+  bytes-more : (o : ℕ) → o < length dump.objects → (b : Bool) → test o ≡ b
+      → sum_by (bytes_if dump test) (take (o + 1) (range_with_len 0 (length dump.objects))) ≡ sum_by (bytes_if dump test) (take o (range_with_len 0 (length dump.objects))) + cond b (object_at dump o).bytes 0
+  bytes-more o within b is =
+      let sum = sum_by (bytes_if dump test) (take o (range_with_len 0 (length dump.objects))) in
+      sum_by_more (bytes_if dump test) (range_with_len 0 (length dump.objects)) o 0 (omega (arith, length-range_with_len 0 (length dump.objects)))
+      ∙ ap (λ (n : ℕ). sum + bytes_if dump test n) (get_or-range_with_len 0 (length dump.objects) o 0 within ∙ zero-add o)
+      ∙ ap (λ (c : Bool). sum + cond c (object_at dump o).bytes 0) is
+
+  -- one more object, which doesn't pass
+  pub total-without : (o : ℕ) (total : Total) → IsTotalBefore dump test o total → o < length dump.objects → test o ≡ false → IsTotalBefore dump test (o + 1) total
+  total-without o total h within fails = record {
+    count = omega (arith, h.count, count-more test (length dump.objects) o within false fails);
+    bytes = omega (arith, h.bytes, bytes-more o within false fails);
+    few = omega (arith, h.few);
+    small = omega (arith, h.small);
+  }
+
+  -- one more object, which passes
+  pub total-with : (o : ℕ) (total : Total) → IsTotalBefore dump test o total → o < length dump.objects → test o ≡ true → (object_at dump o).bytes ≤ largest_file → IsTotalBefore dump test (o + 1) (plus_object total (object_at dump o).bytes)
+  total-with o total h within is small = record {
+    count = omega (arith, h.count, count-more test (length dump.objects) o within true is);
+    bytes = omega (arith, h.bytes, bytes-more o within true is);
+    few = omega (arith, h.few);
+    small = omega (arith, h.small, small);
+  }
+
+  -- after all objects
+  pub whole-total : (IsMeant : ℕ → Type 0) (total : Total) → Decides dump IsMeant test → IsTotalBefore dump test (length dump.objects) total → IsTotalOf dump IsMeant total.count total.bytes
+  whole-total IsMeant total decides h = record {
+    has = test;
+    decides = decides;
+    count_is = h.count ∙ count-all test (length dump.objects);
+    bytes_is = h.bytes ∙ ap (sum_by (bytes_if dump test)) (take_all (length dump.objects) (range_with_len 0 (length dump.objects)) (omega (arith, length-range_with_len 0 (length dump.objects))));
+  }
+
 -- all objects, where what is kept is settled for the dump under a log
 module _ (gives : (g : Standing) (ks : List Reached) → Settled g ks → (o : ℕ) → HasStrength g o (reached_at ks o).strength)
     (one : (g : Standing) (o : ℕ) (a b : Strength) → HasStrength g o a → HasStrength g o b → a ≡ b)
     (dump : Dump) (log : List Event) (ks : List Reached) (settled : Settled (standing dump log) ks) where
+  pub has-strength : (s : Strength) (o : ℕ) → has_kept ks s o ≡ true → HasStrength (standing dump log) o s
+  has-strength s o e = subst (HasStrength (standing dump log) o) (one-rank (reached_at ks o).strength s e) (gives (standing dump log) ks settled o)
+
+  pub is-kept : (s : Strength) (o : ℕ) → HasStrength (standing dump log) o s → has_kept ks s o ≡ true
+  is-kept s o h = eq-eqb (rank (reached_at ks o).strength) (rank s) (ap rank (one (standing dump log) o (reached_at ks o).strength s (gives (standing dump log) ks settled o) h))
+
   pub total-is : (totals : StrengthTotals) → AreCounted dump ks (length dump.objects) totals → (s : Strength) → IsTotal dump log s (total_for totals s).count (total_for totals s).bytes
   total-is totals h s = record {
     has = has_kept ks s;
-    decides = λ o within. (has, had o);
+    decides = λ o within. (has-strength s o, is-kept s o);
     count_is = h.counts s ∙ count-all (has_kept ks s) (length dump.objects);
     bytes_is = h.bytes s ∙ ap (sum_by (bytes_with dump ks s)) (take_all (length dump.objects) (range_with_len 0 (length dump.objects)) (omega (arith, length-range_with_len 0 (length dump.objects))));
   }
-    where
-      has : {o : ℕ} → has_kept ks s o ≡ true → HasStrength (standing dump log) o s
-      has {o} e = subst (HasStrength (standing dump log) o) (one-rank (reached_at ks o).strength s e) (gives (standing dump log) ks settled o)
-
-      had : (o : ℕ) → HasStrength (standing dump log) o s → has_kept ks s o ≡ true
-      had o h = eq-eqb (rank (reached_at ks o).strength) (rank s) (ap rank (one (standing dump log) o (reached_at ks o).strength s (gives (standing dump log) ks settled o) h))

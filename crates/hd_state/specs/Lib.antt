@@ -1,7 +1,11 @@
 pub mod Situation
+pub mod Kept
 pub mod StateInside
+pub mod MarkInside
 pub mod Fallen
 pub mod Shown
 pub mod Done
 pub mod Totals
+pub mod Listed
+pub mod ChainFound
 pub mod RootsShown

@@ -1,11 +1,9 @@
 -- What a state keeps, and what holds of it.
 -- Source: this project.
-use Rattle.std.specs.Prelude.{◌≡◌, length}
 use Rattle.std.specs.Arc.{arc_value}
-use Rattle.hd_terms.specs.EditedDump.{standing}
-use Rattle.hd_terms.specs.Settled.{Settled}
 use Rattle.hd_strength.specs.Removed.{IsRemovedBy}
 use Rattle.hd_state.specs.declared.state.State.TheInside.{Inside}
+use Rattle.hd_state.specs.Kept.{AreKept}
 use Rattle.hd_state.specs.Situation.{Situation}
 
 -- the dump of the graph, under the log that is kept
@@ -15,6 +13,5 @@ situation_of a = record { dump = arc_value a.graph; log = a.front }
 -- what is taken away is what the log's live edits take away, and what is kept of the objects is settled for what stands
 -- under the log
 pub record IsState (a : Inside) : Type 0 where
-  pub count : length a.strengths ≡ length (situation_of a).dump.objects
   pub removed : IsRemovedBy (situation_of a).dump (situation_of a).log a.removed
-  pub settled : Settled (standing (situation_of a).dump (situation_of a).log) a.strengths
+  pub kept : AreKept (situation_of a).dump (situation_of a).log (arc_value a.strengths)

@@ -47,3 +47,14 @@ pub record AreCounted (dump : Dump) (ks : List Reached) (k : ℕ) (totals : Stre
   pub bytes : (s : Strength) → (total_for totals s).bytes ≡ sum_by (bytes_with dump ks s) (take k (range_with_len 0 (length dump.objects)))
   pub few : (s : Strength) → (total_for totals s).count ≤ k
   pub small : (s : Strength) → (total_for totals s).bytes ≤ k * largest_file
+
+-- the recorded bytes of the object of a number, if it passes a test
+abbrev pub bytes_if : Dump → (ℕ → Bool) → ℕ → ℕ
+bytes_if dump test o = if test o then (object_at dump o).bytes else 0
+
+-- the total of those among so many first objects that pass a test
+pub record IsTotalBefore (dump : Dump) (test : ℕ → Bool) (k : ℕ) (total : Total) : Type 0 where
+  pub count : total.count ≡ count_by test (take k (range_with_len 0 (length dump.objects)))
+  pub bytes : total.bytes ≡ sum_by (bytes_if dump test) (take k (range_with_len 0 (length dump.objects)))
+  pub few : total.count ≤ k
+  pub small : total.bytes ≤ k * largest_file

@@ -7,7 +7,7 @@ use hd_strength::Strengths;
 use hd_terms::Strength;
 
 /// Whether an object becomes unreachable: it is, and it was not before.
-fn falls(before: Strength, after: Strength) -> bool
+pub(crate) fn falls(before: Strength, after: Strength) -> bool
     ensures { result ≡ falls_to before after }
 {
     after == Strength::Unreachable && before != Strength::Unreachable

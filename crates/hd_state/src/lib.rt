@@ -1,12 +1,18 @@
 //! What one log makes of a dump: a graph that never changes, a log, and the strengths that the two give.
 #![tactic(auto)]
 
+mod chain;
 mod edited;
 mod fallen;
+mod listing;
+mod mark;
 mod roots;
 mod rows;
+mod solved;
 mod state;
 mod totals;
 
+pub use chain::{Chain, Link};
+pub use mark::Mark;
 pub use state::{Done, State};
 pub use totals::{StrengthTotals, Total};

@@ -10,19 +10,27 @@ ghost use Rattle.hd_terms.specs.SlotRows.{slot_rows};
 ghost use Rattle.hd_strength.specs.Removed.{IsRemovedBy};
 ghost use Rattle.hd_state.specs.Done.{IsDone};
 ghost use Rattle.hd_terms.specs.declared.Strength.{Strength};
-ghost use Rattle.hd_terms.specs.Totals.{IsTotal};
+ghost use Rattle.hd_terms.specs.Totals.{IsTotal, IsGroupTotal};
+ghost use Rattle.hd_terms.specs.Listed.{AreFallen, AreMembers};
+ghost use Rattle.hd_state.specs.Kept.{AreKept};
+ghost use Rattle.hd_state.specs.ChainFound.{IsChainFound};
 ghost use Rattle.hd_state.specs.Totals.{total_for};
 
+use crate::chain::{Chain, chain_of};
 use crate::edited::{Edited, edge_stands, root_stands};
 use crate::fallen::count_fallen;
+use crate::listing::{fallen_ids, member_ids};
+use crate::mark::Mark;
 use crate::roots::root_rows;
 use crate::rows::rows_of;
-use crate::totals::{StrengthTotals, count_totals};
+use crate::solved::Solved;
+use crate::totals::{StrengthTotals, count_group, count_totals};
 use hd_graph::Graph;
 use hd_log::Front;
 use hd_strength::{Removed, Strengths, from_removed};
 use hd_terms::{
-    Event, NoMemory, RootRow, SlotRow, Strength, one_strength, settled_supports_give_strengths,
+    Event, Group, NoMemory, RootRow, SlotRow, Strength, one_strength,
+    settled_supports_give_strengths,
 };
 use std::alloc::Global;
 use std::marker::Model;
@@ -35,7 +43,7 @@ pub struct State {
     graph: Arc<Graph>,
     front: Front,
     removed: Removed,
-    strengths: Strengths,
+    strengths: Arc<Strengths>,
 }
 
 /// What an event did.
@@ -74,6 +82,7 @@ impl State {
         let front = Front::empty(alloc)?;
         let removed = Removed::of(alloc, &graph, &front)?;
         let strengths = from_removed(alloc, &graph, &front, &removed)?;
+        let strengths = Arc::new(alloc, strengths)?;
         Ok(State {
             graph,
             front,
@@ -105,6 +114,7 @@ impl State {
             fell: count_fallen(&self.strengths, &strengths),
             back: count_fallen(&strengths, &self.strengths),
         };
+        let strengths = Arc::new(alloc, strengths)?;
         let graph = Arc::try_clone(&self.graph)?;
         let state = State {
             graph,
@@ -144,7 +154,83 @@ impl State {
     {
         settled_supports_give_strengths();
         one_strength();
-        count_totals(&self.graph, &self.strengths)
+        let solved = self.solved();
+        count_totals(solved.graph, solved.strengths)
+    }
+
+    /// The graph under the log, with its strengths.
+    fn solved(&self) -> Solved<'_>
+        ensures dump { result.graph.now ≡ self.now.dump }
+        ensures log { result.front.now ≡ self.now.log }
+        ensures kept { AreKept result.graph.now result.front.now result.strengths.now }
+    {
+        Solved {
+            graph: &self.graph,
+            front: &self.front,
+            strengths: &self.strengths,
+        }
+    }
+
+    /// A mark of this state, to be compared with later states of the same graph. Nothing is copied.
+    ///
+    /// # Errors
+    ///
+    /// Memory ran out.
+    pub fn mark(&self) -> Result<Mark, NoMemory>
+        ensures { IfOk result (λ m. m ≡ self.now) }
+    {
+        let graph = Arc::try_clone(&self.graph)?;
+        let front = self.front.share()?;
+        let strengths = Arc::try_clone(&self.strengths)?;
+        Ok(Mark::new(graph, front, strengths))
+    }
+
+    /// The IDs of the objects that are unreachable and were not at a mark, ascending. All objects are gone through.
+    ///
+    /// # Errors
+    ///
+    /// Memory ran out.
+    pub fn fell(&self, alloc: Global, mark: &Mark) -> Result<Vec<u64>, NoMemory>
+        requires { mark.now.dump ≡ self.now.dump }
+        ensures { IfOk result (λ v. AreFallen self.now.dump mark.now.log self.now.log v.items) }
+    {
+        fallen_ids(alloc, mark.solved(), self.solved())
+    }
+
+    /// The IDs of the objects of a group that have a strength, ascending. All objects are gone through.
+    ///
+    /// # Errors
+    ///
+    /// Memory ran out.
+    pub fn members(
+        &self,
+        alloc: Global,
+        group: Group,
+        strength: Strength,
+    ) -> Result<Vec<u64>, NoMemory>
+        ensures { IfOk result (λ v. AreMembers self.now.dump self.now.log group strength v.items) }
+    {
+        member_ids(alloc, self.solved(), group, strength)
+    }
+
+    /// How many objects of a group have a strength, and their recorded bytes. All objects are gone through; it takes no memory.
+    pub fn total(&self, group: Group, strength: Strength) -> (u64, u64)
+        ensures { IsGroupTotal self.now.dump self.now.log group strength result.0 result.1 }
+    {
+        let total = count_group(self.solved(), group, strength);
+        (total.count, total.bytes)
+    }
+
+    /// The chain of an object: a root path of the object's strength in which no object occurs twice. There is none where the
+    /// object is unreachable, or the graph has no object of this number. It has fewer links than the graph has objects.
+    ///
+    /// # Errors
+    ///
+    /// Memory ran out.
+    pub fn chain(&self, alloc: Global, o: u32) -> Result<Option<Chain>, NoMemory>
+        ensures { IfOk result (λ c. IsChainFound self.now.dump self.now.log o c) }
+    {
+        chain_of(alloc, self.solved(), o)
     }
 
     /// The graph as the log leaves it.

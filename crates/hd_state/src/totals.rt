@@ -1,11 +1,15 @@
 //! How many objects have each strength, and how many bytes.
 ghost use Rattle.std.specs.Prelude.{◌≡◌, ◌+◌, ◌<◌, ◌≤◌, ◌^◌, length};
 ghost use Rattle.hd_terms.specs.declared.Strength.{Strength};
+ghost use Rattle.hd_terms.specs.Totals.{IsGroupTotal};
+ghost use Rattle.hd_state.specs.Kept.{AreKept};
 ghost use Rattle.hd_state.specs.Totals.{AreCounted, with_object, total_for};
 
+use crate::listing::is_member;
+use crate::solved::Solved;
 use hd_graph::Graph;
 use hd_strength::Strengths;
-use hd_terms::Strength;
+use hd_terms::{Group, Strength, one_strength, settled_supports_give_strengths};
 
 /// How many objects, and their recorded bytes.
 #[derive(Clone, Copy, Debug, PartialEq, Eq)]
@@ -101,4 +105,20 @@ pub(crate) fn count_totals(graph: &Graph, strengths: &Strengths) -> StrengthTota
         totals.add(strengths.strength(o), graph.bytes_of(o));
     }
     totals
+}
+
+/// The total of the objects of a group that have a strength, in one pass.
+pub(crate) fn count_group(solved: Solved<'_>, group: Group, strength: Strength) -> Total
+    requires { AreKept solved.graph.now solved.front.now solved.strengths.now }
+    ensures { IsGroupTotal solved.entry.graph.now solved.entry.front.now group strength result.count result.bytes }
+{
+    settled_supports_give_strengths();
+    one_strength();
+    let mut total = NONE;
+    for o in 0..solved.graph.objects() {
+        if is_member(solved.graph, solved.strengths, group, strength, o) {
+            total = total.plus(solved.graph.bytes_of(o));
+        }
+    }
+    total
 }

@@ -1,0 +1,59 @@
+//! Marks: what a log made of a dump at one time, kept to be compared with later.
+ghost use Rattle.std.specs.Prelude.{◌≡◌};
+ghost use Rattle.std.specs.Arc.{arc_value};
+ghost use Rattle.hd_state.specs.Kept.{AreKept};
+
+use crate::solved::Solved;
+use hd_graph::Graph;
+use hd_log::Front;
+use hd_strength::Strengths;
+use std::marker::Model;
+use std::sync::Arc;
+
+/// What a log makes of a dump: the log, and the strength of each object under it. A mark owns these parts together with
+/// the state that it is of, and copies none of them.
+#[derive(Drop)]
+pub struct Mark {
+    graph: Arc<Graph>,
+    front: Front,
+    strengths: Arc<Strengths>,
+}
+
+impl Model for Mark {
+    ghost use Rattle.hd_state.specs.Situation.{Situation};
+
+    ghost Value = { Situation };
+
+    ghost use Rattle.hd_state.specs.MarkInside.{marked_situation, IsMark};
+
+    ghost view = { marked_situation };
+
+    ghost invariant = { IsMark };
+}
+
+impl Mark {
+    /// The mark of a graph under a log that leaves these strengths.
+    pub(crate) fn new(graph: Arc<Graph>, front: Front, strengths: Arc<Strengths>) -> Mark
+        requires { AreKept (arc_value graph) front (arc_value strengths) }
+        ensures { result ≡ record { dump = arc_value graph; log = front } }
+    {
+        Mark {
+            graph,
+            front,
+            strengths,
+        }
+    }
+
+    /// The graph under the mark's log, with its strengths.
+    pub(crate) fn solved(&self) -> Solved<'_>
+        ensures dump { result.graph.now ≡ self.now.dump }
+        ensures log { result.front.now ≡ self.now.log }
+        ensures kept { AreKept result.graph.now result.front.now result.strengths.now }
+    {
+        Solved {
+            graph: &self.graph,
+            front: &self.front,
+            strengths: &self.strengths,
+        }
+    }
+}
