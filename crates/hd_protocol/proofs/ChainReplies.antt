@@ -6,10 +6,10 @@ use Rattle.hd_terms.specs.declared.Strength.TheVariants as strengths
 use Rattle.hd_terms.specs.Paths.{Edge}
 use Rattle.hd_terms.specs.Dump.{Dump}
 use Rattle.hd_terms.specs.Replies.{answered, chain_start, chain_lines, link_line, RepliesChain}
-use Rattle.hd_state.specs.declared.stub.Chain.{Chain}
-use Rattle.hd_state.specs.declared.stub.Link.{Link}
-use Rattle.hd_state.specs.ChainFound.{IsChainFound, IsChainOf, link_of}
-use Rattle.hd_protocol.specs.ChainLines.{lines_of, link_text, start_of}
+use Rattle.hd_state.specs.declared.chain.Chain.{Chain}
+use Rattle.hd_state.specs.declared.chain.Link.{Link}
+use Rattle.hd_state.specs.ChainFound.{IsChainFound, IsFoundChain, link_of, root_of}
+use Rattle.hd_protocol.specs.ChainLines.{lines_of, link_text}
 
 module _ (dump : Dump) (log : List Event) (o : ℕ) (reply : List ℕ) where
   -- nothing leads to it
@@ -17,12 +17,12 @@ module _ (dump : Dump) (log : List Event) (o : ℕ) (reply : List ℕ) where
   unreachable_reply found is = (strengths.Unreachable, found, inl (refl, is))
 
   -- the lines of the chain are those of its edges
-  same_lines : (chain : Chain) (es : List Edge) → chain.links.items ≡ map link_of es → lines_of dump chain ≡ chain_lines dump (start_of chain) es
+  same_lines : (chain : Chain) (es : List Edge) → chain.links.items ≡ map link_of es → lines_of dump chain ≡ chain_lines dump (root_of chain) es
   same_lines chain es links =
-      ap (λ (ls : List (List ℕ)). chain_start dump (start_of chain) ∷ ls)
+      ap (λ (ls : List (List ℕ)). chain_start dump (root_of chain) ∷ ls)
       (ap (map (link_text dump)) links ∙ map-map (link_text dump) link_of es)
 
   -- a chain leads to it
-  pub chain_reply : (chain : Chain) → IsChainOf dump log o chain → reply ≡ answered (lines_of dump chain) → RepliesChain dump log (Some o) reply
+  pub chain_reply : (chain : Chain) → IsFoundChain dump log o chain → reply ≡ answered (lines_of dump chain) → RepliesChain dump log (Some o) reply
   chain_reply chain is reply_is =
-      (is.strength, is.has, inr (start_of chain, is.edges, is.chain, reply_is ∙ ap answered (same_lines chain is.edges is.links)))
+      (is.strength, is.has_strength, inr (root_of chain, is.edges, is.is_chain, reply_is ∙ ap answered (same_lines chain is.edges is.links)))

@@ -1,16 +1,12 @@
 -- Chains as they are shown.
 -- Source: this project's protocol (docs/PROTOCOL.md).
 use Rattle.std.specs.Prelude.{ℕ, List, ◌∷◌, ◌++◌, map}
-use Rattle.hd_terms.specs.Paths.{RootEntry}
 use Rattle.hd_terms.specs.Dump.{Dump, object_at}
 use Rattle.hd_terms.specs.Names.{id_text}
 use Rattle.hd_terms.specs.Replies.{chain_start, slot_name, kind_name}
-use Rattle.hd_state.specs.declared.stub.Chain.{Chain}
-use Rattle.hd_state.specs.declared.stub.Link.{Link}
-
--- the root of a chain
-abbrev pub start_of : Chain → RootEntry
-start_of chain = record { number = chain.root; target = chain.start }
+use Rattle.hd_state.specs.declared.chain.Chain.{Chain}
+use Rattle.hd_state.specs.declared.chain.Link.{Link}
+use Rattle.hd_state.specs.ChainFound.{root_of}
 
 -- the line of a link
 abbrev pub link_text : Dump → Link → List ℕ
@@ -18,4 +14,4 @@ link_text dump link = slot_name link.slot ++ 32 ∷ kind_name link.kind ++ 32 �
 
 -- the lines of a chain: its root, and then a line for each link
 abbrev pub lines_of : Dump → Chain → List (List ℕ)
-lines_of dump chain = chain_start dump (start_of chain) ∷ map (link_text dump) chain.links.items
+lines_of dump chain = chain_start dump (root_of chain) ∷ map (link_text dump) chain.links.items

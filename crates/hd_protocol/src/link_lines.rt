@@ -1,7 +1,7 @@
 //! Chains as lines: the root, and then the links.
 ghost use Rattle.std.specs.Prelude.{◌≡◌, ◌<◌, ◌++◌, length, string_bytes, OnOk};
 ghost use Rattle.hd_terms.specs.Replies.{chain_start, root_kind, with_newline};
-ghost use Rattle.hd_protocol.specs.ChainLines.{start_of};
+ghost use Rattle.hd_state.specs.ChainFound.{root_of};
 
 use hd_graph::Graph;
 use hd_state::{Chain, Link};
@@ -49,7 +49,7 @@ fn kind_of_root(graph: &Graph, root: u64) -> Option<RootKind>
 /// Puts the line of a chain's root behind a text, with its newline.
 pub(crate) fn put_start(text: &mut String, graph: &Graph, chain: &Chain) -> Result<(), AllocError>
     requires { chain.now.start < length graph.now.objects }
-    ensures { OnOk result (string_bytes text.new ≡ string_bytes text.old ++ with_newline (chain_start graph.now (start_of chain.now))) }
+    ensures { OnOk result (string_bytes text.new ≡ string_bytes text.old ++ with_newline (chain_start graph.now (root_of chain.now))) }
 {
     let root = chain.root;
     let kind = root_text(kind_of_root(graph, root));

@@ -6,7 +6,7 @@ ghost use Rattle.hd_terms.specs.Listed.{AreFallen, AreMembers};
 ghost use Rattle.hd_terms.specs.RootRows.{root_rows};
 ghost use Rattle.hd_terms.specs.SlotRows.{slot_rows};
 ghost use Rattle.hd_terms.specs.Replies.{answered, into_line, log_lines, root_line, slot_line, RepliesChain, RepliesClasses, RepliesIds};
-ghost use Rattle.hd_state.specs.declared.stub.Link.{Link as OneLink};
+ghost use Rattle.hd_state.specs.declared.chain.Link.{Link as OneLink};
 ghost use Rattle.hd_protocol.specs.ChainLines.{lines_of};
 ghost use Rattle.hd_protocol.specs.EventRows.{event_rows};
 
