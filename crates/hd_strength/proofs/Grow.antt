@@ -13,7 +13,7 @@ use Rattle.hd_strength.specs.declared.buckets.Offer.{Offer}
 use Rattle.hd_strength.specs.declared.buckets.Buckets.{Buckets}
 use Rattle.hd_strength.specs.Buckets.{bucket, TakesBest}
 use Rattle.hd_strength.specs.Growing.{rank_at, offered_strength, offer_at, IsBacked, IsGrowing, Every, AddsOffers}
-use Rattle.hd_strength.proofs.Lists.{Contains-nil}
+use Rattle.hd_strength.proofs.Lists.{Contains-nil, Contains-head, Contains-tail, Contains-cons_cases}
 
 -- indexes give the edges that stand, each from its own object
 pub record AreRows (g : Standing) (at : ℕ → ℕ → Option Edge) : Type 0 where
@@ -34,22 +34,47 @@ pub record Extends (small big : Strength → List Offer) (s : Strength) (x : Off
   pub within : (t : Strength) (y : Offer) → Contains (small t) y → Contains (big t) y
   pub left : (t : Strength) (y : Offer) → Contains (big t) y → ((t ≡ s) × (y ≡ x)) ⊎ Contains (small t) y
 
--- by buckets
-pub extends : (small big : Strength → List Offer) (s : Strength) (x : Offer) → big s ≡ small s ++ x ∷ [] → ((t : Strength) → t ≢ s → small t ≡ big t) → Extends small big s x
-extends small big s x here others = record {
-  made = subst (λ (xs : List Offer). Contains xs x) (sym here) (Contains-push (small s) x);
+-- by the bucket that has it
+extends-by : (small big : Strength → List Offer) (s : Strength) (x : Offer) → Contains (big s) x → ((y : Offer) → Contains (small s) y → Contains (big s) y)
+    → ((y : Offer) → Contains (big s) y → (y ≡ x) ⊎ Contains (small s) y) → ((t : Strength) → t ≢ s → small t ≡ big t) → Extends small big s x
+extends-by small big s x made kept parts others = record {
+  made = made;
   within = λ t y c. elim (strength_cases t s) [
-    | inl same ↦ subst (λ (t : Strength). Contains (big t) y) (sym same) (subst (λ (xs : List Offer). Contains xs y) (sym here) (Contains-append_left (small s) (x ∷ []) y (subst (λ (t : Strength). Contains (small t) y) same c)))
+    | inl same ↦ subst (λ (t : Strength). Contains (big t) y) (sym same) (kept y (subst (λ (t : Strength). Contains (small t) y) same c))
     | inr other ↦ subst (λ (xs : List Offer). Contains xs y) (others t other) c
   ];
   left = λ t y c. elim (strength_cases t s) [
-    | inl same ↦ elim (Contains-push_cases (small s) x y (subst (λ (xs : List Offer). Contains xs y) here (subst (λ (t : Strength). Contains (big t) y) same c))) [
-      | inl before ↦ inr (subst (λ (t : Strength). Contains (small t) y) (sym same) before)
-      | inr is ↦ inl (same, sym is)
+    | inl same ↦ elim (parts y (subst (λ (t : Strength). Contains (big t) y) same c)) [
+      | inl is ↦ inl (same, is)
+      | inr before ↦ inr (subst (λ (t : Strength). Contains (small t) y) (sym same) before)
     ]
     | inr other ↦ inr (subst (λ (xs : List Offer). Contains xs y) (sym (others t other)) c)
   ];
 }
+
+-- as the last of its bucket
+pub extends : (small big : Strength → List Offer) (s : Strength) (x : Offer) → big s ≡ small s ++ x ∷ [] → ((t : Strength) → t ≢ s → small t ≡ big t) → Extends small big s x
+extends small big s x here others =
+    extends-by small big s x
+    (subst (λ (xs : List Offer). Contains xs x) (sym here) (Contains-push (small s) x))
+    (λ y c. subst (λ (xs : List Offer). Contains xs y) (sym here) (Contains-append_left (small s) (x ∷ []) y c))
+    (λ y c. elim (Contains-push_cases (small s) x y (subst (λ (xs : List Offer). Contains xs y) here c)) [
+      | inl before ↦ inr before
+      | inr is ↦ inl (sym is)
+    ])
+    others
+
+-- as the first of its bucket
+extends-first : (small big : Strength → List Offer) (s : Strength) (x : Offer) → big s ≡ x ∷ small s → ((t : Strength) → t ≢ s → small t ≡ big t) → Extends small big s x
+extends-first small big s x here others =
+    extends-by small big s x
+    (subst (λ (xs : List Offer). Contains xs x) (sym here) (Contains-head x (small s)))
+    (λ y c. subst (λ (xs : List Offer). Contains xs y) (sym here) (Contains-tail x (small s) y c))
+    (λ y c. elim (Contains-cons_cases x (small s) y (subst (λ (xs : List Offer). Contains xs y) here c)) [
+      | inl is ↦ inl (sym is)
+      | inr later ↦ inr later
+    ])
+    others
 
 -- an offer is taken out of the offers, and none gave more
 pub record Takes (old new : Strength → List Offer) (s : Strength) (x : Offer) : Type 0 where
@@ -59,7 +84,7 @@ pub record Takes (old new : Strength → List Offer) (s : Strength) (x : Offer) 
 -- by buckets
 pub takes : (old new : Buckets) (s : Strength) (x : Offer) → TakesBest old new s x → Takes (bucket old) (bucket new) s x
 takes old new s x h = record {
-  offer = extends (bucket new) (bucket old) s x h.here h.others;
+  offer = extends-first (bucket new) (bucket old) s x h.here h.others;
   most = λ t y c. elim (cases_lt (rank s) (rank t)) [
     | inl more ↦ absurd (Contains-nil y (subst (λ (xs : List Offer). Contains xs y) (h.most t more) c))
     | inr le ↦ le

@@ -4,3 +4,4 @@ pub mod RowLemmas
 pub mod Grow
 pub mod Offering
 pub mod Spreading
+pub mod Checked

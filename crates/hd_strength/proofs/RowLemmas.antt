@@ -187,7 +187,7 @@ root_of_event dump log k event at =
     rw (not-below (length dump.roots + k) (length dump.roots) (omega arith), number) (ap (root_by_event dump log k) at)
 
 -- the entry of a root has its number, and its object is one of the dump's
-record IsEntry (dump : Dump) (r : ℕ) (x : RootEntry) : Type 0 where
+pub record IsEntry (dump : Dump) (r : ℕ) (x : RootEntry) : Type 0 where
   pub number : x.number ≡ r
   pub object : x.target < length dump.objects
 
@@ -215,7 +215,7 @@ event-entry : (dump : Dump) (log : List Event) (k : ℕ) (x : RootEntry) (at : O
 event-entry dump log k x None is = absurd cc
 event-entry dump log k x (Some event) is = edit-entry dump log k x (live_edit log (k, event)) is
 
-is_entry : (dump : Dump) (log : List Event) (r : ℕ) (x : RootEntry) → root_at dump log r ≡ Some x → IsEntry dump r x
+pub is_entry : (dump : Dump) (log : List Event) (r : ℕ) (x : RootEntry) → root_at dump log r ≡ Some x → IsEntry dump r x
 unfolding root_at
 is_entry dump log r x is = elim (cases_lt r (length dump.roots)) [
   | inl lt ↦ dump-entry dump log r x (slice_get dump.roots r) (rw (lt-ltb r (length dump.roots) lt) at is)

@@ -7,7 +7,7 @@ use Rattle.hd_terms.specs.Ranks.{rank}
 use Rattle.hd_strength.specs.declared.buckets.Offer.{Offer}
 use Rattle.hd_strength.specs.declared.buckets.Buckets.{Buckets}
 
--- the offers of a strength
+-- the offers of a strength, the first made first
 abbrev pub bucket : Buckets → Strength → List Offer
 bucket b strengths.Unreachable = []
 bucket b strengths.Phantom = b.phantom.items
@@ -20,15 +20,15 @@ bucket b strengths.Strong = b.strong.items
 abbrev pub pending : Buckets → ℕ
 pending b = length b.strong.items + length b.soft.items + length b.weak.items + length b.finals.items + length b.phantom.items
 
--- an offer is added
+-- an offer is added, behind those of its strength
 pub record AddsTo (old new : Buckets) (s : Strength) (x : Offer) : Type 0 where
   pub here : bucket new s ≡ bucket old s ++ x ∷ []
   pub others : (t : Strength) → t ≢ s → bucket new t ≡ bucket old t
   pub count : pending new ≡ pending old + 1
 
--- an offer is taken out, and none gave more
+-- the first offer of its strength is taken out, and none gave more
 pub record TakesBest (old new : Buckets) (s : Strength) (x : Offer) : Type 0 where
-  pub here : bucket old s ≡ bucket new s ++ x ∷ []
+  pub here : bucket old s ≡ x ∷ bucket new s
   pub others : (t : Strength) → t ≢ s → bucket new t ≡ bucket old t
   pub most : (t : Strength) → rank s < rank t → bucket old t ≡ []
   pub count : pending old ≡ pending new + 1

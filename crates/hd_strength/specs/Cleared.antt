@@ -21,5 +21,5 @@ abbrev pub is_cleared : Cleared → EdgeKind → Bool
 is_cleared cleared kinds.Strong = false
 is_cleared cleared kinds.Soft = cleared.soft
 is_cleared cleared kinds.Weak = cleared.weak
-is_cleared cleared kinds.Final = cleared.finalizer
+is_cleared cleared kinds.Final = cleared.finals
 is_cleared cleared kinds.Phantom = cleared.phantom

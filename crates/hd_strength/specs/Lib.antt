@@ -4,3 +4,4 @@ pub mod Buckets
 pub mod Removed
 pub mod Rows
 pub mod Growing
+pub mod Checking

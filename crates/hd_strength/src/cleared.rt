@@ -10,7 +10,7 @@ use hd_terms::{EdgeKind, Edit, RefKind};
 pub(crate) struct Cleared {
     soft: bool,
     weak: bool,
-    finalizer: bool,
+    finals: bool,
     phantom: bool,
 }
 
@@ -22,7 +22,7 @@ impl Cleared {
         Cleared {
             soft: false,
             weak: false,
-            finalizer: false,
+            finals: false,
             phantom: false,
         }
     }
@@ -35,7 +35,7 @@ impl Cleared {
             Edit::ClearAll(RefKind::Soft) => Cleared { soft: true, ..self },
             Edit::ClearAll(RefKind::Weak) => Cleared { weak: true, ..self },
             Edit::ClearAll(RefKind::Final) => Cleared {
-                finalizer: true,
+                finals: true,
                 ..self
             },
             Edit::ClearAll(RefKind::Phantom) => Cleared {
@@ -54,7 +54,7 @@ impl Cleared {
             EdgeKind::Strong => false,
             EdgeKind::Soft => self.soft,
             EdgeKind::Weak => self.weak,
-            EdgeKind::Final => self.finalizer,
+            EdgeKind::Final => self.finals,
             EdgeKind::Phantom => self.phantom,
         }
     }

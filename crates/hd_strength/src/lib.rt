@@ -5,11 +5,14 @@ ghost use Rattle.std.specs.Prelude.{◌≡◌, ◌<◌, length};
 ghost use Rattle.hd_terms.specs.Settled.{reached_at};
 
 mod buckets;
+mod checking;
 mod cleared;
+mod edited;
 mod packed_reached;
 mod removed;
 mod scratch;
 
+pub use checking::is_settled;
 use hd_terms::{Strength, Support};
 use packed_reached::PackedReached;
 pub use removed::{Removed, live_edit};

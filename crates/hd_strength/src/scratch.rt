@@ -4,32 +4,23 @@
 //! certificate of the search.
 ghost use Rattle.std.specs.Prelude.{◌≡◌, ℕ, ◌+◌, ◌^◌, ◌<◌, ◌≤◌, ◌⊎◌, Some, length, IfNone, IfOk, IfSome, OnOk};
 ghost use Rattle.hd_terms.specs.Ranks.{rank};
-ghost use Rattle.std.specs.Option.{option_map};
-ghost use Rattle.hd_terms.specs.Log.{live_flags};
-ghost use Rattle.hd_terms.specs.Paths.{Edge, RootEntry};
+ghost use Rattle.hd_terms.specs.Paths.{Edge};
 ghost use Rattle.hd_terms.specs.EditedDump.{standing};
 ghost use Rattle.hd_terms.specs.Settled.{Settled, reached_at, unreached};
 ghost use Rattle.hd_strength.specs.Buckets.{bucket, pending};
-ghost use Rattle.hd_strength.specs.Rows.{width, added_id, edge_at, root_at, root_count};
+ghost use Rattle.hd_strength.specs.Rows.{width, edge_at, root_count};
 ghost use Rattle.hd_strength.specs.Growing.{rank_at, offered_strength, AreHeld, IsBacked, IsGrowing, Every, AddsOffers, IsDeclined, IsAccepted};
 ghost use Rattle.hd_strength.specs.Removed.{IsRemovedBy};
 
 use crate::Strengths;
 use crate::buckets::{Best, Buckets, Offer};
+use crate::edited::{Edited, added_object, root_object};
 use crate::packed_reached::PackedReached;
-use crate::removed::{Removed, live_edit};
+use crate::removed::Removed;
 use hd_graph::Graph;
 use hd_log::Front;
-use hd_terms::{Edit, NoMemory, Strength};
+use hd_terms::{NoMemory, Strength};
 use std::alloc::Global;
-
-/// A graph, a log, and what the log's live edits take away from the graph.
-#[derive(Clone, Copy)]
-struct Edited<'a> {
-    graph: &'a Graph,
-    front: &'a Front,
-    removed: &'a Removed,
-}
 
 /// What is kept where nothing reaches an object.
 fn none_reached(alloc: Global, objects: u32) -> Result<Vec<PackedReached>, NoMemory>
@@ -41,46 +32,6 @@ fn none_reached(alloc: Global, objects: u32) -> Result<Vec<PackedReached>, NoMem
         kept.push(PackedReached::unreached())?;
     }
     Ok(kept)
-}
-
-/// The object that a root of the dump holds, where the root stands.
-fn root_object(edited: Edited<'_>, r: u32) -> Option<u32>
-    requires removed { IsRemovedBy edited.graph.now edited.front.now edited.removed.now }
-    requires root { r < length edited.graph.now.roots }
-    ensures { result ≡ option_map (λ (x : RootEntry). x.target) (root_at edited.entry.graph.now edited.entry.front.now r) }
-{
-    if edited.removed.root(u64::from(r)) {
-        return None;
-    }
-    edited.graph.roots(r).object
-}
-
-/// The ID of the object to which an edit adds a root.
-fn added_id(edit: Edit) -> Option<u64>
-    ensures { result ≡ added_id edit }
-{
-    match edit {
-        Edit::Add(id) => Some(id),
-        Edit::Cut(_, _) | Edit::Clear(_) | Edit::Drop(_) | Edit::ClearAll(_) => None,
-    }
-}
-
-/// The object that the root holds which event k adds, where the event is live and the root stands.
-fn added_object(edited: Edited<'_>, live: &[bool], k: u32) -> Option<u32>
-    requires removed { IsRemovedBy edited.graph.now edited.front.now edited.removed.now }
-    requires event { k < length edited.front.now }
-    requires flags { live.now ≡ live_flags edited.front.now }
-    ensures { result ≡ option_map (λ (x : RootEntry). x.target) (root_at edited.entry.graph.now edited.entry.front.now (length edited.entry.graph.now.roots + k)) }
-{
-    let edit = live_edit(edited.front, live, k)?;
-    let id = added_id(edit)?;
-    if edited
-        .removed
-        .root(u64::from(edited.graph.roots_len()) + u64::from(k))
-    {
-        return None;
-    }
-    edited.graph.index_of(id)
 }
 
 /// What is kept where only the roots of the dump hold their objects, so far as they stand.

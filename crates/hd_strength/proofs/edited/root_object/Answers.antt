@@ -2,7 +2,7 @@ use Rattle.std.proofs.Common.{◌≡◌, ◌∙◌, sym, ap, true, false}
 use Rattle.hd_terms.specs.EditedDump.{is_dropped}
 use Rattle.hd_strength.specs.Removed.{is_root_removed}
 use Rattle.hd_strength.proofs.RowLemmas.{dump_held, dump_dropped_at}
-use Rattle.hd_strength.proofs.scratch.root_object.Goals as goal
+use Rattle.hd_strength.proofs.edited.root_object.Goals as goal
 
 pub returns-then-root : goal.returns-then-root
 returns-then-root c =

@@ -2,7 +2,7 @@ use Rattle.std.proofs.Common.{◌≡◌, ◌∙◌, ◌+◌, length, sym, ap, tr
 use Rattle.hd_terms.specs.EditedDump.{is_dropped}
 use Rattle.hd_strength.specs.Removed.{is_root_removed}
 use Rattle.hd_strength.proofs.RowLemmas.{no_live_edit, adds_none, added_dropped, added_held}
-use Rattle.hd_strength.proofs.scratch.added_object.Goals as goal
+use Rattle.hd_strength.proofs.edited.added_object.Goals as goal
 
 pub returns-in_err-edit : goal.returns-in_err-edit
 returns-in_err-edit c = c.from_residual.ensures ∙ no_live_edit c.args.edited.graph.now c.args.edited.front.now c.args.k c.live_edit.result c.requires.event c.live_edit.ensures c.in_err-edit.was
