@@ -1,5 +1,6 @@
 pub mod ChainLemmas
 pub mod FallenLemmas
+pub mod IntoLemmas
 pub mod ListedLemmas
 pub mod RootLemmas
 pub mod RowLemmas

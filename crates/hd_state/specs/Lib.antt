@@ -9,3 +9,4 @@ pub mod Totals
 pub mod Listed
 pub mod ChainFound
 pub mod RootsShown
+pub mod IntoShown

@@ -4,6 +4,7 @@
 mod chain;
 mod edited;
 mod fallen;
+mod into;
 mod listing;
 mod mark;
 mod roots;

@@ -7,6 +7,7 @@ ghost use Rattle.hd_terms.specs.EditedDump.{edge_stands, root_stands, standing};
 ghost use Rattle.hd_terms.specs.Strengths.{HasStrength};
 ghost use Rattle.hd_terms.specs.RootRows.{root_rows};
 ghost use Rattle.hd_terms.specs.SlotRows.{slot_rows};
+ghost use Rattle.hd_terms.specs.IntoRows.{into_rows};
 ghost use Rattle.hd_strength.specs.Removed.{IsRemovedBy};
 ghost use Rattle.hd_state.specs.Done.{IsDone};
 ghost use Rattle.hd_terms.specs.declared.Strength.{Strength};
@@ -19,6 +20,7 @@ ghost use Rattle.hd_state.specs.Totals.{total_for};
 use crate::chain::{Chain, chain_of};
 use crate::edited::{Edited, edge_stands, root_stands};
 use crate::fallen::count_fallen;
+use crate::into::into_rows;
 use crate::listing::{fallen_ids, member_ids};
 use crate::mark::Mark;
 use crate::roots::root_rows;
@@ -29,7 +31,7 @@ use hd_graph::Graph;
 use hd_log::Front;
 use hd_strength::{Removed, Strengths, from_removed};
 use hd_terms::{
-    Event, Group, NoMemory, RootRow, SlotRow, Strength, one_strength,
+    Event, Group, IntoRow, NoMemory, RootRow, SlotRow, Strength, one_strength,
     settled_supports_give_strengths,
 };
 use std::alloc::Global;
@@ -267,6 +269,19 @@ impl State {
         ensures { IfOk result (λ v. v.items ≡ root_rows self.now.dump self.now.log) }
     {
         root_rows(alloc, self.edited())
+    }
+
+    /// All references of the dump to an object, in the order of the objects that they are from and of their slots, as the log
+    /// leaves them: those that stand, and those that a live edit takes away. All slots are gone through.
+    ///
+    /// # Errors
+    ///
+    /// Memory ran out.
+    pub fn into(&self, alloc: Global, o: u32) -> Result<Vec<IntoRow>, NoMemory>
+        requires { o < length self.now.dump.objects }
+        ensures { IfOk result (λ v. v.items ≡ into_rows self.now.dump self.now.log o) }
+    {
+        into_rows(alloc, self.edited(), o)
     }
 
     /// Whether the slot at an index of an object is an edge that stands: its ID is an object's, and no live edit takes it
