@@ -14,6 +14,14 @@ pub const TWO_ARRAYS: &str = "ids 4\nsegment\nroot 1\narray 1: 2 0 9\narray 2:\n
 pub const THREE_SEGMENTS: &str =
     "ids 4\nsegment\nroot 1\nsegment\narray 1: 2 0 9\nsegment\narray 2:\n";
 
+/// A weak reference 0x21 and a finalizer 0x31 on one array, behind the six classes, and a list of the first.
+pub const WEAK_AND_FINAL: &str = "ids 4\nreference-names\nsegment\nreference-classes\nroot 1\n\
+    array 1: 21 31\nreference 21 of 13: 5\nreference 31 of 16: 5\narray 5:\n";
+
+/// Five arrays in a row, the third leading back to the second and the fifth to the fourth.
+pub const CYCLE: &str =
+    "ids 4\nsegment\nroot 1\narray 1: 2\narray 2: 3\narray 3: 2 4\narray 4: 5\narray 5: 4\n";
+
 /// The graph of the dump that a text spells, if it opens.
 pub fn graph_of<R: Threads + Sync>(rt: &R, alloc: Global, text: &str) -> Option<Arc<Graph>> {
     let bytes = spell(alloc, text).ok()?;

@@ -1,5 +1,5 @@
 //! Objects, slots, roots and groups as a graph answers them, and supports.
-use crate::dumps::{TWO_ARRAYS, graph_of};
+use crate::dumps::{CYCLE, TWO_ARRAYS, WEAK_AND_FINAL, graph_of};
 use hd_log::Front;
 use hd_strength::from_scratch;
 use hd_terms::{EdgeKind, Group, RefKind, RootKind, Slot, Strength, Support};
@@ -112,10 +112,6 @@ fn referent(rt: HostRuntime) -> Result<(), Fail> {
     Ok(())
 }
 
-/// A weak reference 0x21 and a finalizer 0x31 on one array, behind the six classes, and a list of the first.
-const WEAK_AND_FINAL: &str = "ids 4\nreference-names\nsegment\nreference-classes\nroot 1\n\
-    array 1: 21 31\nreference 21 of 13: 5\nreference 31 of 16: 5\narray 5:\n";
-
 #[test]
 fn edges_of_kinds(rt: HostRuntime) -> Result<(), Fail> {
     let graph = graph_of(&rt, rt.alloc(), WEAK_AND_FINAL).ok_or("the dump opens")?;
@@ -146,9 +142,7 @@ fn support_in_a_row(o: u32) -> Support {
 
 #[test]
 fn supports_of_a_cycle(rt: HostRuntime) -> Result<(), Fail> {
-    let text =
-        "ids 4\nsegment\nroot 1\narray 1: 2\narray 2: 3\narray 3: 2 4\narray 4: 5\narray 5: 4\n";
-    let graph = graph_of(&rt, rt.alloc(), text).ok_or("the dump opens")?;
+    let graph = graph_of(&rt, rt.alloc(), CYCLE).ok_or("the dump opens")?;
     let front = Front::empty(rt.alloc())?;
     let strengths = from_scratch(rt.alloc(), &graph, &front)?;
     assert_eq!(rt; strengths.len(), 5);

@@ -15,6 +15,8 @@ mod log_tests;
 #[cfg(test)]
 mod reading_tests;
 #[cfg(test)]
+mod settled_tests;
+#[cfg(test)]
 mod state_tests;
 #[cfg(test)]
 mod worker_tests;
