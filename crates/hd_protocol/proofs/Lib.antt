@@ -3,7 +3,5 @@ pub mod Lines
 pub mod Turns
 pub mod ServedLines
 pub mod Refusals
-pub mod EventRows
 pub mod Answering
 pub mod Stating
-pub mod ChainReplies

@@ -2,8 +2,6 @@ pub mod Work
 pub mod AnalystInside
 pub mod Marking
 pub mod Replying
-pub mod EventRows
-pub mod ChainLines
 pub mod Editing
 pub mod Answering
 pub mod Serving

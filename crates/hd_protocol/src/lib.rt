@@ -2,16 +2,13 @@
 #![tactic(auto)]
 
 mod analyst;
-mod class_lines;
 mod edit;
 mod fixed_buffer;
-mod link_lines;
 mod reply;
 mod run;
 mod sample;
 mod serving;
 mod stat;
-mod texts;
 
 pub use hd_words::{LONGEST_LINE, read_command};
 pub use run::{RunFault, open_bytes, run_bytes};

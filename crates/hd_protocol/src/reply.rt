@@ -11,7 +11,7 @@ ghost use Rattle.hd_protocol.specs.Marking.{mark_end_reply};
 use crate::analyst::Analyst;
 use crate::edit::{apply_edit, undo};
 use crate::fixed_buffer::FixedBuffer;
-use crate::texts::{
+use hd_replies::{
     chain_text, classes_text, events_text, fell_text, into_text, members_text, roots_text,
     slots_text,
 };

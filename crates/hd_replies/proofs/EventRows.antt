@@ -9,7 +9,7 @@ use Rattle.hd_terms.specs.Log.{is_live, live_flags}
 use Rattle.hd_terms.specs.Replies.{log_line, log_lines}
 use Rattle.hd_words.specs.EventLines.{event_line}
 use Rattle.hd_words.specs.declared.row_lines.EventRow.{EventRow}
-use Rattle.hd_protocol.specs.EventRows.{event_row, event_rows}
+use Rattle.hd_replies.specs.EventRows.{event_row, event_rows}
 
 -- an event with its number
 numbered_at : (log : List Event) (k : ℕ) (e : Event) → k < length log → get_or log k e ≡ e → get_or (enumerate_from 0 log) k (0, e) ≡ (k, e)

@@ -2,9 +2,9 @@ use Rattle.std.proofs.Common.{◌∙◌, ap, subst}
 use Rattle.hd_terms.specs.Dump.{Dump}
 use Rattle.hd_terms.specs.Replies.{answered}
 use Rattle.hd_state.specs.ChainFound.{IsChainFound}
-use Rattle.hd_protocol.specs.ChainLines.{lines_of}
-use Rattle.hd_protocol.proofs.ChainReplies.{unreachable_reply, chain_reply}
-use Rattle.hd_protocol.proofs.texts.chain_text.Goals as goal
+use Rattle.hd_replies.specs.ChainLines.{lines_of}
+use Rattle.hd_replies.proofs.ChainReplies.{unreachable_reply, chain_reply}
+use Rattle.hd_replies.proofs.texts.chain_text.Goals as goal
 
 pub returns-in_ok-text-in-Some : goal.returns-in_ok-text-in-Some
 returns-in_ok-text-in-Some c =

@@ -7,8 +7,8 @@ ghost use Rattle.hd_terms.specs.RootRows.{root_rows};
 ghost use Rattle.hd_terms.specs.SlotRows.{slot_rows};
 ghost use Rattle.hd_terms.specs.Replies.{answered, into_line, log_lines, root_line, slot_line, RepliesChain, RepliesClasses, RepliesIds};
 ghost use Rattle.hd_state.specs.declared.chain.Link.{Link as OneLink};
-ghost use Rattle.hd_protocol.specs.ChainLines.{lines_of};
-ghost use Rattle.hd_protocol.specs.EventRows.{event_rows};
+ghost use Rattle.hd_replies.specs.ChainLines.{lines_of};
+ghost use Rattle.hd_replies.specs.EventRows.{event_rows};
 
 use crate::class_lines::ClassLines;
 use crate::link_lines::{LinkLines, put_start};
@@ -21,7 +21,7 @@ use std::alloc::{AllocError, Global};
 use std::fmt::Write;
 
 /// The reply to `slots` for the object of a number: `ok N`, and a line for each of its slots.
-pub(crate) fn slots_text(alloc: Global, state: &State, object: u32) -> Result<String, NoMemory>
+pub fn slots_text(alloc: Global, state: &State, object: u32) -> Result<String, NoMemory>
     requires { object < length state.now.dump.objects }
     ensures { IfOk result (λ text. string_bytes text ≡ answered (map slot_line (slot_rows state.now.dump state.now.log (object_at state.now.dump object)))) }
 {
@@ -31,7 +31,7 @@ pub(crate) fn slots_text(alloc: Global, state: &State, object: u32) -> Result<St
 }
 
 /// The reply to `into` for the object of a number: `ok N`, and a line for each reference to it.
-pub(crate) fn into_text(alloc: Global, state: &State, object: u32) -> Result<String, NoMemory>
+pub fn into_text(alloc: Global, state: &State, object: u32) -> Result<String, NoMemory>
     requires { object < length state.now.dump.objects }
     ensures { IfOk result (λ text. string_bytes text ≡ answered (map into_line (into_rows state.now.dump state.now.log object))) }
 {
@@ -41,7 +41,7 @@ pub(crate) fn into_text(alloc: Global, state: &State, object: u32) -> Result<Str
 }
 
 /// The reply to `roots`: `ok N`, and a line for each root of the dump and each that a live edit adds.
-pub(crate) fn roots_text(alloc: Global, state: &State) -> Result<String, NoMemory>
+pub fn roots_text(alloc: Global, state: &State) -> Result<String, NoMemory>
     ensures { IfOk result (λ text. string_bytes text ≡ answered (map root_line (root_rows state.now.dump state.now.log))) }
 {
     let rows = state.roots(alloc)?;
@@ -51,7 +51,7 @@ pub(crate) fn roots_text(alloc: Global, state: &State) -> Result<String, NoMemor
 
 /// The reply to `chain` for the object of a number: `ok 0` where it is unreachable, else `ok N`, a line for the root, and a
 /// line for each link.
-pub(crate) fn chain_text(alloc: Global, state: &State, object: u32) -> Result<String, NoMemory>
+pub fn chain_text(alloc: Global, state: &State, object: u32) -> Result<String, NoMemory>
     requires { object < length state.now.dump.objects }
     ensures { IfOk result (λ text. RepliesChain state.now.dump state.now.log (Some object) (string_bytes text)) }
 {
@@ -82,7 +82,7 @@ fn found_text(alloc: Global, graph: &Graph, chain: &Chain) -> Result<String, All
 }
 
 /// The reply to `classes`: `ok N`, and a line for each group that has objects of the strength.
-pub(crate) fn classes_text(
+pub fn classes_text(
     alloc: Global,
     state: &State,
     strength: Strength,
@@ -95,7 +95,7 @@ pub(crate) fn classes_text(
 }
 
 /// The reply to `members`: `ok N`, and the ID of each object of the group that has the strength.
-pub(crate) fn members_text(
+pub fn members_text(
     alloc: Global,
     state: &State,
     group: Group,
@@ -109,7 +109,7 @@ pub(crate) fn members_text(
 }
 
 /// The reply to `fell`: `ok N`, and the ID of each object that became unreachable since the mark.
-pub(crate) fn fell_text(alloc: Global, state: &State, mark: &Mark) -> Result<String, NoMemory>
+pub fn fell_text(alloc: Global, state: &State, mark: &Mark) -> Result<String, NoMemory>
     requires { mark.now.dump ≡ state.now.dump }
     ensures { IfOk result (λ text. RepliesIds (AreFallen state.now.dump mark.now.log state.now.log) (string_bytes text)) }
 {
@@ -136,7 +136,7 @@ fn event_rows(alloc: Global, front: &Front) -> Result<Vec<EventRow>, NoMemory>
 }
 
 /// The reply to `events`: `ok N`, and a line for each event of the log.
-pub(crate) fn events_text(alloc: Global, state: &State) -> Result<String, NoMemory>
+pub fn events_text(alloc: Global, state: &State) -> Result<String, NoMemory>
     ensures { IfOk result (λ text. string_bytes text ≡ answered (log_lines state.now.log)) }
 {
     let rows = event_rows(alloc, state.front())?;

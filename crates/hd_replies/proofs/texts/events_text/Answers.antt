@@ -2,9 +2,9 @@ use Rattle.std.proofs.Common.{◌∙◌, List, map, ap}
 use Rattle.hd_terms.specs.Replies.{answered}
 use Rattle.hd_words.specs.EventLines.{event_line}
 use Rattle.hd_words.specs.declared.row_lines.EventRow.{EventRow}
-use Rattle.hd_protocol.specs.EventRows.{event_rows}
-use Rattle.hd_protocol.proofs.EventRows.{lines_of_rows}
-use Rattle.hd_protocol.proofs.texts.events_text.Goals as goal
+use Rattle.hd_replies.specs.EventRows.{event_rows}
+use Rattle.hd_replies.proofs.EventRows.{lines_of_rows}
+use Rattle.hd_replies.proofs.texts.events_text.Goals as goal
 
 pub returns : goal.returns
 returns c =

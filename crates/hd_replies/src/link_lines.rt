@@ -23,7 +23,7 @@ impl LineFormat for LinkLines<'_> {
 
     ghost can_write = { λ lines link. link.target < length lines.graph.now.objects };
 
-    ghost use Rattle.hd_protocol.specs.ChainLines.{link_text};
+    ghost use Rattle.hd_replies.specs.ChainLines.{link_text};
 
     ghost line = { λ lines link. link_text lines.graph.now link };
 

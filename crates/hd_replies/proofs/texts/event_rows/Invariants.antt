@@ -1,6 +1,6 @@
 use Rattle.std.proofs.Common.{◌≡◌}
-use Rattle.hd_protocol.proofs.EventRows.{rows_before}
-use Rattle.hd_protocol.proofs.texts.event_rows.Given as goal
+use Rattle.hd_replies.proofs.EventRows.{rows_before}
+use Rattle.hd_replies.proofs.texts.event_rows.Given as goal
 
 -- the rows of the events so far
 abbrev pub invariant-loop-number : goal.invariant-loop-number

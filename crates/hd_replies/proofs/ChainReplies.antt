@@ -9,7 +9,7 @@ use Rattle.hd_terms.specs.Replies.{answered, chain_start, chain_lines, link_line
 use Rattle.hd_state.specs.declared.chain.Chain.{Chain}
 use Rattle.hd_state.specs.declared.chain.Link.{Link}
 use Rattle.hd_state.specs.ChainFound.{IsChainFound, IsFoundChain, link_of, root_of}
-use Rattle.hd_protocol.specs.ChainLines.{lines_of, link_text}
+use Rattle.hd_replies.specs.ChainLines.{lines_of, link_text}
 
 module _ (dump : Dump) (log : List Event) (o : ℕ) (reply : List ℕ) where
   -- nothing leads to it

@@ -1,0 +1,2 @@
+pub mod EventRows
+pub mod ChainLines
