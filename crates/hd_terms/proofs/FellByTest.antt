@@ -9,7 +9,8 @@ use Rattle.hd_terms.specs.Ranks.{rank}
 use Rattle.hd_terms.specs.Strengths.{HasStrength}
 use Rattle.hd_terms.specs.Dump.{Dump}
 use Rattle.hd_terms.specs.EditedDump.{standing}
-use Rattle.hd_terms.specs.Fell.{IsUnreachable, FellCount}
+use Rattle.hd_terms.specs.Totals.{Decides}
+use Rattle.hd_terms.specs.Fell.{IsUnreachable, Falls, FellCount}
 use Rattle.hd_terms.specs.Settled.{Reached, reached_at}
 use Rattle.hd_terms.proofs.RankLemmas.{same_rank}
 use Rattle.hd_terms.proofs.OneStrength.{one_strength}
@@ -44,14 +45,15 @@ module _ (dump : Dump) (log : List Event) (ks : List Reached) (h : is_settled (s
   said : IsUnreachable dump log o → is_out ks o ≡ true
   said out = eq-eqb (rank (reached_at ks o).strength) 0 (ap rank (one_strength (standing dump log) o (reached_at ks o).strength strengths.Unreachable (strengths_of (standing dump log) ks h o) out))
 
+-- the test decides what falls
+pub decided : (dump : Dump) (before after : List Event) (ks ls : List Reached) → is_settled (standing dump before) ks ≡ true → is_settled (standing dump after) ls ≡ true
+    → Decides dump (Falls dump before after) (falls_by ks ls)
+decided dump before after ks ls h k o within = (
+  (λ is. let p = parts (is_out ls o) (is_out ks o) is in (says dump after ls k o p.0, λ was. contrary (is_out ks o) (said dump before ks h o was) p.1)),
+  (λ f. both (is_out ls o) (is_out ks o) (said dump after ls k o f.0) (λ out. f.1 (says dump before ks h o out))),
+)
+
 -- what passes the tests is counted
 pub fell : (dump : Dump) (before after : List Event) (ks ls : List Reached) → is_settled (standing dump before) ks ≡ true → is_settled (standing dump after) ls ≡ true
     → FellCount dump before after (count_by (falls_by ks ls) (range_with_len 0 (length dump.objects)))
-fell dump before after ks ls h k = record {
-  falls = falls_by ks ls;
-  decides = λ o within. (
-    (λ is. let p = parts (is_out ls o) (is_out ks o) is in (says dump after ls k o p.0, λ was. contrary (is_out ks o) (said dump before ks h o was) p.1)),
-    (λ f. both (is_out ls o) (is_out ks o) (said dump after ls k o f.0) (λ out. f.1 (says dump before ks h o out))),
-  );
-  count = refl;
-}
+fell dump before after ks ls h k = record { falls = falls_by ks ls; decides = decided dump before after ks ls h k; count = refl }

@@ -20,6 +20,7 @@ use Rattle.hd_terms.specs.declared.What.TheVariants as whats
 use Rattle.hd_terms.specs.declared.SlotMode.{SlotMode}
 use Rattle.hd_terms.specs.declared.Mode.TheVariants as modes
 use Rattle.hd_terms.specs.declared.SlotRow.{SlotRow}
+use Rattle.hd_terms.specs.declared.IntoRow.{IntoRow}
 use Rattle.hd_terms.specs.Paths.{Edge, RootEntry}
 use Rattle.hd_terms.specs.Dump.{SlotEntry, Object, Root, Repeated, Dump}
 use Rattle.hd_terms.specs.EditedDump.{RootOn}
@@ -607,6 +608,17 @@ soft_then_weak = record {
   names = [];
 }
 
+-- root 1  [1: 2 2]  [2:]
+abbrev pub parallel_edges : Dump
+parallel_edges = record {
+  mode = modes.Direct;
+  objects = array 1 (2 ∷ 2 ∷ []) ∷ array 2 [] ∷ [];
+  roots = root 1 ∷ [];
+  repeated = none_repeated;
+  opaque = 0;
+  names = [];
+}
+
 -- root 1  [1: 2]  [2: 3]  [3: 2 4]  [4: 5]  [5: 4]
 abbrev pub cycle_behind_one_edge : Dump
 cycle_behind_one_edge = record {
@@ -726,6 +738,10 @@ cut_and_clear = does 0 (edits.Cut 0x21 (slots.Field 0)) ∷ does 0 (edits.Clear 
 -- a slot of kind strong as it is shown
 abbrev pub shown : Slot → ℕ → SlotMode → SlotRow
 shown slot id mode = record { slot = slot; kind = kinds.Strong; id = id; mode = mode }
+
+-- a reference of kind strong from an object as it is shown
+abbrev pub shown_reference : ℕ → Slot → SlotMode → IntoRow
+shown_reference source slot mode = record { source = source; slot = slot; kind = kinds.Strong; mode = mode }
 
 -- turns
 

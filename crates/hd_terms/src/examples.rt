@@ -26,7 +26,10 @@ ghost use Rattle.hd_terms.specs.Dump.{object_at, name_in};
 ghost use Rattle.hd_terms.specs.Counts.{counts_of};
 ghost use Rattle.hd_terms.specs.SlotRows.{slot_rows};
 ghost use Rattle.hd_terms.specs.RootRows.{root_rows};
+ghost use Rattle.hd_terms.specs.IntoRows.{into_rows};
+ghost use Rattle.hd_terms.specs.Names.{class_name};
 ghost use Rattle.hd_terms.specs.Fell.{FellCount};
+ghost use Rattle.hd_terms.specs.Listed.{AreFallen};
 ghost use Rattle.hd_terms.specs.Totals.{IsGroupTotal, IsTotal};
 ghost use Rattle.hd_terms.specs.declared.Group.TheVariants as groups;
 ghost use Rattle.hd_terms.specs.Asking.{asked};
@@ -149,6 +152,8 @@ pub fn log_examples()
     ensures shown_absent_root { take 1 (root_rows examples.root_kinds (examples.does 0 (edits.Drop 0) ∷ [])) ≡ examples.shown_root 0 (Some roots.Unknown) 1 root_modes.Absent ∷ [] }
     ensures undone_root { root_stands 2 (take 3 examples.add_and_drop) 2 ≡ false }
     ensures no_root { root_stands 2 examples.add_and_drop 3 ≡ false }
+    ensures references_to_an_object { into_rows examples.parallel_edges (examples.does 0 (examples.cut 1) ∷ []) 1 ≡ examples.shown_reference 1 (slots.Element 0) modes.Stands ∷ examples.shown_reference 1 (slots.Element 1) modes.Cut ∷ [] }
+    ensures no_reference_to_an_object { into_rows examples.parallel_edges [] 0 ≡ [] }
     ensures root_on_no_object { root_stands (length examples.root_kinds.roots) [] 0 ≡ true }
     ensures dropped_root_on_no_object { root_stands (length examples.root_kinds.roots) (examples.does 0 (edits.Drop 0) ∷ []) 0 ≡ false }
     ensures one_drop_is_left { root_stands 1 (examples.does 0 (edits.Drop 0) ∷ examples.does 1 (edits.Drop 0) ∷ examples.undoes 0 0 ∷ []) 0 ≡ false }
@@ -213,6 +218,7 @@ pub fn edit_examples()
     ensures undo_of_another { append_refusal 1 (take 1 examples.cut_and_undo) (examples.undoes 1 0) ≡ Some (refusals.Log faults.NotYours) }
     ensures nothing_to_undo { asked examples.two_arrays [] 0 (commands.Undo None) ≡ Some (Err refusals.NothingToUndo) }
     ensures fell { FellCount examples.two_arrays [] (take 1 examples.cut_and_undo) 1 }
+    ensures fallen { AreFallen examples.two_arrays [] (take 1 examples.cut_and_undo) (2 ∷ []) }
     ensures none_back { FellCount examples.two_arrays (take 1 examples.cut_and_undo) [] 0 }
     ensures back { FellCount examples.two_arrays examples.cut_and_undo (take 1 examples.cut_and_undo) 1 }
     ensures cycle_fell { FellCount examples.cycle_behind_one_edge [] (take 1 examples.cut_and_undo) 4 }
@@ -253,6 +259,17 @@ pub fn line_examples()
     ensures eleven_digits { command_of (codes "cut 0x1 s00000000007") ≡ Err line_faults.BadArgument }
     ensures capital_slot { command_of (codes "cut 0x1 E0") ≡ Err line_faults.BadArgument }
     ensures no_slot { command_of (codes "cut 0x1") ≡ Err line_faults.BadArgument }
+    ensures chain { command_of (codes "chain 0x5") ≡ Ok (commands.Chain 5) }
+    ensures into { command_of (codes "into 0x5") ≡ Ok (commands.Into 5) }
+    ensures classes { command_of (codes "classes WEAK") ≡ Ok (commands.Classes strengths.Weak) }
+    ensures classes_in_lower_case { command_of (codes "classes Strong") ≡ Err line_faults.BadArgument }
+    ensures members { command_of (codes "members 0x11 STRONG") ≡ Ok (commands.Members (groups.Class 0x11) strengths.Strong) }
+    ensures members_of_int_arrays { command_of (codes "members t10 STRONG") ≡ Ok (commands.Members (groups.Prim 10) strengths.Strong) }
+    ensures members_of_the_classes { command_of (codes "members c STRONG") ≡ Ok (commands.Members groups.Classes strengths.Strong) }
+    ensures members_of_no_type { command_of (codes "members t3 STRONG") ≡ Err line_faults.BadArgument }
+    ensures mark { command_of (codes "mark") ≡ Ok commands.Mark }
+    ensures fell { command_of (codes "fell 0") ≡ Ok (commands.Fell 0) }
+    ensures fell_since_nothing { command_of (codes "fell") ≡ Err line_faults.BadArgument }
     ensures undo { command_of (codes "undo") ≡ Ok (commands.Undo None) }
     ensures undo_of_the_greatest { command_of (codes "undo 4294967295") ≡ Ok (commands.Undo (Some 4294967295)) }
     ensures undo_past_the_greatest { command_of (codes "undo 4294967296") ≡ Err line_faults.BadArgument }
@@ -290,6 +307,10 @@ pub fn reply_examples()
     ensures nothing_there { IsReply examples.empty_dump [] ([] ∷ []) (codes "strength 0x1") (codes "no NoSuchObject" ++ 10 ∷ []) }
     ensures events { IsReply examples.two_arrays examples.cut_and_undo ([] ∷ []) (codes "events")
         (codes "ok 2" ++ 10 ∷ codes "0 0 cut 0x1 e0 undone" ++ 10 ∷ codes "1 0 undo 0" ++ 10 ∷ []) }
+    ensures odd_name { class_name (Some (0x41 ∷ 0x20 ∷ 0xc3 ∷ 0xa9 ∷ 0x5c ∷ [])) ≡ codes "A\\x20\\xc3\\xa9\\x5c" }
+    ensures no_name { class_name None ≡ codes "?" }
+    ensures empty_name { class_name (Some []) ≡ codes "?" }
+    ensures no_such_mark { IsReply examples.two_arrays [] ([] ∷ []) (codes "fell 1") (codes "no NoSuchMark" ++ 10 ∷ []) }
     ensures roots { IsReply examples.two_arrays [] ([] ∷ []) (codes "roots") (codes "ok 1" ++ 10 ∷ codes "0 unknown 0x1 stands" ++ 10 ∷ []) }
     ensures served { IsServed examples.two_arrays (codes "strength 0x2" ++ 10 ∷ codes "quit" ++ 10 ∷ codes "strength 0x1" ++ 10 ∷ [])
         (codes "ok 1" ++ 10 ∷ codes "STRONG" ++ 10 ∷ codes "ok 0" ++ 10 ∷ []) }

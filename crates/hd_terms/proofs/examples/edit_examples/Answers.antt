@@ -1,4 +1,4 @@
-use Rattle.std.proofs.Common.{ℕ, List, [], ◌∷◌, take, refl}
+use Rattle.std.proofs.Common.{◌≡◌, ◌<◌, ℕ, zero, suc, true, List, [], ◌∷◌, take, refl, arith}
 use Rattle.hd_terms.specs.declared.Slot.{Slot}
 use Rattle.hd_terms.specs.declared.Slot.TheVariants as slots
 use Rattle.hd_terms.specs.declared.Strength.{Strength}
@@ -9,7 +9,9 @@ use Rattle.hd_terms.specs.declared.Event.{Event}
 use Rattle.hd_terms.specs.declared.Support.TheVariants as supports
 use Rattle.hd_terms.specs.Settled.{Reached, unreached}
 use Rattle.hd_terms.specs.Examples as examples
-use Rattle.hd_terms.proofs.FellByTest.{fell}
+use Rattle.hd_terms.specs.Fell.{Falls}
+use Rattle.hd_terms.proofs.FellByTest.{fell, falls_by, decided}
+use Rattle.hd_terms.proofs.ListedLemmas.{only_one}
 use Rattle.hd_terms.proofs.examples.edit_examples.Goals as goal
 
 -- held by root 0
@@ -29,6 +31,19 @@ first = held ∷ unreached ∷ []
 
 pub returns-clause-fell : goal.returns-clause-fell
 returns-clause-fell c = fell examples.two_arrays [] (take 1 examples.cut_and_undo) both first refl refl
+
+-- of the two arrays the second alone falls
+fallen_alone : (p : ℕ) → p < 2 → Falls examples.two_arrays [] (take 1 examples.cut_and_undo) p → p ≡ 1
+fallen_alone zero lt falls =
+    let is : falls_by both first 0 ≡ true = (decided examples.two_arrays [] (take 1 examples.cut_and_undo) both first refl refl 0 (omega arith)).1 falls in
+    absurd cc
+fallen_alone (suc zero) lt falls = refl
+fallen_alone (suc (suc p)) lt falls = absurd (omega (arith, lt))
+
+pub returns-clause-fallen : goal.returns-clause-fallen
+returns-clause-fallen c =
+    only_one examples.two_arrays (Falls examples.two_arrays [] (take 1 examples.cut_and_undo)) 1 (omega arith)
+    ((decided examples.two_arrays [] (take 1 examples.cut_and_undo) both first refl refl 1 (omega arith)).0 refl) fallen_alone
 
 pub returns-clause-none_back : goal.returns-clause-none_back
 returns-clause-none_back c = fell examples.two_arrays (take 1 examples.cut_and_undo) [] first both refl refl
