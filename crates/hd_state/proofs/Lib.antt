@@ -1,4 +1,5 @@
 pub mod ChainLemmas
+pub mod ClassLemmas
 pub mod FallenLemmas
 pub mod IntoLemmas
 pub mod ListedLemmas

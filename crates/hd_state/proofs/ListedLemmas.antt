@@ -20,7 +20,7 @@ use Rattle.hd_state.specs.Totals.{has_kept}
 use Rattle.hd_state.proofs.TotalLemmas.{has-strength, is-kept}
 
 -- groups that are one are equal
-one-group : (a b : Group) → same_group a b ≡ true → a ≡ b
+pub one-group : (a b : Group) → same_group a b ≡ true → a ≡ b
 one-group (groups.Class x) (groups.Class y) e = ap groups.Class (eqb-true x y e)
 one-group (groups.Class x) (groups.Prim y) e = absurd cc
 one-group (groups.Class x) groups.Classes e = absurd cc
@@ -31,18 +31,18 @@ one-group groups.Classes (groups.Class y) e = absurd cc
 one-group groups.Classes (groups.Prim y) e = absurd cc
 one-group groups.Classes groups.Classes e = refl
 
-itself : (a : Group) → same_group a a ≡ true
+pub itself : (a : Group) → same_group a a ≡ true
 itself (groups.Class x) = eq-eqb x x refl
 itself (groups.Prim x) = eq-eqb x x refl
 itself groups.Classes = refl
 
 -- two tests pass
-both : (a b : Bool) → (a && b) ≡ true → (a ≡ true) × (b ≡ true)
+pub both : (a b : Bool) → (a && b) ≡ true → (a ≡ true) × (b ≡ true)
 both true true e = (refl, refl)
 both true false e = absurd cc
 both false b e = absurd cc
 
-pass : (a b : Bool) → a ≡ true → b ≡ true → (a && b) ≡ true
+pub pass : (a b : Bool) → a ≡ true → b ≡ true → (a && b) ≡ true
 pass true true h k = refl
 pass true false h k = absurd cc
 pass false b h k = absurd cc

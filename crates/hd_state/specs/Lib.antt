@@ -10,3 +10,4 @@ pub mod Listed
 pub mod ChainFound
 pub mod RootsShown
 pub mod IntoShown
+pub mod ClassesFound

@@ -2,6 +2,7 @@
 #![tactic(auto)]
 
 mod chain;
+mod classes;
 mod edited;
 mod fallen;
 mod into;

@@ -12,12 +12,13 @@ ghost use Rattle.hd_strength.specs.Removed.{IsRemovedBy};
 ghost use Rattle.hd_state.specs.Done.{IsDone};
 ghost use Rattle.hd_terms.specs.declared.Strength.{Strength};
 ghost use Rattle.hd_terms.specs.Totals.{IsTotal, IsGroupTotal};
-ghost use Rattle.hd_terms.specs.Listed.{AreFallen, AreMembers};
+ghost use Rattle.hd_terms.specs.Listed.{AreClassRows, AreFallen, AreMembers};
 ghost use Rattle.hd_state.specs.Kept.{AreKept};
 ghost use Rattle.hd_state.specs.ChainFound.{IsChainFound};
 ghost use Rattle.hd_state.specs.Totals.{total_for};
 
 use crate::chain::{Chain, chain_of};
+use crate::classes::class_rows;
 use crate::edited::{Edited, edge_stands, root_stands};
 use crate::fallen::count_fallen;
 use crate::into::into_rows;
@@ -31,7 +32,7 @@ use hd_graph::Graph;
 use hd_log::Front;
 use hd_strength::{Removed, Strengths, from_removed};
 use hd_terms::{
-    Event, Group, IntoRow, NoMemory, RootRow, SlotRow, Strength, one_strength,
+    ClassRow, Event, Group, IntoRow, NoMemory, RootRow, SlotRow, Strength, one_strength,
     settled_supports_give_strengths,
 };
 use std::alloc::Global;
@@ -221,6 +222,18 @@ impl State {
     {
         let total = count_group(self.solved(), group, strength);
         (total.count, total.bytes)
+    }
+
+    /// The groups that have objects of a strength, in their order, each with the number of these objects and their recorded
+    /// bytes. All objects are gone through; the memory that it takes is by groups.
+    ///
+    /// # Errors
+    ///
+    /// Memory ran out.
+    pub fn classes(&self, alloc: Global, strength: Strength) -> Result<Vec<ClassRow>, NoMemory>
+        ensures { IfOk result (λ v. AreClassRows self.now.dump self.now.log strength v.items) }
+    {
+        class_rows(alloc, self.solved(), strength)
     }
 
     /// The chain of an object: a root path of the object's strength in which no object occurs twice. There is none where the
