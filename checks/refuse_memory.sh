@@ -26,9 +26,23 @@ room=$(mktemp -d)
 trap 'rm -rf "$room"' EXIT
 rustc --edition 2021 -O --crate-type cdylib -C panic=abort "$here/refuse.rs" -o "$room/refuse.so"
 
-printf 'strength 0x2\ncut 0x1 e0\nstrength 0x2\nslots 0x1\nundo\nstrength 0x2\nquit\n' >"$room/input"
+printf '%s\n' 'strength 0x2' 'cut 0x1 e0' 'strength 0x2' 'slots 0x1' undo 'strength 0x2' mark 'chain 0x2' 'into 0x2' \
+    'classes STRONG' 'members 0x0 STRONG' 'fell 0' 'fell 1' roots quit >"$room/input"
 
-# The right answers where `cut`, `slots` and `undo` find memory or don't: right_answers CUT SLOTS UNDO, each yes or no.
+# The right answers to the queries where 0x2 is strong, or else unreachable, a line for each with `;` for a newline:
+# queries LAST MARK, STRONG or UNREACHABLE, and yes or no.
+queries() {
+    if [[ $1 == STRONG ]]; then
+        printf '%s\n' 'ok 2;root 0 unknown 0x1;e0 strong 0x2' 'ok 1;0x1 e0 strong stands' 'ok 1;0x0 2 12 ?' 'ok 2;0x1;0x2' 'ok 0'
+    else
+        printf '%s\n' 'ok 0' 'ok 1;0x1 e0 strong cut' 'ok 1;0x0 1 12 ?' 'ok 1;0x1' 'ok 1;0x2'
+    fi
+    if [[ $2 == yes ]]; then echo 'ok 0'; else echo 'no NoSuchMark'; fi
+    echo 'ok 1;0 unknown 0x1 stands'
+}
+
+# The right answers where `cut`, `slots`, `undo` and `mark` find memory or don't: right_answers CUT SLOTS UNDO MARK, each
+# yes or no.
 right_answers() {
     local after=STRONG mode=stands last=STRONG
     printf 'ok 1\nSTRONG\n'
@@ -52,18 +66,45 @@ right_answers() {
     else
         echo 'no OutOfMemory'
     fi
-    printf 'ok 1\n%s\nok 0\n' "$last"
+    printf 'ok 1\n%s\n' "$last"
+    if [[ $4 == yes ]]; then printf 'ok 1\nmark 1\n'; else echo 'no OutOfMemory'; fi
+    queries "$last" "$4"
+    echo 'quit:ok 0'
 }
 
-right=$(right_answers yes yes yes)
+right=$(right_answers yes yes yes yes | sed 's/^quit://' | tr ';' '\n')
+
+# Whether lines are those of a text in which each query may find no memory: matches LINES TEXT
+matches() {
+    local rest=$1 line text
+    while IFS= read -r line; do
+        text=${line#quit:}
+        text=${text//;/$'\n'}
+        if [[ $rest == "$text"$'\n'* ]]; then
+            rest=${rest#"$text"$'\n'}
+        elif [[ $rest == $'no OutOfMemory\n'* ]] && is_query "$line"; then
+            rest=${rest#$'no OutOfMemory\n'}
+        else
+            return 1
+        fi
+    done <<<"$2"
+    [[ -z $rest ]]
+}
+
+# Whether a line is one of `queries`: they alone have several lines in one, or come without lines.
+is_query() {
+    [[ $1 == *';'* || $1 == 'ok 0' || $1 == 'no NoSuchMark' ]]
+}
 
 # Whether the output is right where some commands found no memory.
 is_right_in_part() {
-    local cut slots undo
+    local cut slots undo mark
     for cut in yes no; do
         for slots in yes no; do
             for undo in yes no; do
-                [[ $1 != "$(right_answers "$cut" "$slots" "$undo")" ]] || return 0
+                for mark in yes no; do
+                    ! matches "$1"$'\n' "$(right_answers "$cut" "$slots" "$undo" "$mark")" || return 0
+                done
             done
         done
     done

@@ -22,6 +22,10 @@ pub const WEAK_AND_FINAL: &str = "ids 4\nreference-names\nsegment\nreference-cla
 pub const CYCLE: &str =
     "ids 4\nsegment\nroot 1\narray 1: 2\narray 2: 3\narray 3: 2 4\narray 4: 5\narray 5: 4\n";
 
+/// An array of the class 0x99, a class, an instance of it, and an instance of a class that isn't there.
+pub const GROUPS: &str = "ids 4\nsegment\nroot 1\narray 1 of 99: 2 3\nclass 11:\n\
+    instance 2 of 11:\ninstance 3 of 98: 00000005\n";
+
 /// The graph of the dump that a text spells, if it opens.
 pub fn graph_of<R: Threads + Sync>(rt: &R, alloc: Global, text: &str) -> Option<Arc<Graph>> {
     let bytes = spell(alloc, text).ok()?;

@@ -1,9 +1,10 @@
 //! States: a step answers a new one and keeps the old one, and their slots. A state that is let go is long to prove, so each
 //! function holds one at most, and answers what is seen of it.
-use crate::dumps::{TWO_ARRAYS, graph_of};
+use crate::dumps::{GROUPS, TWO_ARRAYS, graph_of};
 use hd_state::{Done, State};
 use hd_terms::{
-    EdgeKind, Edit, Event, LogFault, RootMode, RootRow, Slot, SlotMode, SlotRow, Strength, What,
+    EdgeKind, Edit, Event, Group, LogFault, RootMode, RootRow, Slot, SlotMode, SlotRow, Strength,
+    What,
 };
 use std::alloc::Global;
 use std::test::Fail;
@@ -71,6 +72,30 @@ fn steps_keep_old_states(rt: HostRuntime) -> Result<(), Fail> {
     assert!(rt; next == (1, Some(Strength::Unreachable), None));
     assert!(rt; seen(&state) == (0, Some(Strength::Strong), Some(LogFault::NoSuchEvent)));
     assert_eq!(rt; state.strength_totals().of(Strength::Strong).bytes, 12);
+    Ok(())
+}
+
+/// How many objects of a few groups are strong, and their recorded bytes: the array of class 0x99, the class, and arrays of
+/// ints, of which there are none.
+fn strong_totals(state: &State) -> [(u64, u64); 3] {
+    [
+        state.total(Group::Class(0x99), Strength::Strong),
+        state.total(Group::Classes, Strength::Strong),
+        state.total(Group::Prim(10), Strength::Strong),
+    ]
+}
+
+/// The totals of the opened dump of groups.
+fn totals_of_groups_in<R: Threads + Sync>(rt: &R, alloc: Global) -> Option<[(u64, u64); 3]> {
+    let graph = graph_of(rt, alloc, GROUPS)?;
+    let state = State::open(alloc, graph).ok()?;
+    Some(strong_totals(&state))
+}
+
+#[test]
+fn totals_of_groups(rt: HostRuntime) -> Result<(), Fail> {
+    let totals = totals_of_groups_in(&rt, rt.alloc()).ok_or("the dump opens")?;
+    assert!(rt; totals == [(1, 8), (1, 0), (0, 0)]);
     Ok(())
 }
 
