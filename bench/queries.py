@@ -41,54 +41,42 @@ class Desk:
         with open(f"/proc/{self.process.pid}/status") as status:
             return next(int(line.split()[1]) // 1024 for line in status if line.startswith("VmHWM"))
 
-    def member(self, name):
-        for group, _, _, named in self.ask("classes STRONG"):
-            if named == name:
-                return self.ask(f"members {group} STRONG")[0][0]
-        sys.exit(f"queries: no object of class {name}")
+
+def class_of(desk, at):
+    """The ID of the class of an object."""
+    return next((row[2] for row in desk.ask(f"slots {at}") if row[0] == "class"), "0x0")
 
 
-def node_behind_head(desk, count):
-    """The node so many references behind the list's head, which a static of the class Filling holds."""
-    for group in desk.ask("members c STRONG"):
-        rows = desk.ask(f"slots {group[0]}")
-        statics = [row for row in rows if row[0].startswith("s") and row[0][1:].isdigit() and row[3] == "stands"]
-        for row in statics:
-            if [line[:1] + line[2:] for line in desk.ask(f"chain {row[2]}")[-1:]] and is_node(desk, row[2]):
+def node_behind_head(desk, node, count):
+    """The object so many references behind the head of the list of a class's objects that a static field holds."""
+    for held in desk.ask("members c STRONG"):
+        for row in desk.ask(f"slots {held[0]}"):
+            if row[0][0] == "s" and row[0][1:].isdigit() and row[3] == "stands" and class_of(desk, row[2]) == node:
                 at = row[2]
                 for _ in range(count):
-                    at = desk.ask(f"slots {at}")[0][2]
+                    at = next(to for _, _, to, mode in desk.ask(f"slots {at}") if mode == "stands" and class_of(desk, to) == node)
                 return at
     sys.exit("queries: no list")
 
 
-def is_node(desk, at):
-    rows = desk.ask(f"slots {at}")
-    return len(rows) == 3 and rows[2][0] == "class" and rows[2][2] == NODE
-
-
-NODE = ""
-
-
 def main():
-    global NODE
     if len(sys.argv) != 3:
         sys.exit("usage: bench/queries.py PROGRAM FILE")
     desk = Desk(sys.argv[1], sys.argv[2])
     desk.ask("mark")
     before = desk.peak()
-    NODE = next(group for group, _, _, named in desk.ask("classes STRONG") if named == "Node")
-    session = desk.member("Session")
-    node = node_behind_head(desk, 1000)
+    groups = {named: group for group, _, _, named in desk.ask("classes STRONG")}
+    session = desk.ask(f"members {groups['Session']} STRONG")[0][0]
+    far = node_behind_head(desk, groups["Node"], 1000)
     desk.measure("strength", f"strength {session}")
     desk.measure("slots", f"slots {session}")
     desk.measure("short chain", f"chain {session}")
-    desk.measure("long chain", f"chain {node}")
+    desk.measure("long chain", f"chain {far}")
     source, slot = desk.measure("into", f"into {session}")[0][:2]
     for strength in ["STRONG", "SOFT", "WEAK", "FINAL", "PHANTOM", "UNREACHABLE"]:
         desk.measure(f"classes {strength}", f"classes {strength}")
-    desk.measure("members of Session", f"members {next(g for g, _, _, n in desk.ask('classes STRONG') if n == 'Session')} STRONG")
-    desk.measure("members of Node", f"members {NODE} STRONG")
+    desk.measure("members of one", f"members {groups['Session']} STRONG")
+    desk.measure("members of millions", f"members {groups['Node']} STRONG")
     desk.measure("roots", "roots")
     began = time.monotonic()
     desk.ask(f"cut {source} {slot}")

@@ -11,7 +11,7 @@ use Rattle.hd_terms.specs.Replies.{RepliesTo, answered, event_line, mark_reply, 
 use Rattle.hd_terms.specs.Sessions.{IsTurn, event_by, with_event}
 use Rattle.hd_terms.specs.Sessions as sessions
 use Rattle.hd_state.specs.declared.state.Done.{Done}
-use Rattle.hd_protocol.specs.Work.{Work, work_at}
+use Rattle.hd_protocol.specs.Work.{Work}
 use Rattle.std.specs.Prelude.{if◌then◌else◌}
 use Rattle.std.specs.Io.KnownBytes.{Appends}
 use Rattle.hd_protocol.specs.declared.serving.ServeFault.{ServeFault}

@@ -54,12 +54,12 @@ module _ (dump : Dump) (slot : Slot) (id o : ℕ) (found : index_of dump.objects
   pub not_there : position (at_slot slot) (object_at dump o).slots ≡ None → cut_refusal dump slot (index_of dump.objects id) ≡ Some refusals.NoSuchSlot
   not_there none = ap (cut_refusal dump slot) found ∙ ap (slot_refusal dump slot) (named_none (object_at dump o) slot none)
 
-  -- it is at a place
-  module _ (i : ℕ) (s : SlotEntry) (place : position (at_slot slot) (object_at dump o).slots ≡ Some i) (entry : slice_get (object_at dump o).slots i ≡ Some s) where
+  -- it is at an index
+  module _ (i : ℕ) (s : SlotEntry) (index : position (at_slot slot) (object_at dump o).slots ≡ Some i) (entry : slice_get (object_at dump o).slots i ≡ Some s) where
     there : (cuttable : Bool) → is_cuttable slot ≡ cuttable → cut_refusal dump slot (index_of dump.objects id) ≡ (if cuttable then empty_refusal dump s else Some refusals.NotCuttable)
     there cuttable c =
         ap (cut_refusal dump slot) found
-        ∙ ap (slot_refusal dump slot) (named_some (object_at dump o) slot i s place entry)
+        ∙ ap (slot_refusal dump slot) (named_some (object_at dump o) slot i s index entry)
         ∙ ap (λ (b : Bool). if b then empty_refusal dump s else Some refusals.NotCuttable) c
 
     pub not_cuttable : is_cuttable slot ≡ false → cut_refusal dump slot (index_of dump.objects id) ≡ Some refusals.NotCuttable
@@ -81,10 +81,10 @@ module _ (dump : Dump) (id o : ℕ) (found : index_of dump.objects id ≡ Some o
   pub referent_lost : (slot : Slot) → (object_at dump o).referent ≡ Some slot → position (at_slot slot) (object_at dump o).slots ≡ None → clear_refusal dump (index_of dump.objects id) ≡ Some refusals.NotReference
   referent_lost slot is none = refused_by (Some slot) is ∙ ap (referent_refusal dump) (named_none (object_at dump o) slot none)
 
-  -- it is at a place
+  -- it is at an index
   pub referent_there : (slot : Slot) (i : ℕ) (s : SlotEntry) → (object_at dump o).referent ≡ Some slot → position (at_slot slot) (object_at dump o).slots ≡ Some i
       → slice_get (object_at dump o).slots i ≡ Some s → clear_refusal dump (index_of dump.objects id) ≡ empty_refusal dump s
-  referent_there slot i s is place entry = refused_by (Some slot) is ∙ ap (referent_refusal dump) (named_some (object_at dump o) slot i s place entry)
+  referent_there slot i s is index entry = refused_by (Some slot) is ∙ ap (referent_refusal dump) (named_some (object_at dump o) slot i s index entry)
 
 -- whether a slot refers to something
 module _ (dump : Dump) (s : SlotEntry) where

@@ -361,12 +361,6 @@ pub served_lost : (dump : Dump) (input before after after' : Option (List ℕ)) 
 served_lost dump None before after after' s same = tt
 served_lost dump (Some bytes) before after after' s same = (s.0, appends_kept before after after' s.0 s.1 same, until_write dump bytes s.0 s.2)
 
--- what is known of a dump holds of one that is the same
-pub serves_same : (dump dump' : Dump) (input rest before after : Option (List ℕ)) (result : Result (Unit {0}) ServeFault) → dump ≡ dump' → Serves dump input rest before after result → Serves dump' input rest before after result
-serves_same dump dump' input rest before after result same s = subst (λ (d : Dump). Serves d input rest before after result) same s
-
+-- the same of a dump that is the same
 pub lost_same : (dump dump' : Dump) (input before after after' : Option (List ℕ)) → dump ≡ dump' → ServesAll dump input before after → Keeps after after' → ServesUntilWrite dump' input before after'
 lost_same dump dump' input before after after' same s kept = served_lost dump' input before after after' (subst (λ (d : Dump). ServesAll d input before after) same s) kept
-
-pub kept_same : (dump dump' : Dump) (input before after after' : Option (List ℕ)) → dump ≡ dump' → ServesAll dump input before after → Keeps after after' → ServesAll dump' input before after'
-kept_same dump dump' input before after after' same s kept = served_kept dump' input before after after' (subst (λ (d : Dump). ServesAll d input before after) same s) kept

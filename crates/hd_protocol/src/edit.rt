@@ -16,11 +16,7 @@ use std::alloc::Global;
 const ANALYST: u8 = 0;
 
 /// Adds an edit to the log.
-pub(crate) fn apply_edit(
-    alloc: Global,
-    analyst: &mut Analyst,
-    edit: Edit,
-) -> Result<Done, Refusal>
+pub(crate) fn apply_edit(alloc: Global, analyst: &mut Analyst, edit: Edit) -> Result<Done, Refusal>
     ensures { EditEnds analyst.old analyst.new (unless_refused (edit_refusal analyst.old.dump edit) (whats.Do edit)) result }
 {
     if let Some(refusal) = refusal_of_edit(analyst.state().graph(), edit) {

@@ -77,11 +77,7 @@ fn answer_command(
 }
 
 /// The number of the object of an ID; without one `no NoSuchObject` is put in place of the bytes of `out`.
-fn object_or_refusal(
-    state: &State,
-    id: u64,
-    out: &mut FixedBuffer<LONGEST_REPLY>,
-) -> Option<u32>
+fn object_or_refusal(state: &State, id: u64, out: &mut FixedBuffer<LONGEST_REPLY>) -> Option<u32>
     ensures { MatchOption result
         ((index_of state.now.dump.objects id ≡ None) × (out.new ≡ refused (refusal_name refusals.NoSuchObject)))
         (λ object. index_of state.now.dump.objects id ≡ Some object) }

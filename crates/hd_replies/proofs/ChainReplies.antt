@@ -1,13 +1,12 @@
 -- Lemmas on the reply to `chain`.
-use Rattle.std.proofs.Common.{◌≡◌, ◌∙◌, ℕ, List, [], ◌∷◌, inl, inr, map, codes, None, Some, refl, ap}
+use Rattle.std.proofs.Common.{◌≡◌, ◌∙◌, ℕ, List, [], ◌∷◌, inl, inr, map, None, Some, refl, ap}
 use Rattle.std.proofs.lemmas.Simd.{map-map}
 use Rattle.hd_terms.specs.declared.Event.{Event}
 use Rattle.hd_terms.specs.declared.Strength.TheVariants as strengths
 use Rattle.hd_terms.specs.Paths.{Edge}
 use Rattle.hd_terms.specs.Dump.{Dump}
-use Rattle.hd_terms.specs.Replies.{answered, chain_start, chain_lines, link_line, RepliesChain}
+use Rattle.hd_terms.specs.Replies.{answered, chain_start, chain_lines, RepliesChain}
 use Rattle.hd_state.specs.declared.chain.Chain.{Chain}
-use Rattle.hd_state.specs.declared.chain.Link.{Link}
 use Rattle.hd_state.specs.ChainFound.{IsChainFound, IsFoundChain, link_of, root_of}
 use Rattle.hd_replies.specs.ChainLines.{lines_of, link_text}
 

@@ -16,7 +16,9 @@ use hd_graph::Graph;
 use hd_log::Front;
 use hd_state::{Chain, Mark, State};
 use hd_terms::{Group, NoMemory, Strength};
-use hd_words::{EventLines, EventRow, IdLines, IntoLines, RootLines, SlotLines, lines_text, put_lines};
+use hd_words::{
+    EventLines, EventRow, IdLines, IntoLines, RootLines, SlotLines, lines_text, put_lines,
+};
 use std::alloc::{AllocError, Global};
 use std::fmt::Write;
 
@@ -82,15 +84,17 @@ fn found_text(alloc: Global, graph: &Graph, chain: &Chain) -> Result<String, All
 }
 
 /// The reply to `classes`: `ok N`, and a line for each group that has objects of the strength.
-pub fn classes_text(
-    alloc: Global,
-    state: &State,
-    strength: Strength,
-) -> Result<String, NoMemory>
+pub fn classes_text(alloc: Global, state: &State, strength: Strength) -> Result<String, NoMemory>
     ensures { IfOk result (λ text. RepliesClasses state.now.dump state.now.log strength (string_bytes text)) }
 {
     let rows = state.classes(alloc, strength)?;
-    let text = lines_text(alloc, &ClassLines { graph: state.graph() }, rows.as_slice())?;
+    let text = lines_text(
+        alloc,
+        &ClassLines {
+            graph: state.graph(),
+        },
+        rows.as_slice(),
+    )?;
     Ok(text)
 }
 
