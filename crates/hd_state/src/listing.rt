@@ -64,6 +64,7 @@ fn ids_of(alloc: Global, graph: &Graph, listed: Listed<'_>) -> Result<Vec<u64>, 
             ids.push(graph.id_of(o))?;
         }
     }
+    // No two objects have one ID. Dropping doubles says so without an argument over all pairs.
     ids.sort_unstable();
     ids.dedup();
     Ok(ids)

@@ -1,4 +1,4 @@
-//! How many objects have each strength, and how many bytes.
+//! How many objects have each strength, or are of a group besides, and how many bytes.
 ghost use Rattle.std.specs.Prelude.{◌≡◌, ◌+◌, ◌<◌, ◌≤◌, ◌^◌, length};
 ghost use Rattle.hd_terms.specs.declared.Strength.{Strength};
 ghost use Rattle.hd_terms.specs.Totals.{IsGroupTotal};

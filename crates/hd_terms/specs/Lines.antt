@@ -81,7 +81,7 @@ id_of_word [] = None
 id_of_word (a ∷ []) = None
 id_of_word (a ∷ b ∷ digits) = if (a == 48) && (b == 120) then id_digits digits else None
 
--- the greatest number of an event or of a slot
+-- the greatest number of an event, a mark or a slot
 abbrev pub largest_number : ℕ
 largest_number = 4294967295
 

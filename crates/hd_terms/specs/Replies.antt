@@ -1,4 +1,4 @@
--- The reply to a line: bytes that are a function of the dump, of logs and of the line.
+-- The reply to a line: bytes that are a function of the dump, of logs and of the line, but for which chain is shown.
 -- Source: this project's protocol (docs/PROTOCOL.md).
 use Rattle.std.specs.Prelude.{◌≡◌, ◌⊎◌, ◌≤◌, ℕ, false, true, Bool, if◌then◌else◌, List, [], ◌∷◌, ◌++◌, length, map, slice_get, codes, decimal, Option, Some, None, Result, Ok, Err}
 use Rattle.std.specs.Option.{option_map}
@@ -76,7 +76,7 @@ line_fault_name line_faults.LineTooLong = codes "LineTooLong"
 line_fault_name line_faults.UnknownCommand = codes "UnknownCommand"
 line_fault_name line_faults.BadArgument = codes "BadArgument"
 
--- why an edit or an undo is refused, as it is printed
+-- why a command is refused, as it is printed
 abbrev pub log_fault_name : LogFault → List ℕ
 log_fault_name faults.NoSuchEvent = codes "NoSuchEvent"
 log_fault_name faults.NotYours = codes "NotYours"

@@ -40,7 +40,7 @@ pub(crate) fn read_only_kind(rest: &[u8]) -> Option<RefKind>
     read_kind(only_word(rest)?)
 }
 
-/// The number of an event, a mark or a slot that the only word spells.
+/// The number of an event or a mark that the only word spells.
 pub(crate) fn read_only_number(rest: &[u8]) -> Option<u32>
     ensures { result ≡ option_and_then number_of_word (only_word (words_between rest.now)) }
 {

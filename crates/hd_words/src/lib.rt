@@ -1,4 +1,4 @@
-//! The words of lines: which command a line spells, and how slots are written and read.
+//! The words of lines: which command a line spells, and how slots, groups, names, roots and events are written.
 #![tactic(auto)]
 
 mod arguments;
