@@ -200,10 +200,10 @@ module _ (g : Standing) (at : ℕ → ℕ → Option Edge) (rows : AreRows g at)
   passes = subst (λ (o : ℕ). PassesOn g.mode (reached_at ks o)) (sym source) passes_on
 
   -- what is reached stays
-  pub stays : (o : ℕ) → 1 ≤ rank_at ks o → reached_at ks' o ≡ reached_at ks o
+  stays : (o : ℕ) → 1 ≤ rank_at ks o → reached_at ks' o ≡ reached_at ks o
   stays o reached = others o (λ same. let l : rank_at ks o ≡ 0 = ap (rank_at ks) same ∙ low in omega arith)
 
-  pub rank_here : rank_at ks' e.target ≡ rank s
+  rank_here : rank_at ks' e.target ≡ rank s
   rank_here = ap (λ (k : Reached). rank k.strength) here
 
   source_stays : reached_at ks' e.source ≡ reached_at ks e.source

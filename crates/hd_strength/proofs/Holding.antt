@@ -2,7 +2,7 @@ use Rattle.std.proofs.Common.{◌≡◌, ◌≢◌, ◌∙◌, ℕ, ◌+◌, ◌
 use Rattle.std.specs.Prelude.{if◌then◌else◌, nat_eq}
 use Rattle.std.proofs.lemmas.Bool.{cases_eq, cases_lt}
 use Rattle.std.proofs.lemmas.Bool.Decides.{nat_tests}
-use Rattle.std.proofs.lemmas.List.{get_or-set_same, get_or-set_other, length-set, get_or_past}
+use Rattle.std.proofs.lemmas.List.{get_or-set_same, get_or-set_other, get_or_past}
 use Rattle.std.proofs.lemmas.List.Elements.{Contains-push, Contains-push_cases, Contains-append_left}
 use Rattle.std.proofs.lemmas.List.Sums.{sum_by-le}
 use Rattle.hd_terms.specs.declared.Event.{Event}
@@ -116,13 +116,6 @@ held_strong dump log ks o (inr (r, at, held)) reached = ap (λ (k : Reached). k.
 pub record AreQueued (ks : List Reached) (queue : List ℕ) (n : ℕ) : Type 0 where
   pub reached : (o : ℕ) → Contains queue o → 1 ≤ rank_at ks o
   pub all : (o : ℕ) → o < n → 1 ≤ rank_at ks o → Contains queue o
-
--- no object is looked at yet
-pub none_queued : (ks : List Reached) (queue : List ℕ) → queue ≡ [] → AreQueued ks queue 0
-none_queued ks queue empty = record {
-  reached = λ o c. absurd (Contains-nil o (subst (λ (xs : List ℕ). Contains xs o) empty c));
-  all = λ o lt reached. absurd (omega arith);
-}
 
 -- one more object is looked at
 module _ (ks : List Reached) (queue queue' : List ℕ) (n : ℕ) (h : AreQueued ks queue n) where

@@ -1,4 +1,4 @@
-use Rattle.std.proofs.Common.{◌≡◌, ◌≢◌, ◌∙◌, ℕ, ◌+◌, ◌<◌, ◌≤◌, ◌⊎◌, inl, inr, List, [], ◌∷◌, ◌++◌, Contains, length, set, length-append, Some, refl, sym, ap, subst, arith}
+use Rattle.std.proofs.Common.{◌≡◌, ◌≢◌, ◌∙◌, ℕ, ◌+◌, ◌<◌, ◌≤◌, ◌⊎◌, inl, inr, List, [], ◌∷◌, ◌++◌, Contains, length, length-append, Some, refl, sym, ap, subst, arith}
 use Rattle.std.proofs.lemmas.Bool.{cases_eq, cases_lt}
 use Rattle.std.proofs.lemmas.List.{get_or-set_same, get_or-set_other, length-set}
 use Rattle.std.proofs.lemmas.List.Elements.{Contains-push, Contains-push_cases, Contains-append_left}
@@ -24,7 +24,7 @@ use Rattle.hd_strength.specs.Growing.{rank_at, offered_strength, offer_at, IsBac
 use Rattle.hd_strength.proofs.Lists.{Contains-nil, Contains-head, Contains-tail, Contains-cons_cases}
 use Rattle.hd_strength.proofs.RowLemmas.{edge_stands_at, at_source, edge_has_index, is_at, IsAt}
 use Rattle.hd_strength.proofs.Grow.{AreRows, Extends, extends, extends-first, weaken, decline, offer, none_left, descend, take, offered_strength-le, settled_in_the_end}
-use Rattle.hd_strength.proofs.Holding.{weight, weight-none, weight-some, reached_within}
+use Rattle.hd_strength.proofs.Holding.{weight, weight-none, weight-some}
 
 -- the rows of a dump
 rows_of : (dump : Dump) (log : List Event) → AreRows (standing dump log) (edge_at dump log)
@@ -115,10 +115,10 @@ module _ (dump : Dump) (log : List Event) (search new : Search) (b : Buckets) (s
       (here dump.mode old new s e.source e.slot e.target a.reaches a.object)
       (others dump.mode old new s e.source e.slot e.target a.reaches a.object)
       (λ o i done p.
-        let both : (Contains new.queue.items o → ⊥) × ((Contains search.queue.items o → ⊥) → D o i) = part o i done in (
-          both.1 (λ c. both.0 (still_queued dump.mode old new s e.source e.slot e.target a.reaches a.object o c)),
-          another dump.mode old new s e.source e.slot e.target a.reaches a.object o both.0 p,
-        ))
+      let both : (Contains new.queue.items o → ⊥) × ((Contains search.queue.items o → ⊥) → D o i) = part o i done in (
+        both.1 (λ c. both.0 (still_queued dump.mode old new s e.source e.slot e.target a.reaches a.object o c)),
+        another dump.mode old new s e.source e.slot e.target a.reaches a.object o both.0 p,
+      ))
 
   accepted : IsSearching dump log new s limit D'
   accepted = record {
@@ -241,8 +241,12 @@ module _ (dump : Dump) (log : List Event) (start old new : Search) (s : Strength
     accepted_at_once = record {
       searching = reached_done dump log new s o i taken source_after target_after;
       source = source_after;
-      less = omega (arith, h.less, less dump log old new old.buckets s (rank s) (NotQueuedBelow old.queue.items o i) (NotQueuedBelow new.queue.items o i) (offer_at o i) h.searching (λ t y c. c) (λ t y c. inr c) source_passes some a
-        (λ p j done. (done.0, λ apart. (apart, done.1))));
+      less = omega (
+        arith,
+        h.less,
+        less dump log old new old.buckets s (rank s) (NotQueuedBelow old.queue.items o i) (NotQueuedBelow new.queue.items o i) (offer_at o i) h.searching (λ t y c. c) (λ t y c. inr c) source_passes some a
+            (λ p j done. (done.0, λ apart. (apart, done.1))),
+      );
     }
 
   module _ (a : IsOffered (edge_at dump log) old new s o i) where
@@ -278,9 +282,12 @@ module _ (dump : Dump) (log : List Event) (start old new : Search) (s : Strength
 pub row_done : (dump : Dump) (log : List Event) (start search : Search) (s : Strength) (o n : ℕ) → HasRelaxed dump log start search s o n → width dump o ≤ n → HasAccepted dump log search s
 row_done dump log start search s o n h le = record {
   growing = weaken (standing dump log) (edge_at dump log) search.kept.items (bucket search.buckets) search.count s (rank s) (NotQueuedBelow search.queue.items o n) (NotQueued search.queue.items) h.searching.growing
-      (λ p i e apart is passes. inl (apart, λ same.
-        let lt : i < width dump o = (is_at dump log o i e (subst (λ (p : ℕ). edge_at dump log p i ≡ Some e) same is)).within in
-        omega arith));
+      (λ p i e apart is passes. inl (
+        apart,
+        λ same.
+            let lt : i < width dump o = (is_at dump log o i e (subst (λ (p : ℕ). edge_at dump log p i ≡ Some e) same is)).within in
+            omega arith,
+      ));
   queued = h.searching.queued;
   objects = h.searching.objects;
   few = h.searching.few;
@@ -309,9 +316,6 @@ module _ (dump : Dump) (log : List Event) (search popped : Search) (s : Strength
     stamps = rw (same_kept, same_count) h.stamps;
   }
 
-  pub less_to_do : to_do popped < to_do search
-  less_to_do = omega (arith, ap length first, ap (λ (v : _). unreached_count v.items) same_kept)
-
 -- the queue is empty
 pub none_taken : (dump : Dump) (log : List Event) (search popped : Search) (s : Strength) → HasAccepted dump log search s → search.queue.items ≡ popped.queue.items → popped.kept ≡ search.kept → popped.buckets ≡ search.buckets → popped.count ≡ search.count → HasAccepted dump log popped s
 none_taken dump log search popped s h same_queue same_kept same_buckets same_count = record {
@@ -338,6 +342,6 @@ pub ends : (dump : Dump) (log : List Event) (search : Search) → HasComeTo dump
 ends dump log search h =
     settled_in_the_end (standing dump log) (edge_at dump log) (rows_of dump log) search.kept.items (bucket search.buckets) search.count strengths.Unreachable (rank strengths.Unreachable + 1) (NotQueued search.queue.items) h.growing
     (λ t x c.
-      let none : t ≡ strengths.Unreachable = same_rank t strengths.Unreachable (omega (arith, h.growing.ceiling t x c)) in
-      Contains-nil x (subst (λ (t : Strength). Contains (bucket search.buckets t) x) none c))
+    let none : t ≡ strengths.Unreachable = same_rank t strengths.Unreachable (omega (arith, h.growing.ceiling t x c)) in
+    Contains-nil x (subst (λ (t : Strength). Contains (bucket search.buckets t) x) none c))
     (λ o i c. absurd (omega (arith, (h.queued o c).1, least-positive dump.mode)))

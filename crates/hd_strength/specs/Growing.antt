@@ -1,6 +1,6 @@
 -- What is reached so far, and what is offered.
 -- Source: this project.
-use Rattle.std.specs.Prelude.{◌≡◌, ◌≢◌, ℕ, ◌+◌, ◌^◌, ◌≤◌, ◌<◌, ◌⊎◌, List, [], ◌∷◌, ◌++◌, length, set, Contains, sum_by, nat_eq, if◌then◌else◌, Option, Some}
+use Rattle.std.specs.Prelude.{◌≡◌, ℕ, ◌+◌, ◌^◌, ◌≤◌, ◌<◌, ◌⊎◌, List, [], ◌∷◌, ◌++◌, length, set, Contains, sum_by, nat_eq, if◌then◌else◌, Option, Some}
 use Rattle.hd_terms.specs.declared.Event.{Event}
 use Rattle.hd_terms.specs.declared.Mode.{Mode}
 use Rattle.hd_terms.specs.declared.Slot.{Slot}

@@ -1,6 +1,4 @@
-//! Offers by what they give.
-//!
-//! A bucket gives its offers first in, first out. No contract of this crate promises an order of them to its callers.
+//! Offers by what they give, those of one strength first in, first out.
 ghost use Rattle.std.specs.Prelude.{◌≡◌, ◌≤◌, [], IfNone, IfSome, OnOk};
 ghost use Rattle.hd_terms.specs.Ranks.{rank};
 ghost use Rattle.hd_terms.specs.declared.Strength.{Strength as OneStrength};

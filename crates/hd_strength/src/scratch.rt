@@ -97,11 +97,7 @@ fn apply_roots(alloc: Global, edited: Edited<'_>) -> Result<Vec<PackedReached>, 
 }
 
 /// A search that begins: of the objects only those are reached that roots hold, and they are queued.
-fn begin(
-    alloc: Global,
-    edited: Edited<'_>,
-    kept: Vec<PackedReached>,
-) -> Result<Search, NoMemory>
+fn begin(alloc: Global, edited: Edited<'_>, kept: Vec<PackedReached>) -> Result<Search, NoMemory>
     requires count { length kept.items ≡ length edited.graph.now.objects }
     requires held { AreHeld edited.graph.now edited.front.now kept.items (root_count edited.graph.now edited.front.now) }
     ensures { IfOk result (λ search. HasComeTo edited.entry.graph.now edited.entry.front.now search strengths.Strong) }
@@ -121,19 +117,18 @@ fn begin(
 }
 
 /// Reaches an object by a slot of another, and queues it if it passes its strength on.
-fn reach(
-    edited: Edited<'_>,
-    search: &mut Search,
-    source: u32,
-    gain: Gain,
-) -> Result<(), NoMemory>
+fn reach(edited: Edited<'_>, search: &mut Search, source: u32, gain: Gain) -> Result<(), NoMemory>
     requires object { gain.target < length search.old.kept.items }
     requires room { search.old.count < 2 ^ 32 }
     ensures { OnOk result (Reaches edited.entry.graph.now.mode search.old search.new gain.strength source gain.slot gain.target) }
 {
     search.count += 1;
-    search.kept[gain.target as usize] =
-        PackedReached::by_edge(gain.strength, source, gain.slot, search.count);
+    search.kept[gain.target as usize] = PackedReached::by_edge(
+        gain.strength,
+        source,
+        gain.slot,
+        search.count,
+    );
     if gain.strength.rank() >= edited.graph.mode().least_passed_on().rank() {
         search.queue.push_back(gain.target)?;
     }

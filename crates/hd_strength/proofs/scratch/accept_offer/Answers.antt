@@ -1,5 +1,4 @@
 use Rattle.std.proofs.Common.{◌≡◌, ◌∙◌, ◌<◌, inl, inr, length, Some, None, refl, ap, sym, subst, arith}
-use Rattle.hd_terms.specs.declared.Slot.{Slot}
 use Rattle.hd_terms.specs.Ranks.{rank}
 use Rattle.hd_terms.specs.Paths.{Edge}
 use Rattle.hd_terms.specs.Dump.{SlotEntry}

@@ -3,7 +3,7 @@ use Rattle.hd_terms.specs.declared.Strength.{Strength}
 use Rattle.hd_terms.specs.Ranks.{rank}
 use Rattle.hd_terms.proofs.RankLemmas.{same_rank, rank-le}
 use Rattle.hd_strength.specs.Buckets.{AddsTo}
-use Rattle.hd_strength.specs.Growing.{rank_at, offered_strength, offer_at}
+use Rattle.hd_strength.specs.Growing.{rank_at, offer_at}
 use Rattle.hd_strength.proofs.RowLemmas.{at_source}
 use Rattle.hd_strength.proofs.Grow.{offered_strength-le}
 use Rattle.hd_strength.proofs.Spreading.{offered_strength-some}

@@ -1,4 +1,4 @@
-use Rattle.std.proofs.Common.{◌≡◌, ◌∙◌, ◌≤◌, ap, refl, arith}
+use Rattle.std.proofs.Common.{◌≡◌, ap, refl, arith}
 use Rattle.hd_terms.specs.Ranks.{rank}
 use Rattle.hd_terms.proofs.RankLemmas.{least-positive}
 use Rattle.hd_strength.specs.declared.scratch.Search.{Search}
