@@ -1,4 +1,4 @@
--- Totals of strengths, by what is kept of the objects.
+-- Totals of groups and strengths, by what is kept of the objects.
 -- Source: this project.
 use Rattle.std.specs.Prelude.{◌≡◌, ℕ, ◌+◌, ◌*◌, ◌≤◌, ◌==◌, Bool, if◌then◌else◌, List, length, take, count_by, sum_by}
 use Rattle.std.specs.List.{range_with_len}

@@ -1,12 +1,11 @@
 //! Tests of what only code can show of a heap: graphs, logs, strengths and the states of a log, by calls that no line of an
-//! analyst reaches.
+//! analyst reaches. Other crates of tests take their dumps from here.
 //! What lines and `stat` can show stands as cases in `crates/hd_rows`.
 #![tactic(auto)]
 
 #[cfg(test)]
 mod chain_tests;
-#[cfg(test)]
-mod dumps;
+pub mod dumps;
 #[cfg(test)]
 mod graph_tests;
 #[cfg(test)]

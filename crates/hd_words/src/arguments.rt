@@ -1,10 +1,9 @@
 //! The arguments of commands: what single words spell.
 ghost use Rattle.std.specs.Prelude.{◌≡◌};
 ghost use Rattle.std.specs.Option.{option_and_then};
-ghost use Rattle.hd_terms.specs.Lines.{group_of_word, id_of_word, kind_of_word, number_of_word, only_word, root_of_word, slot_of_word, strength_of_word};
+ghost use Rattle.hd_terms.specs.Lines.{id_of_word, kind_of_word, number_of_word, only_word, root_of_word, slot_of_word, strength_of_word};
 ghost use Rattle.hd_words.specs.Words.{words_between};
 
-use crate::group_words::read_group;
 use crate::kind_words::read_kind;
 use crate::numbers::{read_hexadecimal, read_root, read_small};
 use crate::slot_words::read_slot;

@@ -1,0 +1,147 @@
+//! Two desks in one thread: whose edits they may take back, what they learn of one another, and how a board is closed.
+use crate::boards::{Answer, CUT, edit, strength_at, two_desks, undo};
+use hd_board::{Board, CloseFault, Desk, LearnFault, RefreshFault};
+use hd_terms::{Edit, LogFault, Refusal, Strength};
+use std::alloc::Global;
+use std::sync::Wait;
+use std::test::Fail;
+use std::thread::Threads;
+
+/// What the desk of a place among others answers to an edit.
+fn edit_by<R: Wait>(
+    rt: &R,
+    alloc: Global,
+    board: &Board,
+    desks: &mut [Desk],
+    i: usize,
+    asked: Edit,
+) -> Answer {
+    let desk = desks.get_mut(i)?;
+    edit(rt, alloc, board, desk, asked)
+}
+
+/// What the desk of a place among others answers to the undo of an event.
+fn undo_by<R: Wait>(
+    rt: &R,
+    alloc: Global,
+    board: &Board,
+    desks: &mut [Desk],
+    i: usize,
+    k: u32,
+) -> Answer {
+    let desk = desks.get_mut(i)?;
+    undo(rt, alloc, board, desk, Some(k))
+}
+
+#[test]
+fn two_cuts_of_one_slot(rt: HostRuntime) -> Result<(), Fail> {
+    let (board, mut desks) = two_desks(&rt, rt.alloc()).ok_or("the board opens")?;
+    let desks = desks.as_mut_slice();
+    assert!(rt; edit_by(&rt, rt.alloc(), &board, desks, 0, CUT) == Some(Ok((0, 1, 0))));
+    assert!(rt; edit_by(&rt, rt.alloc(), &board, desks, 1, CUT) == Some(Ok((1, 0, 0))));
+    let not_yours = Some(Err(Refusal::Log(LogFault::NotYours)));
+    assert!(rt; undo_by(&rt, rt.alloc(), &board, desks, 0, 1) == not_yours);
+    assert!(rt; undo_by(&rt, rt.alloc(), &board, desks, 0, 0) == Some(Ok((2, 0, 0))));
+    assert!(rt; undo_by(&rt, rt.alloc(), &board, desks, 1, 1) == Some(Ok((3, 0, 1))));
+    Ok(())
+}
+
+/// What a desk that cuts and a desk that learns of it show: the strength of the second array before the learner catches up,
+/// whether the learner is behind, and the strength after.
+type Learned = (Option<Strength>, bool, Option<Strength>);
+
+/// The first desk cuts, and the second learns what the first has seen.
+fn learn_from<R: Threads + Wait + Sync>(rt: &R, alloc: Global) -> Option<Learned> {
+    let (board, mut desks) = two_desks(rt, alloc)?;
+    let (first, second) = desks.as_mut_slice().split_first_mut()?;
+    let second = second.first_mut()?;
+    edit(rt, alloc, &board, first, CUT)?.ok()?;
+    second.learn(first.seen()).ok()?;
+    let before = strength_at(second, 2);
+    let behind = second.is_behind();
+    second.catch_up(alloc).ok()?;
+    Some((before, behind, strength_at(second, 2)))
+}
+
+/// The first desk cuts, and the second is refreshed.
+fn refreshed_after_cut<R: Threads + Wait + Sync>(rt: &R, alloc: Global) -> Option<Learned> {
+    let (board, mut desks) = two_desks(rt, alloc)?;
+    let (first, second) = desks.as_mut_slice().split_first_mut()?;
+    let second = second.first_mut()?;
+    edit(rt, alloc, &board, first, CUT)?.ok()?;
+    let before = strength_at(second, 2);
+    second.refresh(rt, alloc, &board).ok()?;
+    Some((before, second.is_behind(), strength_at(second, 2)))
+}
+
+#[test]
+fn learn_and_refresh(rt: HostRuntime) -> Result<(), Fail> {
+    let learned = learn_from(&rt, rt.alloc()).ok_or("the second desk learns")?;
+    assert!(rt; learned == (Some(Strength::Strong), true, Some(Strength::Unreachable)));
+    let refreshed = refreshed_after_cut(&rt, rt.alloc()).ok_or("the second desk is refreshed")?;
+    assert!(rt; refreshed == (Some(Strength::Strong), false, Some(Strength::Unreachable)));
+    Ok(())
+}
+
+/// Adds a root by the first desk of a board.
+fn add_by_first<R: Wait>(rt: &R, alloc: Global, board: &Board, desks: &mut [Desk]) -> Answer {
+    edit_by(rt, alloc, board, desks, 0, Edit::Add(1))
+}
+
+/// Whether a desk answers that what another has seen stands apart, and that another's board is foreign.
+fn is_apart<R: Wait>(rt: &R, alloc: Global, desk: &mut Desk, other: &Board, told: &Desk) -> bool {
+    let apart = matches!(desk.learn(told.seen()), Err(LearnFault::Apart));
+    let foreign = matches!(desk.refresh(rt, alloc, other), Err(RefreshFault::Foreign(_)));
+    apart && foreign
+}
+
+/// Whether a desk that has seen a cut stands apart from a second board, on which a root was added.
+fn stands_apart<R: Threads + Wait + Sync>(rt: &R, alloc: Global) -> Option<bool> {
+    let (board, mut desks) = two_desks(rt, alloc)?;
+    let (other, mut others) = two_desks(rt, alloc)?;
+    edit_by(rt, alloc, &board, desks.as_mut_slice(), 1, CUT)?.ok()?;
+    add_by_first(rt, alloc, &other, others.as_mut_slice())?.ok()?;
+    let desk = desks.as_mut_slice().get_mut(1)?;
+    let told = others.as_slice().first()?;
+    let apart = is_apart(rt, alloc, desk, &other, told);
+    Some(apart && strength_at(desk, 2) == Some(Strength::Unreachable))
+}
+
+#[test]
+fn boards_stand_apart(rt: HostRuntime) -> Result<(), Fail> {
+    let apart = stands_apart(&rt, rt.alloc()).ok_or("both boards open")?;
+    assert!(rt; apart);
+    Ok(())
+}
+
+/// How many events the log of a closed board has, or whether a desk is missing.
+fn closed(board: Board, desks: &[Desk]) -> Result<u32, bool> {
+    match board.close(desks) {
+        Ok(log) => Ok(log.len()),
+        Err(CloseFault::MissingDesk(_)) => Err(true),
+        Err(CloseFault::Mismatch(_)) => Err(false),
+    }
+}
+
+/// A board closed with so many of its two desks.
+fn closed_with_some<R: Threads + Sync>(rt: &R, alloc: Global, n: usize) -> Option<Result<u32, bool>> {
+    let (board, desks) = two_desks(rt, alloc)?;
+    let some = desks.as_slice().get(..n)?;
+    Some(closed(board, some))
+}
+
+/// A board closed with the desks of another board, the first of which has added a root.
+fn closed_with_others<R: Threads + Wait + Sync>(rt: &R, alloc: Global) -> Option<Result<u32, bool>> {
+    let (board, _) = two_desks(rt, alloc)?;
+    let (other, mut others) = two_desks(rt, alloc)?;
+    add_by_first(rt, alloc, &other, others.as_mut_slice())?.ok()?;
+    Some(closed(board, others.as_slice()))
+}
+
+#[test]
+fn close_of_desks(rt: HostRuntime) -> Result<(), Fail> {
+    assert!(rt; closed_with_some(&rt, rt.alloc(), 1) == Some(Err(true)));
+    assert!(rt; closed_with_some(&rt, rt.alloc(), 2) == Some(Ok(0)));
+    assert!(rt; closed_with_others(&rt, rt.alloc()) == Some(Err(false)));
+    Ok(())
+}

@@ -1,0 +1,67 @@
+//! A private board: it begins at the log of a desk's state, and leaves that desk and its board as they are.
+use crate::boards::{Answer, CUT, edit, strength_at, two_desks, undo};
+use hd_board::{Board, CloseFault, Desk};
+use hd_terms::{Edit, LogFault, Refusal, Strength};
+use std::alloc::Global;
+use std::sync::Wait;
+use std::test::Fail;
+use std::thread::Threads;
+
+/// A board on which the first desk has cut and the second is refreshed.
+fn cut_and_refreshed<R: Threads + Wait + Sync>(rt: &R, alloc: Global) -> Option<(Board, Vec<Desk>)> {
+    let (board, mut desks) = two_desks(rt, alloc)?;
+    let (first, second) = desks.as_mut_slice().split_first_mut()?;
+    edit(rt, alloc, &board, first, CUT)?.ok()?;
+    second.first_mut()?.refresh(rt, alloc, &board).ok()?;
+    Some((board, desks))
+}
+
+/// What the desk of a private board answers to the undo of the base's cut, to a cut, and to an added root.
+fn private_answers<R: Wait>(rt: &R, alloc: Global, board: &Board, desk: &mut Desk) -> [Answer; 3] {
+    [
+        undo(rt, alloc, board, desk, Some(0)),
+        edit(rt, alloc, board, desk, CUT),
+        edit(rt, alloc, board, desk, Edit::Add(2)),
+    ]
+}
+
+#[test]
+fn forked_desk(rt: HostRuntime) -> Result<(), Fail> {
+    let (board, desks) = cut_and_refreshed(&rt, rt.alloc()).ok_or("the second desk is refreshed")?;
+    let forked = desks.as_slice().get(1).ok_or("there are two desks")?;
+    let (private, mut desk) = Board::fork(forked)?;
+    let answers = private_answers(&rt, rt.alloc(), &private, &mut desk);
+    let not_yours = Some(Err(Refusal::Log(LogFault::NotYours)));
+    assert!(rt; answers == [not_yours, Some(Ok((1, 0, 0))), Some(Ok((2, 0, 1)))]);
+    assert!(rt; strength_at(&desk, 2) == Some(Strength::Strong));
+    assert!(rt; strength_at(forked, 2) == Some(Strength::Unreachable));
+    assert!(rt; matches!(board.close(desks.as_slice()), Ok(log) if log.len() == 1));
+    Ok(())
+}
+
+/// The private board of the second desk, after a cut by its own desk, closed with that desk, with the desk that was forked, or
+/// with none.
+fn closed_with<R: Threads + Wait + Sync>(rt: &R, alloc: Global, which: u8) -> Option<Result<u32, bool>> {
+    let (_, desks) = cut_and_refreshed(rt, alloc)?;
+    let forked = desks.as_slice().get(1..)?;
+    let (private, mut desk) = Board::fork(forked.first()?).ok()?;
+    edit(rt, alloc, &private, &mut desk, CUT)?.ok()?;
+    let closed = match which {
+        0 => private.close(&[desk]),
+        1 => private.close(forked),
+        _ => private.close(&[]),
+    };
+    Some(match closed {
+        Ok(log) => Ok(log.len()),
+        Err(CloseFault::MissingDesk(_)) => Err(true),
+        Err(CloseFault::Mismatch(_)) => Err(false),
+    })
+}
+
+#[test]
+fn close_of_a_private_board(rt: HostRuntime) -> Result<(), Fail> {
+    assert!(rt; closed_with(&rt, rt.alloc(), 0) == Some(Ok(2)));
+    assert!(rt; closed_with(&rt, rt.alloc(), 1) == Some(Err(false)));
+    assert!(rt; closed_with(&rt, rt.alloc(), 2) == Some(Err(true)));
+    Ok(())
+}
