@@ -13,5 +13,5 @@ situation_of a = record { dump = arc_value a.graph; log = a.front }
 -- what is taken away is what the log's live edits take away, and what is kept of the objects is settled for what stands
 -- under the log
 pub record IsState (a : Inside) : Type 0 where
-  pub removed : IsRemovedBy (situation_of a).dump (situation_of a).log a.removed
+  pub removed : IsRemovedBy (situation_of a).dump (situation_of a).log (arc_value a.removed)
   pub kept : AreKept (situation_of a).dump (situation_of a).log (arc_value a.strengths)

@@ -45,7 +45,7 @@ use std::sync::Arc;
 pub struct State {
     graph: Arc<Graph>,
     front: Front,
-    removed: Removed,
+    removed: Arc<Removed>,
     strengths: Arc<Strengths>,
 }
 
@@ -85,6 +85,7 @@ impl State {
         let front = Front::empty(alloc)?;
         let removed = Removed::of(alloc, &graph, &front)?;
         let strengths = from_removed(alloc, &graph, &front, &removed)?;
+        let removed = Arc::new(alloc, removed)?;
         let strengths = Arc::new(alloc, strengths)?;
         Ok(State {
             graph,
@@ -117,6 +118,7 @@ impl State {
             fell: count_fallen(&self.strengths, &strengths),
             back: count_fallen(&strengths, &self.strengths),
         };
+        let removed = Arc::new(alloc, removed)?;
         let strengths = Arc::new(alloc, strengths)?;
         let graph = Arc::try_clone(&self.graph)?;
         let state = State {
@@ -126,6 +128,22 @@ impl State {
             strengths,
         };
         Ok((state, done))
+    }
+
+    /// An equal state: a further owner of the graph, of the log and of the strengths. Nothing is copied.
+    ///
+    /// # Errors
+    ///
+    /// Memory ran out.
+    pub fn share(&self) -> Result<State, NoMemory>
+        ensures { IfOk result (λ s. s ≡ self.now) }
+    {
+        Ok(State {
+            graph: Arc::try_clone(&self.graph)?,
+            front: self.front.share()?,
+            removed: Arc::try_clone(&self.removed)?,
+            strengths: Arc::try_clone(&self.strengths)?,
+        })
     }
 
     /// The log.
