@@ -1,6 +1,6 @@
 -- The schedule of the desks: one log that all append to, and of each desk what it has seen and how far its state has come.
 -- Source: this project. One step is one holding of the log's lock, or one desk's own doing.
-use Rattle.std.specs.Prelude.{◌≡◌, ℕ, zero, suc, ◌<◌, ◌==◌, if◌then◌else◌, List, [], ◌∷◌, ◌++◌, length, map, drop, slice_get, Some, None, All, Contains}
+use Rattle.std.specs.Prelude.{◌≡◌, ℕ, zero, suc, ◌<◌, ◌==◌, if◌then◌else◌, List, [], ◌∷◌, ◌++◌, length, map, drop, None, All, Contains}
 use Rattle.hd_terms.specs.declared.Event.{Event}
 use Rattle.hd_terms.specs.Log.{IsLawful, IsEvent, begins_with}
 use Rattle.hd_terms.specs.Appending.{append_refusal}
