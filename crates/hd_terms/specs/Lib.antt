@@ -26,6 +26,8 @@ pub mod Fell
 pub mod Lines
 pub mod Asking
 pub mod Appending
+pub mod Desks
+pub mod Schedule
 pub mod Memory
 pub mod Names
 pub mod Replies

@@ -1,5 +1,5 @@
 //! Laws over the definitions. Each is the contract of a function with an empty body.
-ghost use Rattle.std.specs.Prelude.{ℕ, List, [], ◌∷◌, ◌++◌, None, Some, true, ◌≡◌, ◌≢◌};
+ghost use Rattle.std.specs.Prelude.{ℕ, List, [], ◌∷◌, ◌++◌, None, Some, true, ◌≡◌, ◌≢◌, Contains};
 ghost use Rattle.hd_terms.specs.declared.IdSize.{IdSize};
 ghost use Rattle.hd_terms.specs.declared.Event.{Event};
 ghost use Rattle.hd_terms.specs.declared.Mode.{Mode};
@@ -13,8 +13,10 @@ ghost use Rattle.hd_terms.specs.Classes.{IsClassChain, NeverEnds, chain_of, neve
 ghost use Rattle.hd_terms.specs.Dump.{Dump};
 ghost use Rattle.hd_terms.specs.Objects.{IsDumpOf};
 ghost use Rattle.hd_terms.specs.ReadFaults.{IsReadFault};
-ghost use Rattle.hd_terms.specs.Log.{IsLawful, log_fault};
+ghost use Rattle.hd_terms.specs.Log.{IsLawful, begins_with, log_fault};
 ghost use Rattle.hd_terms.specs.Appending.{append_refusal};
+ghost use Rattle.hd_terms.specs.Desks.{IsForeign, IsApart};
+ghost use Rattle.hd_terms.specs.Schedule.{Board, Desks, Reaches, IsOneHistory, Closes, all_desks, fork};
 ghost use Rattle.hd_terms.specs.Paths.{Edge, RootEntry, Standing};
 ghost use Rattle.hd_terms.specs.Strengths.{HasStrength};
 ghost use Rattle.hd_terms.specs.Chains.{IsChain};
@@ -57,4 +59,20 @@ pub fn lawful_logs()
 /// An object has one strength.
 pub fn one_strength()
     ensures { (g : Standing) (o : ℕ) (a b : Strength) → HasStrength g o a → HasStrength g o b → a ≡ b }
+{}
+
+/// Whatever the schedule, the desks of a board hold beginnings of one history. So the front of a desk's state is a lawful log,
+/// from which a private board can begin.
+pub fn desks_hold_one_history()
+    ensures history { (board : Board) (s : Desks) → Reaches board s → IsOneHistory board s }
+    ensures forks { (board : Board) (s : Desks) → Reaches board s → IsLawful board.base → (a : ℕ) → Contains board.numbers a → IsLawful (fork board s a).base }
+{}
+
+/// So none of a board's desks ever finds a log that is foreign to it, none stands apart from what another has seen at any
+/// time, and the board can be closed with all of them.
+pub fn no_desk_is_foreign()
+    ensures found { (board : Board) (s : Desks) → Reaches board s → (a : ℕ) → Contains board.numbers a → IsForeign board.numbers a (s.desk a).seen s.log → ⊥ }
+    ensures told { (board : Board) (s : Desks) → Reaches board s → (a : ℕ) (told : List Event) → Contains board.numbers a → begins_with s.log told → IsApart a (s.desk a).seen told → ⊥ }
+    ensures learned { (board : Board) (s : Desks) → Reaches board s → (a b : ℕ) → Contains board.numbers a → Contains board.numbers b → IsApart a (s.desk a).seen (s.desk b).seen → ⊥ }
+    ensures closed { (board : Board) (s : Desks) → Reaches board s → Closes board s.log (all_desks board s) }
 {}

@@ -25,7 +25,8 @@ pub use examples::{
     log_examples, reply_examples, session_examples, total_examples,
 };
 pub use laws::{
-    class_chains, lawful_logs, one_reading, one_strength, settled_supports_give_strengths,
+    class_chains, desks_hold_one_history, lawful_logs, no_desk_is_foreign, one_reading,
+    one_strength, settled_supports_give_strengths,
 };
 pub use slots::SlotKind;
 pub use types::{element_len, is_id_type, value_len};

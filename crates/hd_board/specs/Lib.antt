@@ -1,0 +1,7 @@
+pub mod Appends
+pub mod Replicas
+pub mod Calls
+pub mod Closing
+pub mod Opening
+pub mod BoardInside
+pub mod DeskInside

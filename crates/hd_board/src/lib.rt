@@ -1,0 +1,15 @@
+//! Several analysts' desks over one dump: each keeps a state of its own, and all append to one log behind one lock.
+#![tactic(auto)]
+
+mod append;
+mod board;
+mod closing;
+mod desk;
+mod faults;
+
+pub use append::append_to;
+pub use board::{Board, open};
+pub use desk::Desk;
+pub use faults::{
+    AppendFault, CloseFault, EditFault, LearnFault, LookFault, RefreshFault, UndoFault,
+};
