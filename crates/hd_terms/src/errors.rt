@@ -1,4 +1,4 @@
-//! What can go wrong: a dump's fault with its file offset, and that memory ran out.
+//! What can go wrong: why a dump can't be read, with the file offset; why a command is refused; and that memory ran out.
 ghost use Rattle.std.specs.Prelude.{◌≡◌};
 
 use std::alloc::{AllocError, AllocFailed};
