@@ -32,6 +32,7 @@ use std::collections::VecDeque;
 /// A search as far as it has come.
 #[derive(Drop)]
 struct Search {
+    /// What is kept of each object.
     kept: Vec<PackedReached>,
     /// What references give that is less than what is being spread.
     buckets: Buckets,
@@ -41,7 +42,7 @@ struct Search {
     count: u64,
 }
 
-/// What an object that nothing reaches would gain by a reference: the object, the slot, and the strength.
+/// What an object that nothing reaches gains by a reference: the object, the slot, and the strength.
 #[derive(Clone, Copy, Debug)]
 struct Gain {
     target: u32,

@@ -7,5 +7,6 @@ use Rattle.hd_strength.proofs.scratch.accept_offers.Given as goal
 abbrev pub invariant-loop-offer : goal.invariant-loop-offer
 invariant-loop-offer l = HasComeTo l.fn.edited.graph.now l.fn.edited.front.now l.search l.fn.strength
 
+-- each offer is taken out once, and none of this strength is made
 abbrev pub decreases-loop-offer : goal.decreases-loop-offer
 decreases-loop-offer l = length (bucket l.search.buckets l.fn.strength)
