@@ -8,6 +8,7 @@ mod fallen;
 mod into;
 mod listing;
 mod mark;
+mod refusing;
 mod roots;
 mod rows;
 mod solved;
@@ -16,5 +17,6 @@ mod totals;
 
 pub use chain::{Chain, Link};
 pub use mark::Mark;
+pub use refusing::edit_refusal;
 pub use state::{Done, State};
 pub use totals::{StrengthTotals, Total};

@@ -10,9 +10,7 @@ use Rattle.hd_terms.specs.Paths.{Edge, Standing}
 use Rattle.hd_terms.specs.Settled.{Reached, reached_at, PassesOn, IsSupported, SupportedBy, Settled}
 use Rattle.hd_terms.proofs.RankLemmas.{same_rank, weaker-le_left, least-positive}
 use Rattle.hd_strength.specs.declared.buckets.Offer.{Offer}
-use Rattle.hd_strength.specs.declared.buckets.Buckets.{Buckets}
-use Rattle.hd_strength.specs.Buckets.{bucket, TakesBest}
-use Rattle.hd_strength.specs.Growing.{rank_at, offered_strength, offer_at, IsBacked, IsGrowing, Every, AddsOffers}
+use Rattle.hd_strength.specs.Growing.{rank_at, offered_strength, offer_at, IsBacked, IsHadOrOffered, IsGrowing}
 use Rattle.hd_strength.proofs.Lists.{Contains-nil, Contains-head, Contains-tail, Contains-cons_cases}
 
 -- indexes give the edges that stand, each from its own object
@@ -65,7 +63,7 @@ extends small big s x here others =
     others
 
 -- as the first of its bucket
-extends-first : (small big : Strength → List Offer) (s : Strength) (x : Offer) → big s ≡ x ∷ small s → ((t : Strength) → t ≢ s → small t ≡ big t) → Extends small big s x
+pub extends-first : (small big : Strength → List Offer) (s : Strength) (x : Offer) → big s ≡ x ∷ small s → ((t : Strength) → t ≢ s → small t ≡ big t) → Extends small big s x
 extends-first small big s x here others =
     extends-by small big s x
     (subst (λ (xs : List Offer). Contains xs x) (sym here) (Contains-head x (small s)))
@@ -76,23 +74,8 @@ extends-first small big s x here others =
     ])
     others
 
--- an offer is taken out of the offers, and none gave more
-pub record Takes (old new : Strength → List Offer) (s : Strength) (x : Offer) : Type 0 where
-  pub offer : Extends new old s x
-  pub most : (t : Strength) (y : Offer) → Contains (old t) y → rank t ≤ rank s
-
--- by buckets
-pub takes : (old new : Buckets) (s : Strength) (x : Offer) → TakesBest old new s x → Takes (bucket old) (bucket new) s x
-takes old new s x h = record {
-  offer = extends-first (bucket new) (bucket old) s x h.here h.others;
-  most = λ t y c. elim (cases_lt (rank s) (rank t)) [
-    | inl more ↦ absurd (Contains-nil y (subst (λ (xs : List Offer). Contains xs y) (h.most t more) c))
-    | inr le ↦ le
-  ];
-}
-
 -- an edge gives no more than its source has
-offered_strength-le : (ks : List Reached) (e : Edge) → rank (offered_strength ks e) ≤ rank_at ks e.source
+pub offered_strength-le : (ks : List Reached) (e : Edge) → rank (offered_strength ks e) ≤ rank_at ks e.source
 offered_strength-le ks e = weaker-le_left (reached_at ks e.source).strength (given_by e.kind)
 
 -- the offer at an index is that of its edge
@@ -103,96 +86,118 @@ module _ (at : ℕ → ℕ → Option Edge) (x : Offer) (e : Edge) (is : at x.so
   pub edge_at_offer : (o i : ℕ) (f : Edge) → offer_at o i ≡ x → at o i ≡ Some f → f ≡ e
   edge_at_offer o i f same there = one_edge f (subst (λ (y : Offer). at y.source y.index ≡ Some f) same there)
 
--- an offer to an object that is reached is let go
-pub decline : (g : Standing) (at : ℕ → ℕ → Option Edge) (ks : List Reached) (old new : Strength → List Offer) (count : ℕ) (s : Strength) (x : Offer) (e : Edge)
-    → IsGrowing g at ks old count Every → Takes old new s x → at x.source x.index ≡ Some e → 1 ≤ rank_at ks e.target → IsGrowing g at ks new count Every
-decline g at ks old new count s x e h t is reached = record {
+-- a slot that is done was done before, or is by a fact of its own
+pub weaken : (g : Standing) (at : ℕ → ℕ → Option Edge) (ks : List Reached) (offers : Strength → List Offer) (count : ℕ) (s : Strength) (limit : ℕ) (D D' : ℕ → ℕ → Type 0)
+    → IsGrowing g at ks offers count s limit D → ((o i : ℕ) (e : Edge) → D' o i → at o i ≡ Some e → PassesOn g.mode (reached_at ks o) → D o i ⊎ IsHadOrOffered ks offers o i e) → IsGrowing g at ks offers count s limit D'
+weaken g at ks offers count s limit D D' h part = record {
   supported = h.supported;
   by_roots = h.by_roots;
   stamps = h.stamps;
-  by_edges = λ o i f done there p. elim (h.by_edges o i f tt there p) [
+  by_edges = λ o i f done there p. elim (part o i f done there p) [
+    | inl before ↦ h.by_edges o i f before there p
+    | inr fact ↦ fact
+  ];
+  backed = h.backed;
+  floor = h.floor;
+  ceiling = h.ceiling;
+}
+
+-- an offer to an object that is reached is let go
+pub decline : (g : Standing) (at : ℕ → ℕ → Option Edge) (ks : List Reached) (old new : Strength → List Offer) (count : ℕ) (s : Strength) (limit : ℕ) (D : ℕ → ℕ → Type 0) (x : Offer) (e : Edge)
+    → IsGrowing g at ks old count s limit D → Extends new old s x → at x.source x.index ≡ Some e → 1 ≤ rank_at ks e.target → IsGrowing g at ks new count s limit D
+decline g at ks old new count s limit D x e h t is reached = record {
+  supported = h.supported;
+  by_roots = h.by_roots;
+  stamps = h.stamps;
+  by_edges = λ o i f done there p. elim (h.by_edges o i f done there p) [
     | inl le ↦ inl le
-    | inr c ↦ elim (t.offer.left (offered_strength ks f) (offer_at o i) c) [
+    | inr c ↦ elim (t.left (offered_strength ks f) (offer_at o i) c) [
       | inr still ↦ inr still
       | inl both ↦
           let same : f ≡ e = edge_at_offer at x e is o i f both.1 there in
           let gives : rank (offered_strength ks f) ≡ rank s = ap rank both.0 in
           let to : rank_at ks f.target ≡ rank_at ks e.target = ap (λ (f : Edge). rank_at ks f.target) same in
-          inl (omega (arith, h.least s x t.offer.made e.target reached))
+          inl (omega (arith, h.floor e.target reached))
     ]
   ];
-  backed = λ r y c. h.backed r y (t.offer.within r y c);
-  least = λ r y c. h.least r y (t.offer.within r y c);
+  backed = λ r y c. h.backed r y (t.within r y c);
+  floor = h.floor;
+  ceiling = λ r y c. h.ceiling r y (t.within r y c);
 }
 
--- only objects that pass their strength on have offers
-pub weaken : (g : Standing) (at : ℕ → ℕ → Option Edge) (ks : List Reached) (offers : Strength → List Offer) (count : ℕ) (D D' : ℕ → Type 0)
-    → IsGrowing g at ks offers count D → ((o : ℕ) → PassesOn g.mode (reached_at ks o) → D' o → D o) → IsGrowing g at ks offers count D'
-weaken g at ks offers count D D' h part = record {
+-- one more edge is offered
+pub offer : (g : Standing) (at : ℕ → ℕ → Option Edge) (ks : List Reached) (old new : Strength → List Offer) (count : ℕ) (s : Strength) (limit : ℕ) (D : ℕ → ℕ → Type 0) (t : Strength) (x : Offer)
+    → IsGrowing g at ks old count s limit D → Extends old new t x → IsBacked g.mode at ks t x → rank t < limit → IsGrowing g at ks new count s limit D
+offer g at ks old new count s limit D t x h more back below = record {
   supported = h.supported;
   by_roots = h.by_roots;
   stamps = h.stamps;
-  by_edges = λ o i f done there p. h.by_edges o i f (part o p done) there p;
-  backed = h.backed;
-  least = h.least;
+  by_edges = λ o i f done there p. elim (h.by_edges o i f done there p) [
+    | inl le ↦ inl le
+    | inr c ↦ inr (more.within (offered_strength ks f) (offer_at o i) c)
+  ];
+  backed = λ r y c. elim (more.left r y c) [
+    | inl both ↦ subst (λ (y : Offer). IsBacked g.mode at ks r y) (sym both.1) (subst (λ (r : Strength). IsBacked g.mode at ks r x) (sym both.0) back)
+    | inr before ↦ h.backed r y before
+  ];
+  floor = h.floor;
+  ceiling = λ r y c. elim (more.left r y c) [
+    | inl both ↦ let same : rank r ≡ rank t = ap rank both.0 in omega arith
+    | inr before ↦ h.ceiling r y before
+  ];
 }
 
--- one more object offers what it gives
-module _ (g : Standing) (at : ℕ → ℕ → Option Edge) (rows : AreRows g at) (ks : List Reached) (old new : Strength → List Offer) (count : ℕ) (D D' : ℕ → Type 0) (o n : ℕ)
-    (h : IsGrowing g at ks old count D) (adds : AddsOffers at ks o n old new) (wide : (i : ℕ) (e : Edge) → at o i ≡ Some e → i < n)
-    (passes : PassesOn g.mode (reached_at ks o)) (floor : (p : ℕ) → 1 ≤ rank_at ks p → rank_at ks o ≤ rank_at ks p) (part : (p : ℕ) → D' p → D p ⊎ (p ≡ o)) where
-  gives-le : (i : ℕ) (e : Edge) → at o i ≡ Some e → rank (offered_strength ks e) ≤ rank_at ks o
-  gives-le i e is = let same : rank_at ks e.source ≡ rank_at ks o = ap (rank_at ks) (rows.source o i e is) in omega (arith, offered_strength-le ks e)
-
-  of_o : (i : ℕ) (e : Edge) → at o i ≡ Some e → (rank (offered_strength ks e) ≤ rank_at ks e.target) ⊎ Contains (new (offered_strength ks e)) (offer_at o i)
-  of_o i e is = elim (adds.done i e (wide i e is) is) [
-    | inl reached ↦ inl (omega (arith, gives-le i e is, floor e.target reached))
-    | inr c ↦ inr c
-  ]
-
-  pub offered : IsGrowing g at ks new count D'
-  offered = record {
-    supported = h.supported;
-    by_roots = h.by_roots;
-    stamps = h.stamps;
-    by_edges = λ p i e done is pass. elim (part p done) [
-      | inl before ↦ elim (h.by_edges p i e before is pass) [
+-- once no offer of the strength is left each is of less
+pub none_left : (g : Standing) (at : ℕ → ℕ → Option Edge) (ks : List Reached) (old new : Strength → List Offer) (count : ℕ) (s : Strength) (D : ℕ → ℕ → Type 0)
+    → IsGrowing g at ks old count s (rank s + 1) D → old s ≡ [] → ((t : Strength) → new t ≡ old t) → IsGrowing g at ks new count s (rank s) D
+none_left g at ks old new count s D h none same =
+    let back : (t : Strength) (x : Offer) → Contains (new t) x → Contains (old t) x = λ t x c. subst (λ (xs : List Offer). Contains xs x) (same t) c in
+    record {
+      supported = h.supported;
+      by_roots = h.by_roots;
+      stamps = h.stamps;
+      by_edges = λ o i f done there p. elim (h.by_edges o i f done there p) [
         | inl le ↦ inl le
-        | inr c ↦ inr (adds.kept (offered_strength ks e) (offer_at p i) c)
-      ]
-      | inr same ↦ subst (λ (p : ℕ). (rank (offered_strength ks e) ≤ rank_at ks e.target) ⊎ Contains (new (offered_strength ks e)) (offer_at p i)) (sym same) (of_o i e (subst (λ (p : ℕ). at p i ≡ Some e) same is))
-    ];
-    backed = λ s y c. elim (adds.made s y c) [
-      | inl before ↦ h.backed s y before
-      | inr made ↦ record {
-        edge = made.1;
-        is = subst (λ (p : ℕ). at p y.index ≡ Some made.1) (sym made.0) made.2;
-        passes_on = subst (λ (p : ℕ). PassesOn g.mode (reached_at ks p)) (sym made.0) passes;
-        gives = made.3;
-      }
-    ];
-    least = λ s y c p reached. elim (adds.made s y c) [
-      | inl before ↦ h.least s y before p reached
-      | inr made ↦ let gives : rank s ≡ rank (offered_strength ks made.1) = ap rank made.3 in omega (arith, gives-le y.index made.1 made.2, floor p reached)
-    ];
-  }
+        | inr c ↦ inr (subst (λ (xs : List Offer). Contains xs (offer_at o i)) (sym (same (offered_strength ks f))) c)
+      ];
+      backed = λ t x c. h.backed t x (back t x c);
+      floor = h.floor;
+      ceiling = λ t x c. elim (strength_cases t s) [
+        | inl is ↦ absurd (Contains-nil x (subst (λ (xs : List Offer). Contains xs x) none (subst (λ (t : Strength). Contains (old t) x) is (back t x c))))
+        | inr other ↦ elim (cases_eq (rank t) (rank s)) [
+          | inl one ↦ absurd (other (same_rank t s one))
+          | inr less ↦ omega (arith, h.ceiling t x (back t x c))
+        ]
+      ];
+    }
 
--- a best offer is taken
-module _ (g : Standing) (at : ℕ → ℕ → Option Edge) (rows : AreRows g at) (ks ks' : List Reached) (old new : Strength → List Offer) (count : ℕ) (s : Strength) (x : Offer) (e : Edge)
-    (h : IsGrowing g at ks old count Every) (t : Takes old new s x) (is : at x.source x.index ≡ Some e) (low : rank_at ks e.target ≡ 0)
+-- what is reached has more than a lesser strength
+pub descend : (g : Standing) (at : ℕ → ℕ → Option Edge) (ks : List Reached) (offers : Strength → List Offer) (count : ℕ) (s next : Strength) (limit : ℕ) (D : ℕ → ℕ → Type 0)
+    → IsGrowing g at ks offers count s limit D → rank next ≤ rank s → IsGrowing g at ks offers count next limit D
+descend g at ks offers count s next limit D h le = record {
+  supported = h.supported;
+  by_roots = h.by_roots;
+  stamps = h.stamps;
+  by_edges = h.by_edges;
+  backed = h.backed;
+  floor = λ o reached. omega (arith, h.floor o reached);
+  ceiling = h.ceiling;
+}
+
+-- an object takes what an edge gives it, which is the strength that is spread
+module _ (g : Standing) (at : ℕ → ℕ → Option Edge) (rows : AreRows g at) (ks ks' : List Reached) (old new : Strength → List Offer) (count : ℕ) (s : Strength) (limit : ℕ) (D D' : ℕ → ℕ → Type 0) (x : Offer) (e : Edge)
+    (h : IsGrowing g at ks old count s limit D)
+    (within : (t : Strength) (y : Offer) → Contains (new t) y → Contains (old t) y)
+    (left : (t : Strength) (y : Offer) → Contains (old t) y → (y ≡ x) ⊎ Contains (new t) y)
+    (is : at x.source x.index ≡ Some e) (passes_on : PassesOn g.mode (reached_at ks x.source)) (gives : s ≡ offered_strength ks e) (low : rank_at ks e.target ≡ 0)
     (here : reached_at ks' e.target ≡ record { strength = s; support = supports.Edge e.source e.slot; stamp = count + 1 })
-    (others : (o : ℕ) → o ≢ e.target → reached_at ks' o ≡ reached_at ks o) where
-  back : IsBacked g.mode at ks s x
-  back = h.backed s x t.offer.made
-
+    (others : (o : ℕ) → o ≢ e.target → reached_at ks' o ≡ reached_at ks o)
+    (part : (o i : ℕ) → D' o i → PassesOn g.mode (reached_at ks' o) → D o i × (o ≢ e.target)) where
   source : e.source ≡ x.source
   source = rows.source x.source x.index e is
 
   passes : PassesOn g.mode (reached_at ks e.source)
-  passes = subst (λ (o : ℕ). PassesOn g.mode (reached_at ks o)) (sym source) back.passes_on
-
-  gives : s ≡ offered_strength ks e
-  gives = back.gives ∙ ap (offered_strength ks) (edge_at_offer at x e is x.source x.index back.edge refl back.is)
+  passes = subst (λ (o : ℕ). PassesOn g.mode (reached_at ks o)) (sym source) passes_on
 
   -- what is reached stays
   stays : (o : ℕ) → 1 ≤ rank_at ks o → reached_at ks' o ≡ reached_at ks o
@@ -257,12 +262,11 @@ module _ (g : Standing) (at : ℕ → ℕ → Option Edge) (rows : AreRows g at)
     | inr other ↦ let r : rank_at ks' o ≡ rank_at ks o = ap (λ (k : Reached). rank k.strength) (others o other) in omega arith
   ]
 
-  -- what is reached has at least what the offer gives
-  pub floor : (o : ℕ) → 1 ≤ rank_at ks' o → rank s ≤ rank_at ks' o
+  -- what is reached has at least the strength that is spread
+  floor : (o : ℕ) → 1 ≤ rank_at ks' o → rank s ≤ rank_at ks' o
   floor o reached = elim (cases_eq o e.target) [
     | inl same ↦ let r : rank_at ks' o ≡ rank s = ap (rank_at ks') same ∙ rank_here in omega arith
-    | inr other ↦ let r : rank_at ks' o ≡ rank_at ks o = ap (λ (k : Reached). rank k.strength) (others o other) in
-        omega (arith, h.least s x t.offer.made o (omega arith))
+    | inr other ↦ let r : rank_at ks' o ≡ rank_at ks o = ap (λ (k : Reached). rank k.strength) (others o other) in omega (arith, h.floor o (omega arith))
   ]
 
   same_offered_strength : (f : Edge) → reached_at ks' f.source ≡ reached_at ks f.source → offered_strength ks' f ≡ offered_strength ks f
@@ -279,42 +283,44 @@ module _ (g : Standing) (at : ℕ → ℕ → Option Edge) (rows : AreRows g at)
         gives = b.gives ∙ sym (same_offered_strength b.edge (subst (λ (o : ℕ). reached_at ks' o ≡ reached_at ks o) (sym from) there));
       }
 
-  still_done : (o i : ℕ) (f : Edge) → o ≢ e.target → at o i ≡ Some f → PassesOn g.mode (reached_at ks' o) → (rank (offered_strength ks' f) ≤ rank_at ks' f.target) ⊎ Contains (new (offered_strength ks' f)) (offer_at o i)
-  still_done o i f other there p =
+  still_done : (o i : ℕ) (f : Edge) → D o i → o ≢ e.target → at o i ≡ Some f → PassesOn g.mode (reached_at ks' o) → IsHadOrOffered ks' new o i f
+  still_done o i f done other there p =
       let same : reached_at ks' o ≡ reached_at ks o = others o other in
       let offered_strengths : offered_strength ks' f ≡ offered_strength ks f = same_offered_strength f (subst (λ (o : ℕ). reached_at ks' o ≡ reached_at ks o) (sym (rows.source o i f there)) same) in
       let ranks : rank (offered_strength ks' f) ≡ rank (offered_strength ks f) = ap rank offered_strengths in
-      elim (h.by_edges o i f tt there (rw (← same) p)) [
+      elim (h.by_edges o i f done there (rw (← same) p)) [
         | inl le ↦ inl (omega (arith, raises f.target))
-        | inr c ↦ elim (t.offer.left (offered_strength ks f) (offer_at o i) c) [
+        | inr c ↦ elim (left (offered_strength ks f) (offer_at o i) c) [
           | inr still ↦ inr (subst (λ (r : Strength). Contains (new r) (offer_at o i)) (sym offered_strengths) still)
-          | inl both ↦
-              let edge : f ≡ e = edge_at_offer at x e is o i f both.1 there in
+          | inl taken ↦
+              let edge : f ≡ e = edge_at_offer at x e is o i f taken there in
               let to : rank_at ks' f.target ≡ rank_at ks' e.target = ap (λ (f : Edge). rank_at ks' f.target) edge in
-              let gave : rank (offered_strength ks f) ≡ rank s = ap rank both.0 in
+              let gave : rank (offered_strength ks f) ≡ rank s = ap rank (ap (offered_strength ks) edge ∙ sym gives) in
               inl (omega (arith, rank_here))
         ]
       ]
 
-  pub take : IsGrowing g at ks' new (count + 1) (λ o. o ≢ e.target)
+  pub take : IsGrowing g at ks' new (count + 1) s limit D'
   take = record {
     supported = supported;
     by_roots = λ r c. let strong : (reached_at ks r.target).strength ≡ strengths.Strong = h.by_roots r c in rw (stays r.target (rw strong (omega arith))) strong;
     stamps = stamps;
-    by_edges = λ o i f other there p. still_done o i f other there p;
-    backed = λ r y c. still_backed r y (h.backed r y (t.offer.within r y c));
-    least = λ r y c o reached. omega (arith, t.most r y (t.offer.within r y c), floor o reached);
+    by_edges = λ o i f done there p. let before : D o i × (o ≢ e.target) = part o i done p in still_done o i f before.0 before.1 there p;
+    backed = λ r y c. still_backed r y (h.backed r y (within r y c));
+    floor = floor;
+    ceiling = λ r y c. h.ceiling r y (within r y c);
   }
 
 -- once no offer is left all is settled
-pub settled_in_the_end : (g : Standing) (at : ℕ → ℕ → Option Edge) → AreRows g at → (ks : List Reached) (offers : Strength → List Offer) (count : ℕ) → IsGrowing g at ks offers count Every → ((s : Strength) → offers s ≡ []) → Settled g ks
-settled_in_the_end g at rows ks offers count h none = record {
+pub settled_in_the_end : (g : Standing) (at : ℕ → ℕ → Option Edge) → AreRows g at → (ks : List Reached) (offers : Strength → List Offer) (count : ℕ) (s : Strength) (limit : ℕ) (D : ℕ → ℕ → Type 0) → IsGrowing g at ks offers count s limit D
+    → ((t : Strength) (x : Offer) → Contains (offers t) x → ⊥) → ((o i : ℕ) → D o i) → Settled g ks
+settled_in_the_end g at rows ks offers count s limit D h none all = record {
   supported = h.supported;
   by_roots = h.by_roots;
   by_edges = λ e c p.
       let index : (i : ℕ) × (at e.source i ≡ Some e) = rows.all e c in
-      elim (h.by_edges e.source index.0 e tt index.1 p) [
+      elim (h.by_edges e.source index.0 e (all e.source index.0) index.1 p) [
         | inl le ↦ le
-        | inr offer ↦ absurd (Contains-nil (offer_at e.source index.0) (subst (λ (xs : List Offer). Contains xs (offer_at e.source index.0)) (none (offered_strength ks e)) offer))
+        | inr offer ↦ absurd (none (offered_strength ks e) (offer_at e.source index.0) offer)
       ];
 }

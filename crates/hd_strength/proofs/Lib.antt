@@ -2,6 +2,6 @@ pub mod Lists
 pub mod RemovedLemmas
 pub mod RowLemmas
 pub mod Grow
-pub mod Offering
+pub mod Holding
 pub mod Spreading
 pub mod Checked

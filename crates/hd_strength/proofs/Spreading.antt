@@ -1,99 +1,347 @@
-use Rattle.std.proofs.Common.{◌≡◌, ◌≢◌, ℕ, ◌+◌, ◌*◌, ◌^◌, ◌<◌, ◌≤◌, ◌⊎◌, inl, inr, List, length, Some, ap, arith}
+use Rattle.std.proofs.Common.{◌≡◌, ◌≢◌, ◌∙◌, ℕ, ◌+◌, ◌<◌, ◌≤◌, ◌⊎◌, inl, inr, List, [], ◌∷◌, ◌++◌, Contains, length, length-append, Some, refl, sym, ap, subst, arith}
 use Rattle.std.proofs.lemmas.Bool.{cases_eq, cases_lt}
-use Rattle.std.proofs.lemmas.List.{get_or_past}
+use Rattle.std.proofs.lemmas.List.{get_or-set_same, get_or-set_other, length-set}
+use Rattle.std.proofs.lemmas.List.Elements.{Contains-push, Contains-push_cases, Contains-append_left}
+use Rattle.std.proofs.lemmas.List.Sums.{sum_by-set}
 use Rattle.hd_terms.specs.declared.Event.{Event}
+use Rattle.hd_terms.specs.declared.Mode.{Mode}
+use Rattle.hd_terms.specs.declared.Slot.{Slot}
 use Rattle.hd_terms.specs.declared.Strength.{Strength}
-use Rattle.hd_terms.specs.Ranks.{rank, least_passed_on}
-use Rattle.hd_terms.proofs.RankLemmas.{rank-le, least-positive}
+use Rattle.hd_terms.specs.declared.Strength.TheVariants as strengths
+use Rattle.hd_terms.specs.declared.Support.TheVariants as supports
+use Rattle.hd_terms.specs.Ranks.{rank, given_by, least_passed_on, IsPassedOn}
+use Rattle.hd_terms.proofs.RankLemmas.{least-positive, same_rank, weaker-greatest, given-positive}
 use Rattle.hd_terms.specs.Paths.{Edge}
 use Rattle.hd_terms.specs.Dump.{Dump}
 use Rattle.hd_terms.specs.EditedDump.{standing}
-use Rattle.hd_terms.specs.Settled.{Reached, unreached}
+use Rattle.hd_terms.specs.Settled.{Reached, reached_at, unreached, PassesOn, Settled}
 use Rattle.hd_strength.specs.declared.buckets.Offer.{Offer}
 use Rattle.hd_strength.specs.declared.buckets.Buckets.{Buckets}
-use Rattle.hd_strength.specs.Buckets.{bucket, pending, TakesBest}
-use Rattle.hd_strength.specs.Rows.{width, edge_at, root_count}
-use Rattle.hd_strength.specs.Growing.{rank_at, AreHeld, IsBacked, IsGrowing, Every, AddsOffers, IsDeclined, IsAccepted, unreached_count}
+use Rattle.hd_strength.specs.declared.scratch.Search.{Search}
+use Rattle.hd_strength.specs.Buckets.{bucket, TakesFirst}
+use Rattle.hd_strength.specs.Rows.{width, edge_at}
+use Rattle.hd_strength.specs.Growing.{rank_at, offered_strength, offer_at, IsBacked, IsHadOrOffered, IsGrowing, IsSearching, NotQueued, NotQueuedBelow, HasComeTo, HasAccepted, Reaches, IsPassedOver, IsAccepted, IsOffered, unreached_count, to_do}
+use Rattle.hd_strength.proofs.Lists.{Contains-nil, Contains-head, Contains-tail, Contains-cons_cases}
 use Rattle.hd_strength.proofs.RowLemmas.{edge_stands_at, at_source, edge_has_index, is_at, IsAt}
-use Rattle.hd_strength.proofs.Grow.{AreRows, Takes, takes, decline, weaken, offered, take, floor}
-use Rattle.hd_strength.proofs.Offering.{held_rank}
+use Rattle.hd_strength.proofs.Grow.{AreRows, Extends, extends, extends-first, weaken, decline, offer, none_left, descend, take, offered_strength-le, settled_in_the_end}
+use Rattle.hd_strength.proofs.Holding.{weight, weight-none, weight-some}
 
 -- the rows of a dump
-pub rows_of : (dump : Dump) (log : List Event) → AreRows (standing dump log) (edge_at dump log)
+rows_of : (dump : Dump) (log : List Event) → AreRows (standing dump log) (edge_at dump log)
 rows_of dump log = record { stands = edge_stands_at dump log; source = at_source dump log; all = edge_has_index dump log }
 
--- the index of an edge is that of a slot of its source
-wide : (dump : Dump) (log : List Event) (o i : ℕ) (e : Edge) → edge_at dump log o i ≡ Some e → i < width dump o
-wide dump log o i e is = (is_at dump log o i e is).within
+-- what is kept of the target of an edge
+abbrev kept_by : Strength → ℕ → Slot → ℕ → Reached
+kept_by s source slot stamp = record { strength = s; support = supports.Edge source slot; stamp = stamp }
 
--- the objects below n that roots hold have offered what they give
-abbrev pub HasOffered : Dump → List Event → List Reached → Buckets → ℕ → Type 0
-HasOffered dump log ks b n = IsGrowing (standing dump log) (edge_at dump log) ks (bucket b) 0 (λ o. o < n)
+-- what an edge gives is something, where its source is reached
+pub offered_strength-some : (ks : List Reached) (e : Edge) → 1 ≤ rank_at ks e.source → 1 ≤ rank (offered_strength ks e)
+offered_strength-some ks e reached = weaker-greatest 1 (reached_at ks e.source).strength (given_by e.kind) reached (given-positive e.kind)
 
-module _ (dump : Dump) (log : List Event) (ks : List Reached) (held : AreHeld dump log ks (root_count dump log)) (n : ℕ) (b : Buckets) (h : HasOffered dump log ks b n) where
-  pub one_offers : (b' : Buckets) → 1 ≤ rank_at ks n → AddsOffers (edge_at dump log) ks n (width dump n) (bucket b) (bucket b') → HasOffered dump log ks b' (n + 1)
-  one_offers b' reached adds =
-      let five : rank_at ks n ≡ 5 = held_rank dump log ks n (held.each n) reached in
-      offered (standing dump log) (edge_at dump log) (rows_of dump log) ks (bucket b) (bucket b') 0 (λ o. o < n) (λ o. o < n + 1) n (width dump n) h adds (wide dump log n) (omega (arith, rank-le (least_passed_on dump.mode)))
-      (λ p there. let fifth : rank_at ks p ≡ 5 = held_rank dump log ks p (held.each p) there in omega arith)
-      (λ p lt. elim (cases_eq p n) [ inl same ↦ inr same | inr other ↦ inl (omega arith) ])
+-- an object is reached
+module _ (mode : Mode) (old new : Search) (s : Strength) (source : ℕ) (slot : Slot) (target : ℕ) (r : Reaches mode old new s source slot target) (lt : target < length old.kept.items) where
+  here : reached_at new.kept.items target ≡ kept_by s source slot (old.count + 1)
+  here = ap (λ (ks : List Reached). reached_at ks target) r.kept ∙ get_or-set_same old.kept.items target (kept_by s source slot (old.count + 1)) unreached lt
 
-  pub none_offers : rank_at ks n ≤ 0 → HasOffered dump log ks b (n + 1)
-  none_offers none = weaken (standing dump log) (edge_at dump log) ks (bucket b) 0 (λ o. o < n) (λ o. o < n + 1) h
-      (λ p passes lt. elim (cases_eq p n) [
-        | inl same ↦ let r : rank_at ks p ≡ rank_at ks n = ap (rank_at ks) same in absurd (omega (arith, passes, least-positive dump.mode))
-        | inr other ↦ omega arith
-      ])
+  others : (o : ℕ) → o ≢ target → reached_at new.kept.items o ≡ reached_at old.kept.items o
+  others o ne = ap (λ (ks : List Reached). reached_at ks o) r.kept ∙ get_or-set_other old.kept.items target o (kept_by s source slot (old.count + 1)) unreached ne
 
-  pub all_offered : length ks ≤ n → IsGrowing (standing dump log) (edge_at dump log) ks (bucket b) 0 Every
-  all_offered le = weaken (standing dump log) (edge_at dump log) ks (bucket b) 0 (λ o. o < n) Every h
-      (λ p passes all. elim (cases_lt p n) [
-        | inl lt ↦ lt
-        | inr past ↦ let none : rank_at ks p ≡ 0 = ap (λ (k : Reached). rank k.strength) (get_or_past ks p unreached (omega arith)) in absurd (omega (arith, passes, least-positive dump.mode))
-      ])
+  same_length : length new.kept.items ≡ length old.kept.items
+  same_length = ap length r.kept ∙ length-set old.kept.items target (kept_by s source slot (old.count + 1))
 
--- one step: an offer is taken out and let go or taken
-module _ (dump : Dump) (log : List Event) (ks : List Reached) (b b1 : Buckets) (s : Strength) (x : Offer) (n : ℕ) (h : IsGrowing (standing dump log) (edge_at dump log) ks (bucket b) n Every) (best : TakesBest b b1 s x) where
-  out : Takes (bucket b) (bucket b1) s x
-  out = takes b b1 s x best
+  fewer : rank_at old.kept.items target ≡ 0 → 1 ≤ rank s → unreached_count new.kept.items + 1 ≡ unreached_count old.kept.items
+  fewer low some =
+      let k : Reached = kept_by s source slot (old.count + 1) in
+      omega (arith, ap unreached_count r.kept, sum_by-set weight old.kept.items target k unreached lt, weight-none (reached_at old.kept.items target) low, weight-some k some)
 
-  pub backing : IsBacked dump.mode (edge_at dump log) ks s x
-  backing = h.backed s x out.offer.made
+  -- an object of the strength that is spread still has it
+  still : (o : ℕ) → (reached_at old.kept.items o).strength ≡ s → (reached_at new.kept.items o).strength ≡ s
+  still o is = elim (cases_eq o target) [
+    | inl same ↦ ap (λ (o : ℕ). (reached_at new.kept.items o).strength) same ∙ ap (λ (k : Reached). k.strength) here
+    | inr other ↦ ap (λ (k : Reached). k.strength) (others o other) ∙ is
+  ]
+
+  still_queued : (o : ℕ) → Contains old.queue.items o → Contains new.queue.items o
+  still_queued o c = elim (cases_lt (rank s) (rank (least_passed_on mode))) [
+    | inl low ↦ subst (λ (xs : List ℕ). Contains xs o) (sym (r.not_queued (λ high. omega arith))) c
+    | inr high ↦ subst (λ (xs : List ℕ). Contains xs o) (sym (r.queued high)) (Contains-append_left old.queue.items (target ∷ []) o c)
+  ]
+
+  -- what is not queued and passes its strength on is another object
+  another : (o : ℕ) → (Contains new.queue.items o → ⊥) → PassesOn mode (reached_at new.kept.items o) → o ≢ target
+  another o apart p same =
+      let is : rank_at new.kept.items o ≡ rank s = ap (rank_at new.kept.items) same ∙ ap (λ (k : Reached). rank k.strength) here in
+      apart (subst (λ (xs : List ℕ). Contains xs o) (sym (r.queued (omega (arith, p)))) (subst (λ (t : ℕ). Contains (old.queue.items ++ t ∷ []) o) same (Contains-push old.queue.items o)))
+
+  queued_after : ((o : ℕ) → Contains old.queue.items o → ((reached_at old.kept.items o).strength ≡ s) × IsPassedOn mode s) → (o : ℕ) → Contains new.queue.items o → ((reached_at new.kept.items o).strength ≡ s) × IsPassedOn mode s
+  queued_after h o c = elim (cases_lt (rank s) (rank (least_passed_on mode))) [
+    | inl low ↦ let before = h o (subst (λ (xs : List ℕ). Contains xs o) (r.not_queued (λ high. omega arith)) c) in (still o before.0, before.1)
+    | inr high ↦ elim (Contains-push_cases old.queue.items target o (subst (λ (xs : List ℕ). Contains xs o) (r.queued high) c)) [
+      | inl before ↦ (still o (h o before).0, high)
+      | inr same ↦ (ap (λ (o : ℕ). (reached_at new.kept.items o).strength) (sym same) ∙ ap (λ (k : Reached). k.strength) here, high)
+    ]
+  ]
+
+  queue_grows : length new.queue.items ≤ length old.queue.items + 1
+  queue_grows = elim (cases_lt (rank s) (rank (least_passed_on mode))) [
+    | inl low ↦ omega (arith, ap length (r.not_queued (λ high. omega arith)))
+    | inr high ↦ omega (arith, ap length (r.queued high), length-append old.queue.items (target ∷ []))
+  ]
+
+-- a search with other buckets
+abbrev pub with_buckets : Search → Buckets → Search
+with_buckets search b = record { kept = search.kept; buckets = b; queue = search.queue; count = search.count }
+
+-- an object takes what an edge gives it
+module _ (dump : Dump) (log : List Event) (search new : Search) (b : Buckets) (s : Strength) (limit : ℕ) (D D' : ℕ → ℕ → Type 0) (x : Offer)
+    (h : IsSearching dump log search s limit D)
+    (within : (t : Strength) (y : Offer) → Contains (bucket b t) y → Contains (bucket search.buckets t) y)
+    (left : (t : Strength) (y : Offer) → Contains (bucket search.buckets t) y → (y ≡ x) ⊎ Contains (bucket b t) y)
+    (passes : PassesOn dump.mode (reached_at search.kept.items x.source)) (some : 1 ≤ rank s)
+    (a : IsAccepted dump.mode (edge_at dump log) (with_buckets search b) new s x.source x.index)
+    (part : (o i : ℕ) → D' o i → (Contains new.queue.items o → ⊥) × ((Contains search.queue.items o → ⊥) → D o i)) where
+  abbrev old : Search
+  old = with_buckets search b
+
+  abbrev e : Edge
+  e = a.edge
+
+  still_few : unreached_count new.kept.items + 1 ≡ unreached_count search.kept.items
+  still_few = fewer dump.mode old new s e.source e.slot e.target a.reaches a.object a.unreached some
+
+  grown : IsGrowing (standing dump log) (edge_at dump log) new.kept.items (bucket b) (search.count + 1) s limit D'
+  grown = take (standing dump log) (edge_at dump log) (rows_of dump log) search.kept.items new.kept.items (bucket search.buckets) (bucket b) search.count s limit D D' x e
+      h.growing within left a.is passes a.gives a.unreached
+      (here dump.mode old new s e.source e.slot e.target a.reaches a.object)
+      (others dump.mode old new s e.source e.slot e.target a.reaches a.object)
+      (λ o i done p.
+      let both : (Contains new.queue.items o → ⊥) × ((Contains search.queue.items o → ⊥) → D o i) = part o i done in (
+        both.1 (λ c. both.0 (still_queued dump.mode old new s e.source e.slot e.target a.reaches a.object o c)),
+        another dump.mode old new s e.source e.slot e.target a.reaches a.object o both.0 p,
+      ))
+
+  accepted : IsSearching dump log new s limit D'
+  accepted = record {
+    growing = rw (a.reaches.same_buckets, a.reaches.counted) grown;
+    queued = queued_after dump.mode old new s e.source e.slot e.target a.reaches a.object h.queued;
+    objects = same_length dump.mode old new s e.source e.slot e.target a.reaches a.object ∙ h.objects;
+    few = h.few;
+    stamps = omega (arith, still_few, a.reaches.counted, h.stamps);
+  }
+
+  less : to_do new ≤ to_do search
+  less = omega (arith, still_few, queue_grows dump.mode old new s e.source e.slot e.target a.reaches a.object)
+
+-- an offer is taken out, and let go or accepted
+module _ (dump : Dump) (log : List Event) (search : Search) (b : Buckets) (s : Strength) (x : Offer) (h : HasComeTo dump log search s) (first : TakesFirst search.buckets b s x) where
+  out : Extends (bucket b) (bucket search.buckets) s x
+  out = extends-first (bucket b) (bucket search.buckets) s x first.here (λ t other. first.others t other)
+
+  pub backing : IsBacked dump.mode (edge_at dump log) search.kept.items s x
+  backing = h.growing.backed s x out.made
 
   pub at_offer : IsAt dump log x.source x.index backing.edge
   at_offer = is_at dump log x.source x.index backing.edge backing.is
 
-  module _ (ks' : List Reached) (b2 : Buckets) (e : Edge) (n' : ℕ) (is : edge_at dump log x.source x.index ≡ Some e) where
-    declined : IsDeclined ks ks' b1 b2 e n n' → IsGrowing (standing dump log) (edge_at dump log) ks' (bucket b2) n' Every
-    declined d = rw (d.same_kept, d.same_offers, d.same_count) (decline (standing dump log) (edge_at dump log) ks (bucket b) (bucket b1) n s x e h out is d.reached)
+  -- what is offered is something
+  something : 1 ≤ rank s
+  something = let same : rank s ≡ rank (offered_strength search.kept.items backing.edge) = ap rank backing.gives in
+      let from : rank_at search.kept.items backing.edge.source ≡ rank_at search.kept.items x.source = ap (rank_at search.kept.items) (at_source dump log x.source x.index backing.edge backing.is) in
+      omega (arith, offered_strength-some search.kept.items backing.edge (omega (arith, backing.passes_on, least-positive dump.mode)))
 
-    accepted : IsAccepted dump.mode (edge_at dump log) (width dump) ks ks' b1 b2 s e n n' → IsGrowing (standing dump log) (edge_at dump log) ks' (bucket b2) n' Every
-    accepted d =
-        let g = standing dump log in
-        let at = edge_at dump log in
-        let grown : IsGrowing g at ks' (bucket b1) (n + 1) (λ o. o ≢ e.target) = take g at (rows_of dump log) ks ks' (bucket b) (bucket b1) n s x e h out is d.was_unreached d.here d.others in
-        let least : (p : ℕ) → 1 ≤ rank_at ks' p → rank s ≤ rank_at ks' p = floor g at (rows_of dump log) ks ks' (bucket b) (bucket b1) n s x e h out is d.was_unreached d.here d.others in
-        let here : rank_at ks' e.target ≡ rank s = ap (λ (k : Reached). rank k.strength) d.here in
-        rw d.counted (elim (cases_lt (rank s) (rank (least_passed_on dump.mode))) [
-          | inl low ↦ rw (d.adds_none (λ high. omega arith)) (weaken g at ks' (bucket b1) (n + 1) (λ o. o ≢ e.target) Every grown
-              (λ p passes all same. let r : rank_at ks' p ≡ rank_at ks' e.target = ap (rank_at ks') same in absurd (omega (arith, passes))))
-          | inr high ↦ offered g at (rows_of dump log) ks' (bucket b1) (bucket b2) (n + 1) (λ o. o ≢ e.target) Every e.target (width dump e.target) grown (d.adds high) (wide dump log e.target) (omega arith)
-              (λ p reached. omega (arith, least p reached))
-              (λ p all. elim (cases_eq p e.target) [ inl same ↦ inr same | inr other ↦ inl other ])
-        ])
+  let_go : (new : Search) → IsPassedOver (edge_at dump log) (with_buckets search b) new x.source x.index → HasComeTo dump log new s
+  let_go new d = subst (λ (n : Search). HasComeTo dump log n s) (sym d.same) (record {
+    growing = decline (standing dump log) (edge_at dump log) search.kept.items (bucket search.buckets) (bucket b) search.count s (rank s + 1) (NotQueued search.queue.items) x backing.edge h.growing out backing.is (d.reached backing.edge backing.is);
+    queued = h.queued;
+    objects = h.objects;
+    few = h.few;
+    stamps = h.stamps;
+  })
 
-    pub grows : IsDeclined ks ks' b1 b2 e n n' ⊎ IsAccepted dump.mode (edge_at dump log) (width dump) ks ks' b1 b2 s e n n' → IsGrowing (standing dump log) (edge_at dump log) ks' (bucket b2) n' Every
-    grows (inl d) = declined d
-    grows (inr d) = accepted d
+  pub tried : (new : Search) → IsPassedOver (edge_at dump log) (with_buckets search b) new x.source x.index ⊎ IsAccepted dump.mode (edge_at dump log) (with_buckets search b) new s x.source x.index → HasComeTo dump log new s
+  tried new (inl d) = let_go new d
+  tried new (inr a) = accepted dump log search new b s (rank s + 1) (NotQueued search.queue.items) (NotQueued new.queue.items) x h out.within
+      (λ t y c. elim (out.left t y c) [ inl both ↦ inl both.1 | inr before ↦ inr before ]) backing.passes_on something a (λ o i apart. (apart, λ before. before))
 
-    pub same_length : IsDeclined ks ks' b1 b2 e n n' ⊎ IsAccepted dump.mode (edge_at dump log) (width dump) ks ks' b1 b2 s e n n' → length ks' ≡ length ks
-    same_length (inl d) = ap length d.same_kept
-    same_length (inr d) = d.same_length
+-- all offers of the strength are taken
+pub all_accepted : (dump : Dump) (log : List Event) (search : Search) (b : Buckets) (s : Strength) → HasComeTo dump log search s → bucket search.buckets s ≡ [] → ((t : Strength) → bucket b t ≡ bucket search.buckets t) → HasAccepted dump log (with_buckets search b) s
+all_accepted dump log search b s h none same = record {
+  growing = none_left (standing dump log) (edge_at dump log) search.kept.items (bucket search.buckets) (bucket b) search.count s (NotQueued search.queue.items) h.growing none same;
+  queued = h.queued;
+  objects = h.objects;
+  few = h.few;
+  stamps = h.stamps;
+}
 
-    pub still_few : IsDeclined ks ks' b1 b2 e n n' ⊎ IsAccepted dump.mode (edge_at dump log) (width dump) ks ks' b1 b2 s e n n' → n' + unreached_count ks' ≤ n + unreached_count ks
-    still_few (inl d) = omega (arith, d.same_count, ap unreached_count d.same_kept)
-    still_few (inr d) = omega (arith, d.counted, d.fewer)
+-- of an object that was queued the first n slots are looked at
+pub record HasRelaxed (dump : Dump) (log : List Event) (start search : Search) (s : Strength) (o n : ℕ) : Type 0 where
+  pub searching : IsSearching dump log search s (rank s) (NotQueuedBelow search.queue.items o n)
+  pub source : (reached_at search.kept.items o).strength ≡ s
+  pub less : to_do search ≤ to_do start
 
-    pub less_to_do : IsDeclined ks ks' b1 b2 e n n' ⊎ IsAccepted dump.mode (edge_at dump log) (width dump) ks ks' b1 b2 s e n n' → unreached_count ks' * 2 ^ 32 + pending b2 < unreached_count ks * 2 ^ 32 + pending b
-    less_to_do (inl d) = omega (arith, ap unreached_count d.same_kept, ap pending d.same_offers, best.count)
-    less_to_do (inr d) = omega (arith, d.fewer, d.few, best.count)
+-- one more slot is done, by a fact of its own
+module _ (dump : Dump) (log : List Event) (search : Search) (s : Strength) (o i : ℕ) (h : IsSearching dump log search s (rank s) (NotQueuedBelow search.queue.items o i)) where
+  one_done : ((e : Edge) → edge_at dump log o i ≡ Some e → IsHadOrOffered search.kept.items (bucket search.buckets) o i e) → IsSearching dump log search s (rank s) (NotQueuedBelow search.queue.items o (i + 1))
+  one_done fact = record {
+    growing = weaken (standing dump log) (edge_at dump log) search.kept.items (bucket search.buckets) search.count s (rank s) (NotQueuedBelow search.queue.items o i) (NotQueuedBelow search.queue.items o (i + 1)) h.growing
+        (λ p j e done is passes. elim (cases_eq p o) [
+          | inr other ↦ inl (done.0, λ same. absurd (other same))
+          | inl same ↦ elim (cases_eq j i) [
+            | inr before ↦ let lt : j < i + 1 = done.1 same in inl (done.0, λ same. omega arith)
+            | inl last ↦ inr (subst (λ (p : ℕ). IsHadOrOffered search.kept.items (bucket search.buckets) p j e) (sym same)
+                (subst (λ (j : ℕ). IsHadOrOffered search.kept.items (bucket search.buckets) o j e) (sym last) (fact e (subst (λ (j : ℕ). edge_at dump log o j ≡ Some e) last (subst (λ (p : ℕ). edge_at dump log p j ≡ Some e) same is)))))
+          ]
+        ]);
+    queued = h.queued;
+    objects = h.objects;
+    few = h.few;
+    stamps = h.stamps;
+  }
+
+  -- its target is reached
+  reached_done : (reached_at search.kept.items o).strength ≡ s → ((e : Edge) → edge_at dump log o i ≡ Some e → 1 ≤ rank_at search.kept.items e.target) → IsSearching dump log search s (rank s) (NotQueuedBelow search.queue.items o (i + 1))
+  reached_done source reached = one_done (λ e is.
+      let from : rank_at search.kept.items e.source ≡ rank s = ap (rank_at search.kept.items) (at_source dump log o i e is) ∙ ap rank source in
+      inl (omega (arith, offered_strength-le search.kept.items e, h.growing.floor e.target (reached e is))))
+
+-- one edge is one
+one_edge : (dump : Dump) (log : List Event) (o i : ℕ) (e f : Edge) → edge_at dump log o i ≡ Some e → edge_at dump log o i ≡ Some f → f ≡ e
+one_edge dump log o i e f is there = let same : Some f ≡ Some e = sym there ∙ is in cc
+
+-- one more slot is looked at
+module _ (dump : Dump) (log : List Event) (start old new : Search) (s : Strength) (o i : ℕ) (h : HasRelaxed dump log start old s o i) (passes : IsPassedOn dump.mode s) where
+  passed_over : IsPassedOver (edge_at dump log) old new o i → HasRelaxed dump log start new s o (i + 1)
+  passed_over d = subst (λ (n : Search). HasRelaxed dump log start n s o (i + 1)) (sym d.same) (record {
+    searching = reached_done dump log old s o i h.searching h.source d.reached;
+    source = h.source;
+    less = h.less;
+  })
+
+  source_passes : PassesOn dump.mode (reached_at old.kept.items o)
+  source_passes = rw h.source passes
+
+  some : 1 ≤ rank s
+  some = omega (arith, passes, least-positive dump.mode)
+
+  module _ (a : IsAccepted dump.mode (edge_at dump log) old new s o i) where
+    taken : IsSearching dump log new s (rank s) (NotQueuedBelow new.queue.items o i)
+    taken = accepted dump log old new old.buckets s (rank s) (NotQueuedBelow old.queue.items o i) (NotQueuedBelow new.queue.items o i) (offer_at o i) h.searching (λ t y c. c) (λ t y c. inr c) source_passes some a
+        (λ p j done. (done.0, λ apart. (apart, done.1)))
+
+    source_after : (reached_at new.kept.items o).strength ≡ s
+    source_after = still dump.mode old new s a.edge.source a.edge.slot a.edge.target a.reaches a.object o h.source
+
+    target_after : (e : Edge) → edge_at dump log o i ≡ Some e → 1 ≤ rank_at new.kept.items e.target
+    target_after e is =
+        let same : rank_at new.kept.items e.target ≡ rank_at new.kept.items a.edge.target = ap (λ (e : Edge). rank_at new.kept.items e.target) (one_edge dump log o i a.edge e a.is is) in
+        let one : rank_at new.kept.items a.edge.target ≡ rank s = ap (λ (k : Reached). rank k.strength) (here dump.mode old new s a.edge.source a.edge.slot a.edge.target a.reaches a.object) in
+        omega (arith, some)
+
+    accepted_at_once : HasRelaxed dump log start new s o (i + 1)
+    accepted_at_once = record {
+      searching = reached_done dump log new s o i taken source_after target_after;
+      source = source_after;
+      less = omega (
+        arith,
+        h.less,
+        less dump log old new old.buckets s (rank s) (NotQueuedBelow old.queue.items o i) (NotQueuedBelow new.queue.items o i) (offer_at o i) h.searching (λ t y c. c) (λ t y c. inr c) source_passes some a
+            (λ p j done. (done.0, λ apart. (apart, done.1))),
+      );
+    }
+
+  module _ (a : IsOffered (edge_at dump log) old new s o i) where
+    abbrev t : Strength
+    t = offered_strength old.kept.items a.edge
+
+    more : Extends (bucket old.buckets) (bucket new.buckets) t (offer_at o i)
+    more = extends (bucket old.buckets) (bucket new.buckets) t (offer_at o i) a.adds.here (λ r other. sym (a.adds.others r other))
+
+    waiting : IsSearching dump log new s (rank s) (NotQueuedBelow new.queue.items o i)
+    waiting = record {
+      growing = rw (a.same_kept, a.same_queue, a.same_count) (offer (standing dump log) (edge_at dump log) old.kept.items (bucket old.buckets) (bucket new.buckets) old.count s (rank s) (NotQueuedBelow old.queue.items o i) t (offer_at o i) h.searching.growing more
+          (record { edge = a.edge; is = a.is; passes_on = source_passes; gives = refl }) a.less);
+      queued = rw (a.same_kept, a.same_queue) h.searching.queued;
+      objects = rw a.same_kept h.searching.objects;
+      few = h.searching.few;
+      stamps = rw (a.same_kept, a.same_count) h.searching.stamps;
+    }
+
+    waits : HasRelaxed dump log start new s o (i + 1)
+    waits = record {
+      searching = one_done dump log new s o i waiting (λ e is. inr (rw (a.same_kept, one_edge dump log o i a.edge e a.is is) more.made));
+      source = rw a.same_kept h.source;
+      less = rw (a.same_kept, a.same_queue) h.less;
+    }
+
+  pub relaxed : IsPassedOver (edge_at dump log) old new o i ⊎ IsAccepted dump.mode (edge_at dump log) old new s o i ⊎ IsOffered (edge_at dump log) old new s o i → HasRelaxed dump log start new s o (i + 1)
+  relaxed (inl d) = passed_over d
+  relaxed (inr (inl a)) = accepted_at_once a
+  relaxed (inr (inr a)) = waits a
+
+-- all slots of the object are looked at
+pub row_done : (dump : Dump) (log : List Event) (start search : Search) (s : Strength) (o n : ℕ) → HasRelaxed dump log start search s o n → width dump o ≤ n → HasAccepted dump log search s
+row_done dump log start search s o n h le = record {
+  growing = weaken (standing dump log) (edge_at dump log) search.kept.items (bucket search.buckets) search.count s (rank s) (NotQueuedBelow search.queue.items o n) (NotQueued search.queue.items) h.searching.growing
+      (λ p i e apart is passes. inl (
+        apart,
+        λ same.
+            let lt : i < width dump o = (is_at dump log o i e (subst (λ (p : ℕ). edge_at dump log p i ≡ Some e) same is)).within in
+            omega arith,
+      ));
+  queued = h.searching.queued;
+  objects = h.searching.objects;
+  few = h.searching.few;
+  stamps = h.searching.stamps;
+}
+
+-- an object is taken out of the queue
+module _ (dump : Dump) (log : List Event) (search popped : Search) (s : Strength) (o : ℕ) (h : HasAccepted dump log search s) (first : search.queue.items ≡ o ∷ popped.queue.items)
+    (same_kept : popped.kept ≡ search.kept) (same_buckets : popped.buckets ≡ search.buckets) (same_count : popped.count ≡ search.count) where
+  before : (p : ℕ) → Contains popped.queue.items p → Contains search.queue.items p
+  before p c = subst (λ (xs : List ℕ). Contains xs p) (sym first) (Contains-tail o popped.queue.items p c)
+
+  pub was_queued : ((reached_at search.kept.items o).strength ≡ s) × IsPassedOn dump.mode s
+  was_queued = h.queued o (subst (λ (xs : List ℕ). Contains xs o) (sym first) (Contains-head o popped.queue.items))
+
+  pub taken_out : IsSearching dump log popped s (rank s) (NotQueuedBelow popped.queue.items o 0)
+  taken_out = record {
+    growing = rw (same_kept, same_buckets, same_count) (weaken (standing dump log) (edge_at dump log) search.kept.items (bucket search.buckets) search.count s (rank s) (NotQueued search.queue.items) (NotQueuedBelow popped.queue.items o 0) h.growing
+        (λ p i e done is passes. inl (λ c. elim (Contains-cons_cases o popped.queue.items p (subst (λ (xs : List ℕ). Contains xs p) first c)) [
+          | inl same ↦ let lt : i < 0 = done.1 (sym same) in absurd (omega arith)
+          | inr later ↦ done.0 later
+        ])));
+    queued = λ p c. rw same_kept (h.queued p (before p c));
+    objects = rw same_kept h.objects;
+    few = h.few;
+    stamps = rw (same_kept, same_count) h.stamps;
+  }
+
+-- the queue is empty
+pub none_taken : (dump : Dump) (log : List Event) (search popped : Search) (s : Strength) → HasAccepted dump log search s → search.queue.items ≡ popped.queue.items → popped.kept ≡ search.kept → popped.buckets ≡ search.buckets → popped.count ≡ search.count → HasAccepted dump log popped s
+none_taken dump log search popped s h same_queue same_kept same_buckets same_count = record {
+  growing = rw (same_kept, same_buckets, same_count) (subst (λ (xs : List ℕ). IsGrowing (standing dump log) (edge_at dump log) search.kept.items (bucket search.buckets) search.count s (rank s) (NotQueued xs)) same_queue h.growing);
+  queued = λ o c. rw same_kept (h.queued o (subst (λ (xs : List ℕ). Contains xs o) (sym same_queue) c));
+  objects = rw same_kept h.objects;
+  few = h.few;
+  stamps = rw (same_kept, same_count) h.stamps;
+}
+
+-- nothing is left of the strength
+pub comes_to : (dump : Dump) (log : List Event) (search : Search) (s next : Strength) → HasAccepted dump log search s → search.queue.items ≡ [] → rank s ≡ rank next + 1 → HasComeTo dump log search next
+comes_to dump log search s next h empty below = record {
+  growing = subst (λ (limit : ℕ). IsGrowing (standing dump log) (edge_at dump log) search.kept.items (bucket search.buckets) search.count next limit (NotQueued search.queue.items)) below
+      (descend (standing dump log) (edge_at dump log) search.kept.items (bucket search.buckets) search.count s next (rank s) (NotQueued search.queue.items) h.growing (omega arith));
+  queued = λ o c. absurd (Contains-nil o (subst (λ (xs : List ℕ). Contains xs o) empty c));
+  objects = h.objects;
+  few = h.few;
+  stamps = h.stamps;
+}
+
+-- nothing is left of any strength
+pub ends : (dump : Dump) (log : List Event) (search : Search) → HasComeTo dump log search strengths.Unreachable → Settled (standing dump log) search.kept.items
+ends dump log search h =
+    settled_in_the_end (standing dump log) (edge_at dump log) (rows_of dump log) search.kept.items (bucket search.buckets) search.count strengths.Unreachable (rank strengths.Unreachable + 1) (NotQueued search.queue.items) h.growing
+    (λ t x c.
+    let none : t ≡ strengths.Unreachable = same_rank t strengths.Unreachable (omega (arith, h.growing.ceiling t x c)) in
+    Contains-nil x (subst (λ (t : Strength). Contains (bucket search.buckets t) x) none c))
+    (λ o i c. absurd (omega (arith, (h.queued o c).1, least-positive dump.mode)))

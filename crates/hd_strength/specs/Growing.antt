@@ -1,20 +1,23 @@
 -- What is reached so far, and what is offered.
 -- Source: this project.
-use Rattle.std.specs.Prelude.{◌≡◌, ◌≢◌, ℕ, ◌+◌, ◌^◌, ◌≤◌, ◌<◌, ◌⊎◌, List, length, Contains, sum_by, nat_eq, if◌then◌else◌, Option, Some}
+use Rattle.std.specs.Prelude.{◌≡◌, ℕ, ◌+◌, ◌^◌, ◌≤◌, ◌<◌, ◌⊎◌, List, [], ◌∷◌, ◌++◌, length, set, Contains, sum_by, nat_eq, if◌then◌else◌, Option, Some}
 use Rattle.hd_terms.specs.declared.Event.{Event}
 use Rattle.hd_terms.specs.declared.Mode.{Mode}
+use Rattle.hd_terms.specs.declared.Slot.{Slot}
 use Rattle.hd_terms.specs.declared.Strength.{Strength}
 use Rattle.hd_terms.specs.declared.Strength.TheVariants as strengths
 use Rattle.hd_terms.specs.declared.Support.TheVariants as supports
 use Rattle.hd_terms.specs.Ranks.{rank, given_by, weaker_of, IsPassedOn}
 use Rattle.hd_terms.specs.Paths.{Edge, RootEntry, Standing}
 use Rattle.hd_terms.specs.Dump.{Dump}
+use Rattle.hd_terms.specs.EditedDump.{standing}
 use Rattle.hd_terms.specs.Settled.{Reached, reached_at, unreached, PassesOn, IsSupported}
 use Rattle.hd_strength.specs.declared.buckets.Offer.{Offer}
-use Rattle.hd_strength.specs.declared.buckets.Buckets.{Buckets}
+use Rattle.hd_strength.specs.declared.scratch.Gain.{Gain}
+use Rattle.hd_strength.specs.declared.scratch.Search.{Search}
 use Rattle.hd_strength.specs.PackedReached.{reached_by_root}
-use Rattle.hd_strength.specs.Buckets.{bucket, pending}
-use Rattle.hd_strength.specs.Rows.{root_at}
+use Rattle.hd_strength.specs.Buckets.{bucket, AddsTo}
+use Rattle.hd_strength.specs.Rows.{edge_at, root_at}
 
 -- the rank kept of an object
 abbrev pub rank_at : List Reached → ℕ → ℕ
@@ -44,45 +47,92 @@ pub record IsBacked (mode : Mode) (at : ℕ → ℕ → Option Edge) (ks : List 
   pub passes_on : PassesOn mode (reached_at ks x.source)
   pub gives : s ≡ offered_strength ks edge
 
--- what is reached is supported; what an object that is done gives is had or offered; each offer is backed and gives
--- no more than any object has that is reached
-pub record IsGrowing (g : Standing) (at : ℕ → ℕ → Option Edge) (ks : List Reached) (offers : Strength → List Offer) (count : ℕ) (IsDone : ℕ → Type 0) : Type 0 where
+-- what an edge gives is had by its target, or offered
+abbrev pub IsHadOrOffered : List Reached → (Strength → List Offer) → ℕ → ℕ → Edge → Type 0
+IsHadOrOffered ks offers o i e = (rank (offered_strength ks e) ≤ rank_at ks e.target) ⊎ Contains (offers (offered_strength ks e)) (offer_at o i)
+
+-- what is reached is supported, and has at least the strength that is spread; what a slot gives that is done is had or
+-- offered; each offer is backed, and of a rank below the limit
+pub record IsGrowing (g : Standing) (at : ℕ → ℕ → Option Edge) (ks : List Reached) (offers : Strength → List Offer) (count : ℕ) (s : Strength) (limit : ℕ) (IsDone : ℕ → ℕ → Type 0) : Type 0 where
   pub supported : (o : ℕ) → IsSupported g ks o (reached_at ks o).support
   pub by_roots : (r : RootEntry) → Contains g.roots r → (reached_at ks r.target).strength ≡ strengths.Strong
   pub stamps : (o : ℕ) → (reached_at ks o).stamp ≤ count
-  pub by_edges : (o i : ℕ) (e : Edge) → IsDone o → at o i ≡ Some e → PassesOn g.mode (reached_at ks o) → (rank (offered_strength ks e) ≤ rank_at ks e.target) ⊎ Contains (offers (offered_strength ks e)) (offer_at o i)
-  pub backed : (s : Strength) (x : Offer) → Contains (offers s) x → IsBacked g.mode at ks s x
-  pub least : (s : Strength) (x : Offer) → Contains (offers s) x → (o : ℕ) → 1 ≤ rank_at ks o → rank s ≤ rank_at ks o
-
--- every object is done
-abbrev pub Every : ℕ → Type 0
-Every o = Unit {0}
-
--- what the first n slots of an object give that nothing reaches is offered too
-pub record AddsOffers (at : ℕ → ℕ → Option Edge) (ks : List Reached) (o n : ℕ) (old new : Strength → List Offer) : Type 0 where
-  pub kept : (s : Strength) (x : Offer) → Contains (old s) x → Contains (new s) x
-  pub made : (s : Strength) (x : Offer) → Contains (new s) x → Contains (old s) x ⊎ ((x.source ≡ o) × (e : Edge) × (at o x.index ≡ Some e) × (s ≡ offered_strength ks e))
-  pub done : (i : ℕ) (e : Edge) → i < n → at o i ≡ Some e → (1 ≤ rank_at ks e.target) ⊎ Contains (new (offered_strength ks e)) (offer_at o i)
+  pub by_edges : (o i : ℕ) (e : Edge) → IsDone o i → at o i ≡ Some e → PassesOn g.mode (reached_at ks o) → IsHadOrOffered ks offers o i e
+  pub backed : (t : Strength) (x : Offer) → Contains (offers t) x → IsBacked g.mode at ks t x
+  pub floor : (o : ℕ) → 1 ≤ rank_at ks o → rank s ≤ rank_at ks o
+  pub ceiling : (t : Strength) (x : Offer) → Contains (offers t) x → rank t < limit
 
 -- how many objects nothing reaches yet
 abbrev pub unreached_count : List Reached → ℕ
 unreached_count ks = sum_by (λ k. if nat_eq (rank k.strength) 0 then 1 else 0) ks
 
--- the target of an offer is reached already
-pub record IsDeclined (ks ks' : List Reached) (b b' : Buckets) (e : Edge) (count count' : ℕ) : Type 0 where
-  pub reached : 1 ≤ rank_at ks e.target
-  pub same_kept : ks' ≡ ks
-  pub same_offers : b' ≡ b
-  pub same_count : count' ≡ count
+-- how many objects are still to be reached or to pass their strength on
+abbrev pub to_do : Search → ℕ
+to_do search = unreached_count search.kept.items + length search.queue.items
 
--- the target of an offer is reached by it, and offers what it passes on
-pub record IsAccepted (mode : Mode) (at : ℕ → ℕ → Option Edge) (width : ℕ → ℕ) (ks ks' : List Reached) (b b' : Buckets) (s : Strength) (e : Edge) (count count' : ℕ) : Type 0 where
-  pub was_unreached : rank_at ks e.target ≡ 0
-  pub here : reached_at ks' e.target ≡ record { strength = s; support = supports.Edge e.source e.slot; stamp = count + 1 }
-  pub others : (o : ℕ) → o ≢ e.target → reached_at ks' o ≡ reached_at ks o
-  pub same_length : length ks' ≡ length ks
-  pub adds : IsPassedOn mode s → AddsOffers at ks' e.target (width e.target) (bucket b) (bucket b')
-  pub adds_none : (IsPassedOn mode s → ⊥) → b' ≡ b
-  pub few : pending b' < pending b + 2 ^ 32
-  pub fewer : unreached_count ks' + 1 ≡ unreached_count ks
-  pub counted : count' ≡ count + 1
+-- what is reached is growing, each stamp was given to one object, and what is queued has the strength that is spread
+-- and passes it on
+pub record IsSearching (dump : Dump) (log : List Event) (search : Search) (s : Strength) (limit : ℕ) (IsDone : ℕ → ℕ → Type 0) : Type 0 where
+  pub growing : IsGrowing (standing dump log) (edge_at dump log) search.kept.items (bucket search.buckets) search.count s limit IsDone
+  pub queued : (o : ℕ) → Contains search.queue.items o → ((reached_at search.kept.items o).strength ≡ s) × IsPassedOn dump.mode s
+  pub objects : length search.kept.items ≡ length dump.objects
+  pub few : length dump.objects < 2 ^ 32
+  pub stamps : search.count + unreached_count search.kept.items ≤ length dump.objects
+
+-- the slots of objects that aren't queued are done
+abbrev pub NotQueued : List ℕ → ℕ → ℕ → Type 0
+NotQueued queue o i = Contains queue o → ⊥
+
+-- the same, and of one object only the first n slots are
+abbrev pub NotQueuedBelow : List ℕ → ℕ → ℕ → ℕ → ℕ → Type 0
+NotQueuedBelow queue o n p i = (Contains queue p → ⊥) × (p ≡ o → i < n)
+
+-- a search has come to a strength: nothing is offered that is more
+abbrev pub HasComeTo : Dump → List Event → Search → Strength → Type 0
+HasComeTo dump log search s = IsSearching dump log search s (rank s + 1) (NotQueued search.queue.items)
+
+-- the same, and what was offered of that strength is accepted
+abbrev pub HasAccepted : Dump → List Event → Search → Strength → Type 0
+HasAccepted dump log search s = IsSearching dump log search s (rank s) (NotQueued search.queue.items)
+
+-- an edge gives something to an object that nothing reaches
+pub record IsGain (at : ℕ → ℕ → Option Edge) (ks : List Reached) (o i : ℕ) (gain : Gain) : Type 0 where
+  pub edge : Edge
+  pub is : at o i ≡ Some edge
+  pub slot : gain.slot ≡ edge.slot
+  pub target : gain.target ≡ edge.target
+  pub strength : gain.strength ≡ offered_strength ks edge
+  pub unreached : rank_at ks edge.target ≡ 0
+  pub object : edge.target < length ks
+
+-- an object is reached by an edge from a slot of another, and queued if it passes its strength on
+pub record Reaches (mode : Mode) (old new : Search) (s : Strength) (source : ℕ) (slot : Slot) (target : ℕ) : Type 0 where
+  pub kept : new.kept.items ≡ set old.kept.items target (record { strength = s; support = supports.Edge source slot; stamp = old.count + 1 })
+  pub same_buckets : new.buckets ≡ old.buckets
+  pub queued : IsPassedOn mode s → new.queue.items ≡ old.queue.items ++ target ∷ []
+  pub not_queued : (IsPassedOn mode s → ⊥) → new.queue.items ≡ old.queue.items
+  pub counted : new.count ≡ old.count + 1
+
+-- where there is an edge, its target is reached already
+pub record IsPassedOver (at : ℕ → ℕ → Option Edge) (old new : Search) (o i : ℕ) : Type 0 where
+  pub reached : (e : Edge) → at o i ≡ Some e → 1 ≤ rank_at old.kept.items e.target
+  pub same : new ≡ old
+
+-- the edge gives this strength, and its target takes it
+pub record IsAccepted (mode : Mode) (at : ℕ → ℕ → Option Edge) (old new : Search) (s : Strength) (o i : ℕ) : Type 0 where
+  pub edge : Edge
+  pub is : at o i ≡ Some edge
+  pub gives : s ≡ offered_strength old.kept.items edge
+  pub unreached : rank_at old.kept.items edge.target ≡ 0
+  pub object : edge.target < length old.kept.items
+  pub reaches : Reaches mode old new s edge.source edge.slot edge.target
+
+-- the edge gives less than this strength, and is offered
+pub record IsOffered (at : ℕ → ℕ → Option Edge) (old new : Search) (s : Strength) (o i : ℕ) : Type 0 where
+  pub edge : Edge
+  pub is : at o i ≡ Some edge
+  pub less : rank (offered_strength old.kept.items edge) < rank s
+  pub adds : AddsTo old.buckets new.buckets (offered_strength old.kept.items edge) (offer_at o i)
+  pub same_kept : new.kept ≡ old.kept
+  pub same_queue : new.queue ≡ old.queue
+  pub same_count : new.count ≡ old.count

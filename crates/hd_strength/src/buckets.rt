@@ -1,11 +1,8 @@
-//! Offers by what they give.
-//!
-//! A bucket gives its offers first in, first out. So right after the opening supports make short chains, since objects are
-//! reached breadth first within one strength. No contract promises that.
-ghost use Rattle.std.specs.Prelude.{◌≡◌, ◌≤◌, ◌∷◌, [], IfNone, IfSome, OnOk};
+//! Offers by what they give, those of one strength first in, first out.
+ghost use Rattle.std.specs.Prelude.{◌≡◌, ◌≤◌, [], IfNone, IfSome, OnOk};
 ghost use Rattle.hd_terms.specs.Ranks.{rank};
 ghost use Rattle.hd_terms.specs.declared.Strength.{Strength as OneStrength};
-ghost use Rattle.hd_strength.specs.Buckets.{bucket, AddsTo, TakesBest};
+ghost use Rattle.hd_strength.specs.Buckets.{bucket, AddsTo, TakesFirst};
 
 use hd_terms::{NoMemory, Strength};
 use std::alloc::Global;
@@ -18,17 +15,9 @@ pub struct Offer {
     pub index: u32,
 }
 
-/// An offer, and what it gives.
-#[derive(Clone, Copy, Debug)]
-pub struct Best {
-    pub strength: Strength,
-    pub offer: Offer,
-}
-
-/// Offers, in a bucket for each strength, in the order in which they were made.
+/// Offers of less than the greatest strength, in a bucket for each strength, in the order in which they were made.
 #[derive(Drop)]
 pub struct Buckets {
-    pub strong: VecDeque<Offer>,
     pub soft: VecDeque<Offer>,
     pub weak: VecDeque<Offer>,
     pub finals: VecDeque<Offer>,
@@ -41,7 +30,6 @@ impl Buckets {
         ensures { (s : OneStrength) → bucket result s ≡ [] }
     {
         Buckets {
-            strong: VecDeque::new(alloc),
             soft: VecDeque::new(alloc),
             weak: VecDeque::new(alloc),
             finals: VecDeque::new(alloc),
@@ -49,49 +37,34 @@ impl Buckets {
         }
     }
 
-    /// Adds an offer of something.
+    /// Adds an offer of something less than the greatest strength.
     pub fn push(&mut self, strength: Strength, offer: Offer) -> Result<(), NoMemory>
-        requires { 1 ≤ rank strength }
+        requires something { 1 ≤ rank strength }
+        requires less { rank strength ≤ 4 }
         ensures { OnOk result (AddsTo self.old self.new strength offer) }
     {
         match strength {
-            Strength::Strong => self.strong.push_back(offer)?,
             Strength::Soft => self.soft.push_back(offer)?,
             Strength::Weak => self.weak.push_back(offer)?,
             Strength::Final => self.finals.push_back(offer)?,
             Strength::Phantom => self.phantom.push_back(offer)?,
-            Strength::Unreachable => unreachable!(),
+            Strength::Strong | Strength::Unreachable => unreachable!(),
         }
         Ok(())
     }
 
-    /// Takes out an offer that gives the most, of these the one that was made first.
-    pub fn pop(&mut self) -> Option<Best>
-        ensures none { IfNone result ((s : OneStrength) → bucket self.old s ≡ []) }
-        ensures some { IfSome result (λ best. TakesBest self.old self.new best.strength best.offer) }
+    /// Takes out the offer of a strength that was made first.
+    pub fn pop(&mut self, strength: Strength) -> Option<Offer>
+        ensures none { IfNone result (bucket self.old strength ≡ []) }
+        ensures same { IfNone result ((s : OneStrength) → bucket self.new s ≡ bucket self.old s) }
+        ensures some { IfSome result (λ offer. TakesFirst self.old self.new strength offer) }
     {
-        if let Some(best) = first(&mut self.strong, Strength::Strong) {
-            return Some(best);
+        match strength {
+            Strength::Soft => self.soft.pop_front(),
+            Strength::Weak => self.weak.pop_front(),
+            Strength::Final => self.finals.pop_front(),
+            Strength::Phantom => self.phantom.pop_front(),
+            Strength::Strong | Strength::Unreachable => None,
         }
-        if let Some(best) = first(&mut self.soft, Strength::Soft) {
-            return Some(best);
-        }
-        if let Some(best) = first(&mut self.weak, Strength::Weak) {
-            return Some(best);
-        }
-        if let Some(best) = first(&mut self.finals, Strength::Final) {
-            return Some(best);
-        }
-        first(&mut self.phantom, Strength::Phantom)
     }
-}
-
-/// Takes out the offer of a bucket that was made first.
-fn first(offers: &mut VecDeque<Offer>, strength: Strength) -> Option<Best>
-    ensures none { IfNone result ((offers.old.items ≡ []) × (offers.new.items ≡ [])) }
-    ensures offer { IfSome result (λ best. offers.old.items ≡ best.offer ∷ offers.new.items) }
-    ensures strength { IfSome result (λ best. best.strength ≡ strength) }
-{
-    let offer = offers.pop_front()?;
-    Some(Best { strength, offer })
 }

@@ -1,26 +1,53 @@
-//! Strengths from scratch: Dijkstra's widest path with a bucket for each rank.
+//! Strengths from scratch: Dijkstra's widest path with a bucket for each strength, and within a strength breadth first.
 //!
-//! Offers are taken by falling rank, and each object takes the first that reaches it. What is settled in the end is the
-//! certificate of the search.
-ghost use Rattle.std.specs.Prelude.{◌≡◌, ℕ, ◌+◌, ◌^◌, ◌<◌, ◌≤◌, ◌⊎◌, Some, length, IfNone, IfOk, IfSome, OnOk};
-ghost use Rattle.hd_terms.specs.Ranks.{rank};
+//! Strengths are spread one after the other, the greatest first. A reference that gives its target the strength that is
+//! being spread is accepted at once. One that gives less is offered, and waits in the bucket of what it gives. What is
+//! settled in the end is the certificate of the search.
+//!
+//! All offers of a strength are accepted before its objects pass it on, and both are taken first in, first out. So right
+//! after the opening supports make short chains, since objects are reached breadth first within one strength. No contract
+//! promises that.
+ghost use Rattle.std.specs.Prelude.{◌≡◌, ℕ, ◌+◌, ◌^◌, ◌<◌, ◌≤◌, ◌⊎◌, Some, [], length, IfNone, IfOk, IfSome, OnOk};
+ghost use Rattle.hd_terms.specs.Ranks.{rank, IsPassedOn};
 ghost use Rattle.hd_terms.specs.Paths.{Edge};
 ghost use Rattle.hd_terms.specs.EditedDump.{standing};
 ghost use Rattle.hd_terms.specs.Settled.{Settled, reached_at, unreached};
-ghost use Rattle.hd_strength.specs.Buckets.{bucket, pending};
+ghost use Rattle.hd_terms.specs.declared.Strength.{Strength as OneStrength};
+ghost use Rattle.hd_terms.specs.declared.Strength.TheVariants as strengths;
 ghost use Rattle.hd_strength.specs.Rows.{width, edge_at, root_count};
-ghost use Rattle.hd_strength.specs.Growing.{rank_at, offered_strength, AreHeld, IsBacked, IsGrowing, Every, AddsOffers, IsDeclined, IsAccepted};
+ghost use Rattle.hd_strength.specs.Growing.{rank_at, AreHeld, IsBacked, IsSearching, NotQueuedBelow, HasComeTo, HasAccepted, IsGain, Reaches, IsPassedOver, IsAccepted, IsOffered, to_do};
 ghost use Rattle.hd_strength.specs.Removed.{IsRemovedBy};
 
 use crate::Strengths;
-use crate::buckets::{Best, Buckets, Offer};
+use crate::buckets::{Buckets, Offer};
 use crate::edited::{Edited, added_object, root_object};
 use crate::packed_reached::PackedReached;
 use crate::removed::Removed;
 use hd_graph::Graph;
 use hd_log::Front;
-use hd_terms::{NoMemory, Strength};
+use hd_terms::{NoMemory, Slot, Strength};
 use std::alloc::Global;
+use std::collections::VecDeque;
+
+/// A search as far as it has come.
+#[derive(Drop)]
+struct Search {
+    kept: Vec<PackedReached>,
+    /// What references give that is less than what is being spread.
+    buckets: Buckets,
+    /// The objects that are reached and have yet to pass their strength on.
+    queue: VecDeque<u32>,
+    /// How many objects have a stamp.
+    count: u64,
+}
+
+/// What an object that nothing reaches would gain by a reference: the object, the slot, and the strength.
+#[derive(Clone, Copy, Debug)]
+struct Gain {
+    target: u32,
+    slot: Slot,
+    strength: Strength,
+}
 
 /// What is kept where nothing reaches an object.
 fn none_reached(alloc: Global, objects: u32) -> Result<Vec<PackedReached>, NoMemory>
@@ -69,125 +96,223 @@ fn apply_roots(alloc: Global, edited: Edited<'_>) -> Result<Vec<PackedReached>, 
     Ok(kept)
 }
 
-/// What the reference at an index of an object's slots gives its target, if nothing reaches that yet.
-fn offered_at(edited: Edited<'_>, kept: &[PackedReached], o: u32, index: u32) -> Option<Strength>
+/// A search that begins: of the objects only those are reached that roots hold, and they are queued.
+fn begin(alloc: Global, edited: Edited<'_>, kept: Vec<PackedReached>) -> Result<Search, NoMemory>
+    requires count { length kept.items ≡ length edited.graph.now.objects }
+    requires held { AreHeld edited.graph.now edited.front.now kept.items (root_count edited.graph.now edited.front.now) }
+    ensures { IfOk result (λ search. HasComeTo edited.entry.graph.now edited.entry.front.now search strengths.Strong) }
+{
+    let mut queue = VecDeque::new(alloc);
+    for o in 0..edited.graph.objects() {
+        if kept[o as usize].strength().rank() > 0 {
+            queue.push_back(o)?;
+        }
+    }
+    Ok(Search {
+        kept,
+        buckets: Buckets::new(alloc),
+        queue,
+        count: 0,
+    })
+}
+
+/// Reaches an object by a slot of another, and queues it if it passes its strength on.
+fn reach(edited: Edited<'_>, search: &mut Search, source: u32, gain: Gain) -> Result<(), NoMemory>
+    requires object { gain.target < length search.old.kept.items }
+    requires room { search.old.count < 2 ^ 32 }
+    ensures { OnOk result (Reaches edited.entry.graph.now.mode search.old search.new gain.strength source gain.slot gain.target) }
+{
+    search.count += 1;
+    search.kept[gain.target as usize] = PackedReached::by_edge(
+        gain.strength,
+        source,
+        gain.slot,
+        search.count,
+    );
+    if gain.strength.rank() >= edited.graph.mode().least_passed_on().rank() {
+        search.queue.push_back(gain.target)?;
+    }
+    Ok(())
+}
+
+/// Accepts an offer of a strength, if nothing reaches its target yet.
+fn accept_offer(
+    edited: Edited<'_>,
+    search: &mut Search,
+    strength: Strength,
+    offer: Offer,
+) -> Result<(), NoMemory>
+    requires object { offer.source < length edited.graph.now.objects }
+    requires index { offer.index < width edited.graph.now offer.source }
+    requires count { length search.old.kept.items ≡ length edited.graph.now.objects }
+    requires backed { IsBacked edited.graph.now.mode (edge_at edited.graph.now edited.front.now) search.old.kept.items strength offer }
+    requires room { search.old.count < 2 ^ 32 }
+    ensures { OnOk result (IsPassedOver (edge_at edited.entry.graph.now edited.entry.front.now) search.old search.new offer.source offer.index
+        ⊎ IsAccepted edited.entry.graph.now.mode (edge_at edited.entry.graph.now edited.entry.front.now) search.old search.new strength offer.source offer.index) }
+{
+    let read = edited.graph.slots(offer.source, offer.index);
+    let Some(target) = read.target else {
+        return Ok(());
+    };
+    if search.kept[target as usize].strength().rank() > 0 {
+        return Ok(());
+    }
+    let gain = Gain {
+        target,
+        slot: read.slot,
+        strength,
+    };
+    reach(edited, search, offer.source, gain)?;
+    Ok(())
+}
+
+/// Accepts all offers of a strength, in the order in which they were made.
+fn accept_offers(
+    edited: Edited<'_>,
+    search: &mut Search,
+    strength: Strength,
+) -> Result<(), NoMemory>
+    requires { HasComeTo edited.graph.now edited.front.now search.old strength }
+    ensures { OnOk result (HasAccepted edited.entry.graph.now edited.entry.front.now search.new strength) }
+{
+    while let Some(offer) = search.buckets.pop(strength) {
+        accept_offer(edited, search, strength, offer)?;
+    }
+    Ok(())
+}
+
+/// What the reference at an index of an object's slots gives its target, if nothing reaches that yet. The strength is the
+/// object's.
+fn gain_at(
+    edited: Edited<'_>,
+    search: &Search,
+    o: u32,
+    index: u32,
+    strength: Strength,
+) -> Option<Gain>
     requires removed { IsRemovedBy edited.graph.now edited.front.now edited.removed.now }
     requires object { o < length edited.graph.now.objects }
     requires index { index < width edited.graph.now o }
-    requires count { length kept.now ≡ length edited.graph.now.objects }
-    ensures none { IfNone result ((e : Edge) → edge_at edited.entry.graph.now edited.entry.front.now o index ≡ Some e → 1 ≤ rank_at kept.now e.target) }
-    ensures some { IfSome result (λ s. (e : Edge) × (edge_at edited.entry.graph.now edited.entry.front.now o index ≡ Some e) × (s ≡ offered_strength kept.now e)) }
-    ensures source { IfSome result (λ s. 1 ≤ rank_at kept.now o → 1 ≤ rank s) }
+    requires count { length search.now.kept.items ≡ length edited.graph.now.objects }
+    requires source { (reached_at search.now.kept.items o).strength ≡ strength }
+    ensures none { IfNone result ((e : Edge) → edge_at edited.entry.graph.now edited.entry.front.now o index ≡ Some e → 1 ≤ rank_at search.now.kept.items e.target) }
+    ensures some { IfSome result (λ gain. IsGain (edge_at edited.entry.graph.now edited.entry.front.now) search.now.kept.items o index gain) }
 {
     let read = edited.graph.slots(o, index);
     let target = read.target?;
-    if kept[target as usize].strength().rank() > 0 {
+    if search.kept[target as usize].strength().rank() > 0 {
         return None;
     }
     if edited.removed.slot(o, index, read.kind) {
         return None;
     }
-    Some(kept[o as usize].strength().weaker(read.kind.strength()))
+    Some(Gain {
+        target,
+        slot: read.slot,
+        strength: strength.weaker(read.kind.strength()),
+    })
 }
 
-/// Offers what the references of an object give that is reached.
-fn relax_edges(
+/// Gives the target of the reference at an index what it gains: at once if that is the strength of the object, which is
+/// being spread, and else by an offer.
+fn relax_edge(
     edited: Edited<'_>,
-    kept: &[PackedReached],
+    search: &mut Search,
     o: u32,
-    buckets: &mut Buckets,
+    index: u32,
+    strength: Strength,
 ) -> Result<(), NoMemory>
     requires removed { IsRemovedBy edited.graph.now edited.front.now edited.removed.now }
     requires object { o < length edited.graph.now.objects }
-    requires count { length kept.now ≡ length edited.graph.now.objects }
-    requires reached { 1 ≤ rank_at kept.now o }
-    ensures adds { OnOk result (AddsOffers (edge_at edited.entry.graph.now edited.entry.front.now) kept.now o (width edited.entry.graph.now o) (bucket buckets.old) (bucket buckets.new)) }
-    ensures few { OnOk result (pending buckets.new < pending buckets.old + 2 ^ 32) }
+    requires index { index < width edited.graph.now o }
+    requires count { length search.old.kept.items ≡ length edited.graph.now.objects }
+    requires source { (reached_at search.old.kept.items o).strength ≡ strength }
+    requires reached { 1 ≤ rank strength }
+    requires room { search.old.count < 2 ^ 32 }
+    ensures { OnOk result (IsPassedOver (edge_at edited.entry.graph.now edited.entry.front.now) search.old search.new o index
+        ⊎ IsAccepted edited.entry.graph.now.mode (edge_at edited.entry.graph.now edited.entry.front.now) search.old search.new strength o index
+        ⊎ IsOffered (edge_at edited.entry.graph.now edited.entry.front.now) search.old search.new strength o index) }
 {
-    for index in 0..edited.graph.slots_len(o) {
-        if let Some(strength) = offered_at(edited, kept, o, index) {
-            buckets.push(strength, Offer { source: o, index })?;
-        }
+    let Some(gain) = gain_at(edited, search, o, index, strength) else {
+        return Ok(());
+    };
+    if gain.strength.rank() == strength.rank() {
+        reach(edited, search, o, gain)?;
+    } else {
+        search
+            .buckets
+            .push(gain.strength, Offer { source: o, index })?;
     }
     Ok(())
 }
 
-/// What the objects offer that roots hold.
-fn relax_roots(
-    alloc: Global,
+/// Passes on the strength of an object that was queued.
+fn relax_edges(
     edited: Edited<'_>,
-    kept: &[PackedReached],
-) -> Result<Buckets, NoMemory>
+    search: &mut Search,
+    o: u32,
+    strength: Strength,
+) -> Result<(), NoMemory>
     requires removed { IsRemovedBy edited.graph.now edited.front.now edited.removed.now }
-    requires count { length kept.now ≡ length edited.graph.now.objects }
-    requires held { AreHeld edited.graph.now edited.front.now kept.now (root_count edited.graph.now edited.front.now) }
-    ensures { IfOk result (λ b. IsGrowing (standing edited.entry.graph.now edited.entry.front.now) (edge_at edited.entry.graph.now edited.entry.front.now) kept.now (bucket b) 0 Every) }
+    requires object { o < length edited.graph.now.objects }
+    requires source { (reached_at search.old.kept.items o).strength ≡ strength }
+    requires passes_on { IsPassedOn edited.graph.now.mode strength }
+    requires searching { IsSearching edited.graph.now edited.front.now search.old strength (rank strength) (NotQueuedBelow search.old.queue.items o 0) }
+    ensures searching { OnOk result (HasAccepted edited.entry.graph.now edited.entry.front.now search.new strength) }
+    ensures less { OnOk result (to_do search.new ≤ to_do search.old) }
 {
-    let mut buckets = Buckets::new(alloc);
-    for o in 0..edited.graph.objects() {
-        if kept[o as usize].strength().rank() > 0 {
-            relax_edges(edited, kept, o, &mut buckets)?;
-        }
+    for index in 0..edited.graph.slots_len(o) {
+        relax_edge(edited, search, o, index, strength)?;
     }
-    Ok(buckets)
+    Ok(())
 }
 
-/// Takes an offer, if nothing reaches its target yet. Answers how many objects have a stamp then.
-fn accept(
+/// Passes on the strength of all objects that are queued, and of those that are queued by that.
+fn spread_objects(
     edited: Edited<'_>,
-    kept: &mut Vec<PackedReached>,
-    buckets: &mut Buckets,
-    best: Best,
-    count: u64,
-) -> Result<u64, NoMemory>
+    search: &mut Search,
+    strength: Strength,
+) -> Result<(), NoMemory>
     requires removed { IsRemovedBy edited.graph.now edited.front.now edited.removed.now }
-    requires object { best.offer.source < length edited.graph.now.objects }
-    requires index { best.offer.index < width edited.graph.now best.offer.source }
-    requires count { length kept.old.items ≡ length edited.graph.now.objects }
-    requires backed { IsBacked edited.graph.now.mode (edge_at edited.graph.now edited.front.now) kept.old.items best.strength best.offer }
-    requires room { count < 2 ^ 32 }
-    ensures { IfOk result (λ n. (e : Edge) → edge_at edited.entry.graph.now edited.entry.front.now best.offer.source best.offer.index ≡ Some e →
-        (IsDeclined kept.old.items kept.new.items buckets.old buckets.new e count n
-        ⊎ IsAccepted edited.entry.graph.now.mode (edge_at edited.entry.graph.now edited.entry.front.now) (width edited.entry.graph.now) kept.old.items kept.new.items buckets.old buckets.new best.strength e count n)) }
+    requires searching { HasAccepted edited.graph.now edited.front.now search.old strength }
+    ensures searching { OnOk result (HasAccepted edited.entry.graph.now edited.entry.front.now search.new strength) }
+    ensures all { OnOk result (search.new.queue.items ≡ []) }
 {
-    let read = edited.graph.slots(best.offer.source, best.offer.index);
-    let Some(target) = read.target else {
-        return Ok(count);
-    };
-    if kept[target as usize].strength().rank() > 0 {
-        return Ok(count);
+    while let Some(o) = search.queue.pop_front() {
+        relax_edges(edited, search, o, strength)?;
     }
-    kept[target as usize] = PackedReached::by_edge(
-        best.strength,
-        best.offer.source,
-        read.slot,
-        count + 1,
-    );
-    if best.strength.rank() >= edited.graph.mode().least_passed_on().rank() {
-        relax_edges(edited, kept, target, buckets)?;
-    }
-    Ok(count + 1)
+    Ok(())
 }
 
-/// Takes offers, the greatest first, until none is left.
-fn spread(
+/// Spreads a strength: accepts what is offered of it, and passes it on.
+fn spread_strength(
     edited: Edited<'_>,
-    mut kept: Vec<PackedReached>,
-    mut buckets: Buckets,
-) -> Result<Vec<PackedReached>, NoMemory>
+    search: &mut Search,
+    strength: Strength,
+) -> Result<(), NoMemory>
     requires removed { IsRemovedBy edited.graph.now edited.front.now edited.removed.now }
-    requires few { length edited.graph.now.objects < 2 ^ 32 }
-    requires count { length kept.items ≡ length edited.graph.now.objects }
-    requires growing { IsGrowing (standing edited.graph.now edited.front.now) (edge_at edited.graph.now edited.front.now) kept.items (bucket buckets) 0 Every }
+    requires searching { HasComeTo edited.graph.now edited.front.now search.old strength }
+    ensures { OnOk result ((next : OneStrength) → rank strength ≡ rank next + 1 → HasComeTo edited.entry.graph.now edited.entry.front.now search.new next) }
+{
+    accept_offers(edited, search, strength)?;
+    spread_objects(edited, search, strength)?;
+    Ok(())
+}
+
+/// Spreads all strengths, the greatest first.
+fn spread(edited: Edited<'_>, mut search: Search) -> Result<Vec<PackedReached>, NoMemory>
+    requires removed { IsRemovedBy edited.graph.now edited.front.now edited.removed.now }
+    requires searching { HasComeTo edited.graph.now edited.front.now search strengths.Strong }
     ensures count { IfOk result (λ v. length v.items ≡ length edited.entry.graph.now.objects) }
     ensures settled { IfOk result (λ v. Settled (standing edited.entry.graph.now edited.entry.front.now) v.items) }
     ensures stamps { IfOk result (λ v. (o : ℕ) → (reached_at v.items o).stamp ≤ length edited.entry.graph.now.objects) }
 {
-    let mut count = 0;
-    while let Some(best) = buckets.pop() {
-        count = accept(edited, &mut kept, &mut buckets, best, count)?;
-    }
-    Ok(kept)
+    spread_strength(edited, &mut search, Strength::Strong)?;
+    spread_strength(edited, &mut search, Strength::Soft)?;
+    spread_strength(edited, &mut search, Strength::Weak)?;
+    spread_strength(edited, &mut search, Strength::Final)?;
+    spread_strength(edited, &mut search, Strength::Phantom)?;
+    Ok(search.kept)
 }
 
 /// Strengths, supports and stamps of the objects of a graph under a log, by what the log's live edits take away.
@@ -208,8 +333,8 @@ pub fn from_removed(
         removed,
     };
     let kept = apply_roots(alloc, edited)?;
-    let buckets = relax_roots(alloc, edited, &kept)?;
-    let kept = spread(edited, kept, buckets)?;
+    let search = begin(alloc, edited, kept)?;
+    let kept = spread(edited, search)?;
     Ok(Strengths { kept })
 }
 

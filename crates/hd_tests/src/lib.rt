@@ -1,22 +1,12 @@
-//! Tests of what only code can show, from the bytes of a file to the states of a log: threads and gates, and calls that no
-//! line of an analyst reaches. Streams have tests of their own in `crates/hd_stream_tests`, so that neither waits for the
-//! other.
+//! Tests of what only code can show of a file: its records, its classes, and its segments on several workers. Graphs and all
+//! that stands on them have tests of their own in `crates/hd_state_tests`, and streams in `crates/hd_stream_tests`, so that none
+//! waits for another.
 //! What lines and `stat` can show stands as cases in `crates/hd_rows`.
 #![tactic(auto)]
 
 #[cfg(test)]
 mod class_tests;
 #[cfg(test)]
-mod dumps;
-#[cfg(test)]
-mod graph_tests;
-#[cfg(test)]
-mod log_tests;
-#[cfg(test)]
 mod reading_tests;
-#[cfg(test)]
-mod settled_tests;
-#[cfg(test)]
-mod state_tests;
 #[cfg(test)]
 mod worker_tests;

@@ -1,5 +1,4 @@
 //! Segments on workers: in file order whatever the number of workers, who passes the gate, and that they run at once.
-use crate::dumps::THREE_SEGMENTS;
 use hd_decode::{Gate, NoGate, decode, shares_of};
 use hd_graph::open_dump;
 use hd_records::read_records;
@@ -8,6 +7,9 @@ use hd_terms::{Mode, Span};
 use std::sync::atomic::{AtomicBool, AtomicU64, Ordering};
 use std::test::Fail;
 use std::thread;
+
+/// Two object arrays and a root on the first, in three segments.
+const THREE_SEGMENTS: &str = "ids 4\nsegment\nroot 1\nsegment\narray 1: 2 0 9\nsegment\narray 2:\n";
 
 #[test]
 fn sub_records_in_file_order(rt: HostRuntime) -> Result<(), Fail> {

@@ -2,7 +2,7 @@ use Rattle.std.proofs.Common.{◌≡◌, ◌∙◌, ◌<◌, length, length-set,
 use Rattle.hd_strength.specs.PackedReached.{reached_by_root}
 use Rattle.hd_strength.specs.Growing.{AreHeld}
 use Rattle.hd_strength.proofs.RowLemmas.{root_none, root_some, held_within}
-use Rattle.hd_strength.proofs.Offering.{one_held, no_root, none_held}
+use Rattle.hd_strength.proofs.Holding.{one_held, no_root, none_held}
 use Rattle.hd_strength.proofs.scratch.apply_dump_roots.Goals as goal
 use Rattle.hd_strength.proofs.scratch.apply_dump_roots.Goals.{in-Some, in_default}
 

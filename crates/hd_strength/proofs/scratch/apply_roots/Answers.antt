@@ -3,7 +3,7 @@ use Rattle.hd_strength.specs.PackedReached.{reached_by_root}
 use Rattle.hd_strength.specs.Rows.{root_count}
 use Rattle.hd_strength.specs.Growing.{AreHeld}
 use Rattle.hd_strength.proofs.RowLemmas.{root_none, root_some, held_within}
-use Rattle.hd_strength.proofs.Offering.{one_held, no_root}
+use Rattle.hd_strength.proofs.Holding.{one_held, no_root}
 use Rattle.hd_strength.proofs.scratch.apply_roots.Goals as goal
 use Rattle.hd_strength.proofs.scratch.apply_roots.Goals.{in-Some, in_default}
 

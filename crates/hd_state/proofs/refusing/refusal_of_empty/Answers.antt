@@ -1,8 +1,8 @@
 use Rattle.std.proofs.Common.{◌≡◌, ◌∙◌, ℕ, Bool, true, false, not, Option, Some, None, is_some, is_none, refl, sym, ap}
 use Rattle.hd_terms.specs.Dump.{SlotEntry}
-use Rattle.hd_protocol.proofs.Refusals.{null, absent, refers}
-use Rattle.hd_protocol.proofs.edit.refusal_of_empty.Goals as goal
-use Rattle.hd_protocol.proofs.edit.refusal_of_empty.Goals.{then-read-eq0-via-then-read-eq0, then-read-eq0-via-else-read-eq0+then-is_none}
+use Rattle.hd_state.proofs.RefusalLemmas.{null, absent, refers}
+use Rattle.hd_state.proofs.refusing.refusal_of_empty.Goals as goal
+use Rattle.hd_state.proofs.refusing.refusal_of_empty.Goals.{then-read-eq0-via-then-read-eq0, then-read-eq0-via-else-read-eq0+then-is_none}
 
 -- nothing is there where there isn't something
 none_is : (o : Option ℕ) (b : Bool) → is_some o ≡ not b → is_none o ≡ b

@@ -1,6 +1,6 @@
 use Rattle.std.proofs.Common.{◌∙◌, sym}
-use Rattle.hd_protocol.proofs.Refusals.{no_referent, referent_lost, referent_there}
-use Rattle.hd_protocol.proofs.edit.refusal_of_clear.Goals as goal
+use Rattle.hd_state.proofs.RefusalLemmas.{no_referent, referent_lost, referent_there}
+use Rattle.hd_state.proofs.refusing.refusal_of_clear.Goals as goal
 
 pub returns-in_default-referent_of : goal.returns-in_default-referent_of
 returns-in_default-referent_of c =

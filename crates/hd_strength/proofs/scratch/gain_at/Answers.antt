@@ -1,4 +1,4 @@
-use Rattle.std.proofs.Common.{◌≡◌, true, false, ◌<◌, Some, None, length, ap, sym, ◌∙◌, arith}
+use Rattle.std.proofs.Common.{◌≡◌, true, false, ◌<◌, Some, None, length, ap, sym, ◌∙◌, refl, arith}
 use Rattle.hd_terms.specs.declared.Strength.{Strength}
 use Rattle.hd_terms.specs.Ranks.{rank, weaker_of}
 use Rattle.hd_terms.specs.Paths.{Edge}
@@ -9,7 +9,7 @@ use Rattle.hd_terms.specs.Settled.{Reached, reached_at, unreached}
 use Rattle.hd_strength.specs.Growing.{rank_at}
 use Rattle.hd_strength.proofs.Lists.{read_is}
 use Rattle.hd_strength.proofs.RowLemmas.{at_none, at_cut, at_target, at_some, not-true, not-false, edge_to, index_of_within}
-use Rattle.hd_strength.proofs.scratch.offered_at.Goals as goal
+use Rattle.hd_strength.proofs.scratch.gain_at.Goals as goal
 
 pub returns-in_err-target-clause-none : goal.returns-in_err-target-clause-none
 returns-in_err-target-clause-none c =
@@ -19,14 +19,15 @@ returns-in_err-target-clause-none c =
 
 pub returns-then-rank-gt0-clause-none : goal.returns-then-rank-gt0-clause-none
 returns-then-rank-gt0-clause-none c = λ e is.
+    let ks = c.args.search.now.kept.items in
     let s : SlotEntry = record { slot = c.slots-read.result.slot; kind = c.slots-read.result.kind; id = c.slots-read.result.id } in
     let t = c.in_ok-target.target in
     let some : index_of c.args.edited.graph.now.objects s.id ≡ Some t = sym c.slots-read.ensures.target ∙ c.in_ok-target.was in
-    let lt : t < length c.args.kept.now = omega (arith, index_of_within c.args.edited.graph.now.objects s.id t some, c.requires.count) in
+    let lt : t < length ks = omega (arith, index_of_within c.args.edited.graph.now.objects s.id t some, c.requires.count) in
     let edge : edge_to c.args.o s t ≡ e = at_target c.args.edited.graph.now c.args.edited.front.now c.args.o c.args.index s c.slots-read.ensures.entry t e some is in
     let target : e.target ≡ t = sym (ap (λ (x : Edge). x.target) edge) in
-    let read : reached_at c.args.kept.now t ≡ c.index-kept-target.result = read_is c.args.kept.now t unreached c.index-kept-target.result lt c.index-kept-target.is in
-    let ranks : rank_at c.args.kept.now t ≡ c.rank.result = ap (λ (k : Reached). rank k.strength) read ∙ ap rank (sym c.strength.ensures) ∙ sym c.rank.ensures in
+    let read : reached_at ks t ≡ c.index.result.now = read_is ks t unreached c.index.result.now lt c.index.ensures in
+    let ranks : rank_at ks t ≡ c.rank.result = ap (λ (k : Reached). rank k.strength) read ∙ ap rank (sym c.strength.ensures) ∙ sym c.rank.ensures in
     rw target (omega arith)
 
 pub returns-then-slot-clause-none : goal.returns-then-slot-clause-none
@@ -40,14 +41,21 @@ returns-then-slot-clause-none c = λ e is.
 
 pub returns-clause-some : goal.returns-clause-some
 returns-clause-some c =
+    let ks = c.args.search.now.kept.items in
     let s : SlotEntry = record { slot = c.slots-read.result.slot; kind = c.slots-read.result.kind; id = c.slots-read.result.id } in
     let t = c.in_ok-target.target in
     let some : index_of c.args.edited.graph.now.objects s.id ≡ Some t = sym c.slots-read.ensures.target ∙ c.in_ok-target.was in
-    let read : reached_at c.args.kept.now c.args.o ≡ c.index-kept-o.result = read_is c.args.kept.now c.args.o unreached c.index-kept-o.result (omega (arith, c.requires.count, c.requires.object)) c.index-kept-o.is in
+    let lt : t < length ks = omega (arith, index_of_within c.args.edited.graph.now.objects s.id t some, c.requires.count) in
+    let read : reached_at ks t ≡ c.index.result.now = read_is ks t unreached c.index.result.now lt c.index.ensures in
+    let ranks : rank_at ks t ≡ c.rank.result = ap (λ (k : Reached). rank k.strength) read ∙ ap rank (sym c.strength.ensures) ∙ sym c.rank.ensures in
     let stands : is_untouched c.args.edited.front.now (object_at c.args.edited.graph.now c.args.o) s ≡ true =
     not-false (is_untouched c.args.edited.front.now (object_at c.args.edited.graph.now c.args.o) s) (sym (c.requires.removed.slots c.args.o c.args.index s c.requires.object c.slots-read.ensures.entry) ∙ sym c.slot.ensures ∙ c.if-slot.false) in
-    let source : c.strength-2.result ≡ (reached_at c.args.kept.now c.args.o).strength = c.strength-2.ensures ∙ ap (λ (k : Reached). k.strength) (sym read) in (
-      edge_to c.args.o s t,
-      at_some c.args.edited.graph.now c.args.edited.front.now c.args.o c.args.index s c.slots-read.ensures.entry t some stands,
-      c.weaker.ensures ∙ ap (λ (x : Strength). weaker_of x c.strength-3.result) source ∙ ap (weaker_of (reached_at c.args.kept.now c.args.o).strength) c.strength-3.ensures,
-    )
+    record {
+      edge = edge_to c.args.o s t;
+      is = at_some c.args.edited.graph.now c.args.edited.front.now c.args.o c.args.index s c.slots-read.ensures.entry t some stands;
+      slot = refl;
+      target = refl;
+      strength = c.weaker.ensures ∙ ap (λ (x : Strength). weaker_of x c.strength-2.result) (sym c.requires.source) ∙ ap (weaker_of (reached_at ks c.args.o).strength) c.strength-2.ensures;
+      unreached = omega arith;
+      object = lt;
+    }

@@ -1,6 +1,6 @@
 use Rattle.std.proofs.Common.{◌∙◌, sym}
-use Rattle.hd_protocol.proofs.Refusals.{not_there, not_cuttable, cuttable}
-use Rattle.hd_protocol.proofs.edit.refusal_of_cut.Goals as goal
+use Rattle.hd_state.proofs.RefusalLemmas.{not_there, not_cuttable, cuttable}
+use Rattle.hd_state.proofs.refusing.refusal_of_cut.Goals as goal
 
 pub returns-in_default-slot_index : goal.returns-in_default-slot_index
 returns-in_default-slot_index c =

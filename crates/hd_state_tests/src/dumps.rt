@@ -10,10 +10,6 @@ use std::thread::Threads;
 /// Two object arrays and a root on the first.
 pub const TWO_ARRAYS: &str = "ids 4\nsegment\nroot 1\narray 1: 2 0 9\narray 2:\n";
 
-/// The same in three segments.
-pub const THREE_SEGMENTS: &str =
-    "ids 4\nsegment\nroot 1\nsegment\narray 1: 2 0 9\nsegment\narray 2:\n";
-
 /// A weak reference 0x21 and a finalizer 0x31 on one array, behind the six classes, and a list of the first.
 pub const WEAK_AND_FINAL: &str = "ids 4\nreference-names\nsegment\nreference-classes\nroot 1\n\
     array 1: 21 31\nreference 21 of 13: 5\nreference 31 of 16: 5\narray 5:\n";

@@ -1,0 +1,41 @@
+//! Chains right after a dump was opened: they have as few links as any path to their object.
+use crate::dumps::graph_of;
+use hd_state::State;
+use std::alloc::{AllocError, Global};
+use std::fmt::Write;
+use std::test::Fail;
+use std::thread::Threads;
+
+/// The last object of a list of 3,000, to which the first object of the dump leads by two ways: along the list, which stands
+/// first in the first object and in the file, and by one object beside it.
+const LAST: u64 = 0x1000 + 2999;
+
+/// A dump with a long list and a short way to its last object.
+fn list_beside_a_short_way(alloc: Global) -> Result<String, AllocError> {
+    let mut text = String::from_str(alloc, "ids 4\nsegment\nroot 1\narray 1: 1000 2\n")?;
+    for id in 0x1000..LAST {
+        let next = id + 1;
+        write!(text, "array {id:x}: {next:x}\n")?;
+    }
+    write!(text, "array {LAST:x}:\narray 2: {LAST:x}\n")?;
+    Ok(text)
+}
+
+/// How many links the chain of an object of the opened dump has.
+fn links_of<R: Threads + Sync>(rt: &R, alloc: Global, text: &str, id: u64) -> Option<usize> {
+    let graph = graph_of(rt, alloc, text)?;
+    let state = State::open(alloc, graph).ok()?;
+    let o = state.graph().index_of(id)?;
+    let chain = state.chain(alloc, o).ok()??;
+    Some(chain.links.len())
+}
+
+#[test]
+fn short_way_beside_a_long_list(rt: HostRuntime) -> Result<(), Fail> {
+    let text = list_beside_a_short_way(rt.alloc())?;
+    let links = links_of(&rt, rt.alloc(), text.as_str(), LAST).ok_or("the dump opens")?;
+    assert_eq!(rt; links, 2);
+    let links = links_of(&rt, rt.alloc(), text.as_str(), LAST - 1).ok_or("the dump opens")?;
+    assert_eq!(rt; links, 2999);
+    Ok(())
+}

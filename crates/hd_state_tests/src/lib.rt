@@ -1,0 +1,17 @@
+//! Tests of what only code can show of a heap: graphs, logs, strengths and the states of a log, by calls that no line of an
+//! analyst reaches.
+//! What lines and `stat` can show stands as cases in `crates/hd_rows`.
+#![tactic(auto)]
+
+#[cfg(test)]
+mod chain_tests;
+#[cfg(test)]
+mod dumps;
+#[cfg(test)]
+mod graph_tests;
+#[cfg(test)]
+mod log_tests;
+#[cfg(test)]
+mod settled_tests;
+#[cfg(test)]
+mod state_tests;

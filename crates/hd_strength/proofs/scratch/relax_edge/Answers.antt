@@ -1,0 +1,53 @@
+use Rattle.std.proofs.Common.{◌≡◌, ◌∙◌, inl, inr, refl, ap, sym, subst, arith}
+use Rattle.hd_terms.specs.declared.Strength.{Strength}
+use Rattle.hd_terms.specs.Ranks.{rank}
+use Rattle.hd_terms.proofs.RankLemmas.{same_rank, rank-le}
+use Rattle.hd_strength.specs.Buckets.{AddsTo}
+use Rattle.hd_strength.specs.Growing.{rank_at, offer_at}
+use Rattle.hd_strength.proofs.RowLemmas.{at_source}
+use Rattle.hd_strength.proofs.Grow.{offered_strength-le}
+use Rattle.hd_strength.proofs.Spreading.{offered_strength-some}
+use Rattle.hd_strength.proofs.scratch.relax_edge.Goals as goal
+
+pub push-requires-clause-something : goal.push-requires-clause-something
+push-requires-clause-something c =
+    let ks = c.args.search.now.kept.items in
+    let h = c.in-Some.ensures.some in
+    let from : rank_at ks h.edge.source ≡ rank c.args.strength = ap (rank_at ks) (at_source c.args.edited.graph.now c.args.edited.front.now c.args.o c.args.index h.edge h.is) ∙ ap rank c.requires.source in
+    omega (arith, ap rank h.strength, offered_strength-some ks h.edge (omega (arith, c.requires.reached)))
+
+pub push-requires-clause-less : goal.push-requires-clause-less
+push-requires-clause-less c =
+    let ks = c.args.search.now.kept.items in
+    let h = c.in-Some.ensures.some in
+    let from : rank_at ks h.edge.source ≡ rank c.args.strength = ap (rank_at ks) (at_source c.args.edited.graph.now c.args.edited.front.now c.args.o c.args.index h.edge h.is) ∙ ap rank c.requires.source in
+    omega (arith, ap rank h.strength, offered_strength-le ks h.edge, rank-le c.args.strength, c.if-rank.false, c.rank.ensures, c.rank-2.ensures)
+
+pub returns-in_ok-reach : goal.returns-in_ok-reach
+returns-in_ok-reach c =
+    let h = c.in-Some.ensures.some in
+    let same : c.in-Some.gain.strength ≡ c.args.strength = same_rank c.in-Some.gain.strength c.args.strength (sym c.rank.ensures ∙ c.if-rank.true ∙ c.rank-2.ensures) in
+    let source = at_source c.args.edited.graph.now c.args.edited.front.now c.args.o c.args.index h.edge h.is in
+    inr (inl (record {
+      edge = h.edge;
+      is = h.is;
+      gives = sym same ∙ h.strength;
+      unreached = h.unreached;
+      object = h.object;
+      reaches = rw (source, sym h.slot, sym h.target, sym same) c.in_ok-reach.ensures;
+    }))
+
+pub returns-in_ok-push : goal.returns-in_ok-push
+returns-in_ok-push c =
+    let ks = c.args.search.now.kept.items in
+    let h = c.in-Some.ensures.some in
+    let from : rank_at ks h.edge.source ≡ rank c.args.strength = ap (rank_at ks) (at_source c.args.edited.graph.now c.args.edited.front.now c.args.o c.args.index h.edge h.is) ∙ ap rank c.requires.source in
+    inr (inr (record {
+      edge = h.edge;
+      is = h.is;
+      less = omega (arith, ap rank h.strength, offered_strength-le ks h.edge, c.if-rank.false, c.rank.ensures, c.rank-2.ensures);
+      adds = subst (λ (t : Strength). AddsTo c.args.search.now.buckets c.push.new.self t (offer_at c.args.o c.args.index)) h.strength c.in_ok-push.ensures;
+      same_kept = refl;
+      same_queue = refl;
+      same_count = refl;
+    }))
