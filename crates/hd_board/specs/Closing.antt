@@ -12,6 +12,10 @@ use Rattle.hd_board.specs.Replicas.{Replica}
 abbrev pub numbered : Replica → ℕ × List Event
 numbered desk = (desk.who, desk.seen)
 
+-- one of the desks has this number
+abbrev pub HasDesk : List Replica → ℕ → Type 0
+HasDesk desks who = (desk : Replica) × Contains desks desk × (desk.who ≡ who)
+
 -- the log doesn't fit a desk, to which it is foreign, or has an event behind the base that is no event of the board's
 abbrev pub IsMismatch : Board → List Event → List (ℕ × List Event) → Type 0
 IsMismatch board log desks = ((who : ℕ) × (seen : List Event) × Contains desks (who, seen) × IsForeign board.numbers who seen log) ⊎ (AreMembers board log → ⊥)

@@ -1,6 +1,7 @@
 -- What opening and forking a board give.
 -- Source: this project.
 use Rattle.std.specs.Prelude.{ℕ, List, [], ◌∷◌, length, map}
+use Rattle.hd_terms.specs.declared.Event.{Event}
 use Rattle.hd_terms.specs.Dump.{Dump}
 use Rattle.hd_terms.specs.Schedule.{Board, numbers_from}
 use Rattle.hd_board.specs.Replicas.{Replica}
@@ -9,9 +10,13 @@ use Rattle.hd_board.specs.Replicas.{Replica}
 abbrev pub opened_board : Dump → ℕ → Board
 opened_board dump n = record { roots = length dump.roots; base = []; numbers = numbers_from 0 n }
 
+-- a desk that has come to a log, and has seen no more
+abbrev pub desk_at : Dump → List Event → ℕ → Replica
+desk_at dump log who = record { who = who; dump = dump; seen = log; front = log }
+
 -- a desk that has seen nothing yet
 abbrev pub opened_desk : Dump → ℕ → Replica
-opened_desk dump who = record { who = who; dump = dump; seen = []; front = [] }
+opened_desk dump who = desk_at dump [] who
 
 -- the desks of a board of so many
 abbrev pub opened_desks : Dump → ℕ → List Replica
@@ -23,4 +28,4 @@ forked_board desk = record { roots = length desk.dump.roots; base = desk.front; 
 
 -- its desk has seen no more
 abbrev pub forked_desk : Replica → Replica
-forked_desk desk = record { who = desk.who; dump = desk.dump; seen = desk.front; front = desk.front }
+forked_desk desk = desk_at desk.dump desk.front desk.who

@@ -13,17 +13,17 @@ pub record Replica : Type 0 where
   pub front : List Event
 
 -- the same desk, which has seen one log, and whose state has come to another
-pub record IsAt (old new : Replica) (seen front : List Event) : Type 0 where
+pub record IsAt (old new : Replica) (log reached : List Event) : Type 0 where
   pub who : new.who ≡ old.who
   pub dump : new.dump ≡ old.dump
-  pub seen : new.seen ≡ seen
-  pub front : new.front ≡ front
+  pub seen : new.seen ≡ log
+  pub front : new.front ≡ reached
 
 -- the same desk, which has seen a log, and whose state is behind it, but not behind a log to which it had come
-pub record IsBehindAt (old new : Replica) (seen reached : List Event) : Type 0 where
+pub record IsBehindAt (old new : Replica) (log reached : List Event) : Type 0 where
   pub who : new.who ≡ old.who
   pub dump : new.dump ≡ old.dump
-  pub seen : new.seen ≡ seen
+  pub seen : new.seen ≡ log
   pub front : begins_with new.front reached
-  pub within : begins_with seen new.front
-  pub behind : length new.front < length seen
+  pub within : begins_with log new.front
+  pub behind : length new.front < length log

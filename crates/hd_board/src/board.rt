@@ -1,5 +1,5 @@
 //! A board: the log that all its desks append to, behind a lock.
-ghost use Rattle.std.specs.Prelude.{◌≡◌, ◌≤◌, ◌×◌, length, map, IfErr, IfOk, OnOk};
+ghost use Rattle.std.specs.Prelude.{◌≡◌, ◌≤◌, List, [], map, IfErr, IfOk};
 ghost use Rattle.std.specs.Arc.{arc_value};
 ghost use Rattle.hd_terms.specs.declared.Event.{Event as OneEvent};
 ghost use Rattle.hd_terms.specs.Schedule.{Closes};
@@ -8,11 +8,13 @@ ghost use Rattle.hd_board.specs.Appends.{IsFound, IsTaken, RefusesAppend, Refuse
 ghost use Rattle.hd_board.specs.Closing.{numbered, RefusesClose};
 ghost use Rattle.hd_board.specs.Opening.{opened_board, opened_desks, forked_board, forked_desk};
 
-use crate::append::append_to;
+use crate::append::{append_to, is_found};
+use crate::closing::{all_find, are_members, has_all};
 use crate::desk::Desk;
 use crate::faults::{AppendFault, CloseFault, LookFault};
 use hd_graph::Graph;
 use hd_log::Front;
+use hd_state::State;
 use hd_terms::{Event, NoMemory};
 use std::alloc::Global;
 use std::marker::Model;
@@ -53,7 +55,29 @@ pub fn open(alloc: Global, graph: Arc<Graph>, n: u8) -> Result<(Board, Vec<Desk>
     ensures board { IfOk result (λ r. r.0 ≡ opened_board (arc_value graph) n) }
     ensures desks { IfOk result (λ r. r.1.items ≡ opened_desks (arc_value graph) n) }
 {
-    Err(NoMemory)
+    let roots = u64::from(graph.roots_len());
+    let state = State::open(alloc, graph)?;
+    let desks = opened_desks(alloc, &state, n)?;
+    let board = Board {
+        log: Mutex::new(state.front().share()?),
+        roots,
+        base: state.front().share()?,
+        first: 0,
+        count: n,
+    };
+    Ok((board, desks))
+}
+
+/// So many desks, numbered from 0 on, that have come to a state.
+fn opened_desks(alloc: Global, state: &State, n: u8) -> Result<Vec<Desk>, NoMemory>
+    requires { state.now.log ≡ [] }
+    ensures { IfOk result (λ v. v.items ≡ opened_desks state.now.dump n) }
+{
+    let mut desks = Vec::with_capacity(alloc, usize::from(n))?;
+    for who in 0..n {
+        desks.push(Desk::begin(who, state.share()?)?)?;
+    }
+    Ok(desks)
 }
 
 impl Board {
@@ -73,7 +97,10 @@ impl Board {
         ensures ok { IfOk result (λ answer. (log : List OneEvent) × IsTaken self.now.roots self.now.numbers seen.now log event × (answer ≡ with_event log event)) }
         ensures err { IfErr result (λ fault. (log : List OneEvent) × RefusesAppend self.now.roots self.now.numbers seen.now log event fault) }
     {
-        Err(AppendFault::OutOfMemory)
+        let mut log = self.log.lock(rt);
+        append_to(
+            alloc, &mut log, self.first, self.count, self.roots, seen, event,
+        )
     }
 
     /// The log, for an analyst who has seen an earlier one. The lock is taken once.
@@ -85,7 +112,12 @@ impl Board {
         ensures ok { IfOk result (IsFound self.now.numbers who seen.now) }
         ensures err { IfErr result (RefusesLook self.now.numbers who seen.now) }
     {
-        Err(LookFault::OutOfMemory)
+        let found = self.log.lock(rt).share()?;
+        if is_found(self.first, self.count, who, seen, &found) {
+            Ok(found)
+        } else {
+            Err(LookFault::Foreign(found))
+        }
     }
 
     /// Closes the board with its desks, and answers its log. It takes no memory and waits for nobody.
@@ -97,7 +129,16 @@ impl Board {
         ensures ok { IfOk result (λ log. Closes self log (map numbered desks.now)) }
         ensures err { IfErr result (RefusesClose self (map numbered desks.now)) }
     {
-        Err(CloseFault::MissingDesk(self.log.into_inner()))
+        let log = self.log.into_inner();
+        if !all_find(&log, self.first, self.count, desks)
+            || !are_members(&log, self.base.len(), self.first, self.count)
+        {
+            return Err(CloseFault::Mismatch(log));
+        }
+        if !has_all(self.first, self.count, desks) {
+            return Err(CloseFault::MissingDesk(log));
+        }
+        Ok(log)
     }
 
     /// A private board of one desk: it begins at the log of a desk's state, and has that desk's number. The desk and its board
@@ -110,6 +151,15 @@ impl Board {
         ensures board { IfOk result (λ r. r.0 ≡ forked_board desk.now) }
         ensures desk { IfOk result (λ r. r.1 ≡ forked_desk desk.now) }
     {
-        Err(NoMemory)
+        let log = desk.front();
+        let board = Board {
+            log: Mutex::new(log.share()?),
+            roots: u64::from(desk.graph().roots_len()),
+            base: log.share()?,
+            first: desk.who(),
+            count: 1,
+        };
+        let desk = Desk::begin(desk.who(), desk.state().share()?)?;
+        Ok((board, desk))
     }
 }

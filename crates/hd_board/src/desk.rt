@@ -1,8 +1,9 @@
 //! A desk: an analyst's own replica of the dump under the board's log.
-ghost use Rattle.std.specs.Prelude.{◌≡◌, ◌<◌, ◌↔◌, length, IfErr, IfOk, OnErr, OnOk, IsTrue};
+ghost use Rattle.std.specs.Prelude.{ℕ, ◌≡◌, ◌<◌, ◌↔◌, length, IfErr, IfOk, OnErr, OnOk, IsTrue, Some};
 ghost use Rattle.hd_terms.specs.declared.What.TheVariants as whats;
 ghost use Rattle.hd_terms.specs.Log.{last_live};
 ghost use Rattle.hd_board.specs.Replicas.{IsAt, IsBehindAt};
+ghost use Rattle.hd_board.specs.Opening.{desk_at};
 ghost use Rattle.hd_board.specs.Calls.{Appends, Edits, IsRefreshedBy, Learns, RefusesEdit, RefusesLearn, RefusesRefresh, RefusesUndo, RefusesUndoLast};
 
 use crate::board::Board;
@@ -36,6 +37,18 @@ impl Model for Desk {
 }
 
 impl Desk {
+    /// The desk of a number, which has come to the log of a state and has seen no more.
+    ///
+    /// # Errors
+    ///
+    /// Memory ran out.
+    pub(crate) fn begin(who: u8, state: State) -> Result<Desk, NoMemory>
+        ensures { IfOk result (λ d. d ≡ desk_at state.dump state.log who) }
+    {
+        let seen = state.front().share()?;
+        Ok(Desk { who, seen, state })
+    }
+
     /// The analyst's number.
     pub fn who(&self) -> u8
         ensures { result ≡ self.now.who }

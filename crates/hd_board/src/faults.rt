@@ -1,6 +1,8 @@
 //! Why calls of a board and of its desks are refused.
+ghost use Rattle.std.specs.Prelude.{◌≡◌};
+
 use hd_log::Front;
-use hd_terms::Refusal;
+use hd_terms::{NoMemory, Refusal};
 
 /// Why an event isn't appended. The first reason in this order is answered.
 #[derive(Drop)]
@@ -15,6 +17,16 @@ pub enum AppendFault {
     OutOfMemory,
 }
 
+impl From<NoMemory> for AppendFault {
+    ghost use Rattle.hd_board.specs.declared.faults.AppendFault.TheVariants.{OutOfMemory};
+
+    ghost from_gives = { λ _ e. e ≡ OutOfMemory };
+
+    fn from(_error: NoMemory) -> AppendFault {
+        AppendFault::OutOfMemory
+    }
+}
+
 /// Why a look at the log isn't answered.
 #[derive(Drop)]
 pub enum LookFault {
@@ -22,6 +34,16 @@ pub enum LookFault {
     Foreign(Front),
     /// Memory ran out.
     OutOfMemory,
+}
+
+impl From<NoMemory> for LookFault {
+    ghost use Rattle.hd_board.specs.declared.faults.LookFault.TheVariants.{OutOfMemory};
+
+    ghost from_gives = { λ _ e. e ≡ OutOfMemory };
+
+    fn from(_error: NoMemory) -> LookFault {
+        LookFault::OutOfMemory
+    }
 }
 
 /// Why an edit isn't done. The first reason in this order is answered.
@@ -68,6 +90,16 @@ pub enum LearnFault {
     Apart,
     /// Memory ran out.
     OutOfMemory,
+}
+
+impl From<NoMemory> for LearnFault {
+    ghost use Rattle.hd_board.specs.declared.faults.LearnFault.TheVariants.{OutOfMemory};
+
+    ghost from_gives = { λ _ e. e ≡ OutOfMemory };
+
+    fn from(_error: NoMemory) -> LearnFault {
+        LearnFault::OutOfMemory
+    }
 }
 
 /// Why a board isn't closed with these desks. The board's log is answered.

@@ -3,6 +3,7 @@
 
 mod append;
 mod board;
+mod closing;
 mod desk;
 mod faults;
 

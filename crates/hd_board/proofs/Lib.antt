@@ -1,0 +1,3 @@
+pub mod Numbers
+pub mod Closings
+pub mod Opened
