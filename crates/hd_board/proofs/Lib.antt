@@ -1,3 +1,4 @@
 pub mod Numbers
 pub mod Closings
 pub mod Opened
+pub mod Steps

@@ -1,6 +1,7 @@
 pub mod Appends
 pub mod Replicas
 pub mod Calls
+pub mod Stepping
 pub mod Closing
 pub mod Opening
 pub mod BoardInside

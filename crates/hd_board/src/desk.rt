@@ -1,17 +1,22 @@
 //! A desk: an analyst's own replica of the dump under the board's log.
-ghost use Rattle.std.specs.Prelude.{ℕ, ◌≡◌, ◌<◌, ◌↔◌, length, IfErr, IfOk, OnErr, OnOk, IsTrue, Some};
+ghost use Rattle.std.specs.Prelude.{ℕ, ◌≡◌, ◌<◌, ◌≤◌, ◌↔◌, ◌⊎◌, List, length, take, IfErr, IfOk, OnErr, OnOk, IsTrue, Some};
+ghost use Rattle.hd_terms.specs.declared.Event.{Event as OneEvent};
 ghost use Rattle.hd_terms.specs.declared.What.TheVariants as whats;
-ghost use Rattle.hd_terms.specs.Log.{last_live};
+ghost use Rattle.hd_terms.specs.Log.{begins_with, last_live};
+ghost use Rattle.hd_terms.specs.Sessions.{with_event};
 ghost use Rattle.hd_board.specs.Replicas.{IsAt, IsBehindAt};
+ghost use Rattle.hd_board.specs.Stepping.{ComesTo, StepsOnce, Unfinishes};
 ghost use Rattle.hd_board.specs.Opening.{desk_at};
-ghost use Rattle.hd_board.specs.Calls.{Appends, Edits, IsRefreshedBy, Learns, RefusesEdit, RefusesLearn, RefusesRefresh, RefusesUndo, RefusesUndoLast};
+ghost use Rattle.hd_terms.specs.declared.errors.Refusal.{Refusal as OneRefusal};
+ghost use Rattle.hd_board.specs.declared.faults.AppendFault.TheVariants as append_faults;
+ghost use Rattle.hd_board.specs.Calls.{Appends, Edits, IsRefreshedBy, Learns, RefusesEdit, RefusesLearn, RefusesRefresh, RefusesUndo, RefusesUndoLast, seen_after};
 
 use crate::board::Board;
-use crate::faults::{EditFault, LearnFault, RefreshFault, UndoFault};
+use crate::faults::{AppendFault, EditFault, LearnFault, LookFault, RefreshFault, UndoFault};
 use hd_graph::Graph;
 use hd_log::Front;
-use hd_state::{Done, State};
-use hd_terms::{Edit, NoMemory};
+use hd_state::{Done, State, edit_refusal};
+use hd_terms::{Edit, Event, NoMemory, What};
 use std::alloc::Global;
 use std::marker::Model;
 use std::sync::Wait;
@@ -23,6 +28,13 @@ pub struct Desk {
     who: u8,
     seen: Front,
     state: State,
+}
+
+/// Why an event wasn't appended, or was and the desk couldn't come to it.
+#[derive(Drop)]
+enum Unfinished {
+    Append(AppendFault),
+    Accepted { event: u32 },
 }
 
 impl Model for Desk {
@@ -72,7 +84,8 @@ impl Desk {
 
     /// Whether the state hasn't come yet to all that was seen.
     pub fn is_behind(&self) -> bool
-        ensures { IsTrue result ↔ (length self.now.front < length self.now.seen) }
+        ensures behind { IsTrue result ↔ (length self.now.front < length self.now.seen) }
+        ensures within { begins_with self.now.seen self.now.front }
     {
         self.state.front().len() < self.seen.len()
     }
@@ -101,7 +114,94 @@ impl Desk {
         ensures ok { OnOk result (IsAt self.old self.new self.old.seen self.old.seen) }
         ensures err { OnErr result (IsBehindAt self.old self.new self.old.seen self.old.front) }
     {
-        Err(NoMemory)
+        let count = self.seen.len();
+        self.step_to(alloc, count)
+    }
+
+    /// Steps the state by the next event of what was seen, and answers what this event did. An `Err` changes nothing.
+    fn step_once(&mut self, alloc: Global) -> Result<Done, NoMemory>
+        requires { length self.old.front < length self.old.seen }
+        ensures ok { IfOk result (StepsOnce self.old self.new) }
+        ensures err { OnErr result (IsAt self.old self.new self.old.seen self.old.front) }
+    {
+        let reached = self.state.front().len();
+        let count = self.seen.len();
+        prove!(reached < count);
+        let event = self.seen.event(reached);
+        let (state, done) = self.state.step(alloc, event)?;
+        self.state = state;
+        Ok(done)
+    }
+
+    /// Steps the state to so many events of what was seen.
+    fn step_to(&mut self, alloc: Global, count: u32) -> Result<(), NoMemory>
+        requires least { length self.old.front ≤ count }
+        requires most { count ≤ length self.old.seen }
+        ensures ok { OnOk result (IsAt self.old self.new self.old.seen (take count self.old.seen)) }
+        ensures err { OnErr result (IsBehindAt self.old self.new self.old.seen self.old.front) }
+    {
+        while self.state.front().len() < count {
+            self.step_once(alloc)?;
+        }
+        Ok(())
+    }
+
+    /// Comes to a longer log, and answers what its last event did.
+    fn come_to(&mut self, alloc: Global, log: Front) -> Result<Done, NoMemory>
+        requires begins { begins_with log self.old.front }
+        requires longer { length self.old.front < length log }
+        ensures ok { IfOk result (λ done. (before : List OneEvent) (event : OneEvent) → log ≡ with_event before event → ComesTo self.old self.new before event done) }
+        ensures err { OnErr result (IsBehindAt self.old self.new log self.old.front) }
+    {
+        self.seen = log;
+        let last = self.seen.len() - 1;
+        self.step_to(alloc, last)?;
+        let done = self.step_once(alloc)?;
+        Ok(done)
+    }
+
+    /// Sees the log that an append found which was refused, where it isn't foreign. The answer is why nothing was appended:
+    /// that reason, or else that memory ran out.
+    fn see_refused(&mut self, fault: AppendFault) -> AppendFault
+        requires { (refusal : OneRefusal) (found : List OneEvent) → fault ≡ append_faults.Refused refusal found → begins_with found self.old.seen }
+        ensures at { IsAt self.old self.new (seen_after self.old.seen result) self.old.front }
+        ensures fault { (result ≡ fault) ⊎ (result ≡ append_faults.OutOfMemory) }
+    {
+        let AppendFault::Refused(refusal, found) = fault else {
+            return fault;
+        };
+        let Ok(seen) = found.share() else {
+            return AppendFault::OutOfMemory;
+        };
+        self.seen = seen;
+        AppendFault::Refused(refusal, found)
+    }
+
+    /// Appends what the analyst does to the board's log, and comes to it. What is answered is what this one event did.
+    fn append(
+        &mut self,
+        rt: &impl Wait,
+        alloc: Global,
+        board: &Board,
+        what: What,
+    ) -> Result<Done, Unfinished>
+        requires { self.old.front ≡ self.old.seen }
+        ensures ok { IfOk result (Appends board.now self.old self.new what) }
+        ensures err { IfErr result (Unfinishes board.now self.old self.new what) }
+    {
+        let event = Event {
+            who: self.who,
+            what,
+        };
+        let log = match board.append(rt, alloc, &self.seen, event) {
+            Ok(log) => log,
+            Err(fault) => return Err(Unfinished::Append(self.see_refused(fault))),
+        };
+        let number = log.len() - 1;
+        match self.come_to(alloc, log) {
+            Ok(done) => Ok(done),
+            Err(NoMemory) => Err(Unfinished::Accepted { event: number }),
+        }
     }
 
     /// Does an edit: catches up, decides by the dump whether the edit can be done, appends it to the board's log, and comes to
@@ -121,7 +221,17 @@ impl Desk {
         ensures ok { IfOk result (Edits board.now self.old self.new edit) }
         ensures err { IfErr result (RefusesEdit board.now self.old self.new edit) }
     {
-        Err(EditFault::Behind)
+        let Ok(()) = self.catch_up(alloc) else {
+            return Err(EditFault::Behind);
+        };
+        if let Some(refusal) = edit_refusal(self.graph(), edit) {
+            return Err(EditFault::Refused(refusal));
+        }
+        match self.append(rt, alloc, board, What::Do(edit)) {
+            Ok(done) => Ok(done),
+            Err(Unfinished::Append(fault)) => Err(EditFault::Append(fault)),
+            Err(Unfinished::Accepted { event }) => Err(EditFault::Accepted { event }),
+        }
     }
 
     /// Takes back the event of a number, which has to be a live edit of this analyst.
@@ -139,7 +249,14 @@ impl Desk {
         ensures ok { IfOk result (Appends board.now self.old self.new (whats.Undo k)) }
         ensures err { IfErr result (RefusesUndo board.now self.old self.new k) }
     {
-        Err(UndoFault::Behind)
+        let Ok(()) = self.catch_up(alloc) else {
+            return Err(UndoFault::Behind);
+        };
+        match self.append(rt, alloc, board, What::Undo(k)) {
+            Ok(done) => Ok(done),
+            Err(Unfinished::Append(fault)) => Err(UndoFault::Append(fault)),
+            Err(Unfinished::Accepted { event }) => Err(UndoFault::Accepted { event }),
+        }
     }
 
     /// Takes back this analyst's last live edit of what was seen.
@@ -156,7 +273,14 @@ impl Desk {
         ensures ok { IfOk result (λ done. (k : ℕ) × (last_live self.old.seen self.old.who ≡ Some k) × Appends board.now self.old self.new (whats.Undo k) done) }
         ensures err { IfErr result (RefusesUndoLast board.now self.old self.new (last_live self.old.seen self.old.who)) }
     {
-        Err(UndoFault::Behind)
+        let Ok(()) = self.catch_up(alloc) else {
+            return Err(UndoFault::Behind);
+        };
+        let Some(k) = self.seen.last_live(self.who) else {
+            return Err(UndoFault::NothingToUndo);
+        };
+        let done = self.undo(rt, alloc, board, k)?;
+        Ok(done)
     }
 
     /// Looks at the board's log and comes to it.
@@ -173,7 +297,15 @@ impl Desk {
         ensures ok { OnOk result (IsRefreshedBy board.now self.old self.new) }
         ensures err { IfErr result (RefusesRefresh board.now self.old self.new) }
     {
-        Err(RefreshFault::OutOfMemory)
+        match board.look(rt, &self.seen, self.who) {
+            Ok(found) => self.seen = found,
+            Err(LookFault::Foreign(found)) => return Err(RefreshFault::Foreign(found)),
+            Err(LookFault::OutOfMemory) => return Err(RefreshFault::OutOfMemory),
+        }
+        let Ok(()) = self.catch_up(alloc) else {
+            return Err(RefreshFault::Behind);
+        };
+        Ok(())
     }
 
     /// Learns of a log that another desk has seen: one that continues what this desk has seen becomes what it has seen, and a
@@ -186,6 +318,13 @@ impl Desk {
         ensures ok { OnOk result (Learns self.old self.new told.now) }
         ensures err { IfErr result (RefusesLearn self.old self.new told.now) }
     {
-        Err(LearnFault::OutOfMemory)
+        if self.seen.begins_with(told) {
+            return Ok(());
+        }
+        if !told.begins_with(&self.seen) || !told.same_own(&self.seen, self.who) {
+            return Err(LearnFault::Apart);
+        }
+        self.seen = told.share()?;
+        Ok(())
     }
 }
