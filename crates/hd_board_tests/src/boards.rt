@@ -1,5 +1,5 @@
 //! Boards over the two arrays, and what their desks answer, in forms that a test compares.
-use hd_board::{AppendFault, Board, Desk, EditFault, UndoFault, open};
+use hd_board::{AppendFault, Board, CloseFault, Desk, EditFault, UndoFault, open};
 use hd_state_tests::dumps::{TWO_ARRAYS, graph_of};
 use hd_terms::{Edit, Refusal, Slot, Strength};
 use std::alloc::Global;
@@ -53,4 +53,13 @@ pub fn undo<R: Wait>(
 pub fn strength_at(desk: &Desk, id: u64) -> Option<Strength> {
     let o = desk.graph().index_of(id)?;
     Some(desk.state().strength(o))
+}
+
+/// How many events the log of a board has that is closed with some desks, or whether one is missing where it can't be closed.
+pub fn closed(board: Board, desks: &[Desk]) -> Result<u32, bool> {
+    match board.close(desks) {
+        Ok(log) => Ok(log.len()),
+        Err(CloseFault::MissingDesk(_)) => Err(true),
+        Err(CloseFault::Mismatch(_)) => Err(false),
+    }
 }

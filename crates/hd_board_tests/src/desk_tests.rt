@@ -1,6 +1,6 @@
 //! Two desks in one thread: whose edits they may take back, what they learn of one another, and how a board is closed.
-use crate::boards::{Answer, CUT, edit, strength_at, two_desks, undo};
-use hd_board::{Board, CloseFault, Desk, LearnFault, RefreshFault};
+use crate::boards::{Answer, CUT, closed, edit, strength_at, two_desks, undo};
+use hd_board::{Board, Desk, LearnFault, RefreshFault};
 use hd_terms::{Edit, LogFault, Refusal, Strength};
 use std::alloc::Global;
 use std::sync::Wait;
@@ -91,7 +91,10 @@ fn add_by_first<R: Wait>(rt: &R, alloc: Global, board: &Board, desks: &mut [Desk
 /// Whether a desk answers that what another has seen stands apart, and that another's board is foreign.
 fn is_apart<R: Wait>(rt: &R, alloc: Global, desk: &mut Desk, other: &Board, told: &Desk) -> bool {
     let apart = matches!(desk.learn(told.seen()), Err(LearnFault::Apart));
-    let foreign = matches!(desk.refresh(rt, alloc, other), Err(RefreshFault::Foreign(_)));
+    let foreign = matches!(
+        desk.refresh(rt, alloc, other),
+        Err(RefreshFault::Foreign(_))
+    );
     apart && foreign
 }
 
@@ -114,24 +117,22 @@ fn boards_stand_apart(rt: HostRuntime) -> Result<(), Fail> {
     Ok(())
 }
 
-/// How many events the log of a closed board has, or whether a desk is missing.
-fn closed(board: Board, desks: &[Desk]) -> Result<u32, bool> {
-    match board.close(desks) {
-        Ok(log) => Ok(log.len()),
-        Err(CloseFault::MissingDesk(_)) => Err(true),
-        Err(CloseFault::Mismatch(_)) => Err(false),
-    }
-}
-
 /// A board closed with so many of its two desks.
-fn closed_with_some<R: Threads + Sync>(rt: &R, alloc: Global, n: usize) -> Option<Result<u32, bool>> {
+fn closed_with_some<R: Threads + Sync>(
+    rt: &R,
+    alloc: Global,
+    n: usize,
+) -> Option<Result<u32, bool>> {
     let (board, desks) = two_desks(rt, alloc)?;
     let some = desks.as_slice().get(..n)?;
     Some(closed(board, some))
 }
 
 /// A board closed with the desks of another board, the first of which has added a root.
-fn closed_with_others<R: Threads + Wait + Sync>(rt: &R, alloc: Global) -> Option<Result<u32, bool>> {
+fn closed_with_others<R: Threads + Wait + Sync>(
+    rt: &R,
+    alloc: Global,
+) -> Option<Result<u32, bool>> {
     let (board, _) = two_desks(rt, alloc)?;
     let (other, mut others) = two_desks(rt, alloc)?;
     add_by_first(rt, alloc, &other, others.as_mut_slice())?.ok()?;

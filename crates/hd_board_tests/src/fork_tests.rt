@@ -1,6 +1,6 @@
 //! A private board: it begins at the log of a desk's state, and leaves that desk and its board as they are.
-use crate::boards::{Answer, CUT, edit, strength_at, two_desks, undo};
-use hd_board::{Board, CloseFault, Desk};
+use crate::boards::{Answer, CUT, closed, edit, strength_at, two_desks, undo};
+use hd_board::{Board, Desk};
 use hd_terms::{Edit, LogFault, Refusal, Strength};
 use std::alloc::Global;
 use std::sync::Wait;
@@ -8,7 +8,10 @@ use std::test::Fail;
 use std::thread::Threads;
 
 /// A board on which the first desk has cut and the second is refreshed.
-fn cut_and_refreshed<R: Threads + Wait + Sync>(rt: &R, alloc: Global) -> Option<(Board, Vec<Desk>)> {
+fn cut_and_refreshed<R: Threads + Wait + Sync>(
+    rt: &R,
+    alloc: Global,
+) -> Option<(Board, Vec<Desk>)> {
     let (board, mut desks) = two_desks(rt, alloc)?;
     let (first, second) = desks.as_mut_slice().split_first_mut()?;
     edit(rt, alloc, &board, first, CUT)?.ok()?;
@@ -35,33 +38,46 @@ fn forked_desk(rt: HostRuntime) -> Result<(), Fail> {
     assert!(rt; answers == [not_yours, Some(Ok((1, 0, 0))), Some(Ok((2, 0, 1)))]);
     assert!(rt; strength_at(&desk, 2) == Some(Strength::Strong));
     assert!(rt; strength_at(forked, 2) == Some(Strength::Unreachable));
-    assert!(rt; matches!(board.close(desks.as_slice()), Ok(log) if log.len() == 1));
+    assert!(rt; closed(board, desks.as_slice()) == Ok(1));
     Ok(())
 }
 
-/// The private board of the second desk, after a cut by its own desk, closed with that desk, with the desk that was forked, or
-/// with none.
-fn closed_with<R: Threads + Wait + Sync>(rt: &R, alloc: Global, which: u8) -> Option<Result<u32, bool>> {
+/// The private board of the second desk, after a cut by its own desk; that desk; and the desks of the first board.
+fn private_board<R: Threads + Wait + Sync>(
+    rt: &R,
+    alloc: Global,
+) -> Option<(Board, Desk, Vec<Desk>)> {
     let (_, desks) = cut_and_refreshed(rt, alloc)?;
-    let forked = desks.as_slice().get(1..)?;
-    let (private, mut desk) = Board::fork(forked.first()?).ok()?;
+    let (private, mut desk) = Board::fork(desks.as_slice().get(1)?).ok()?;
     edit(rt, alloc, &private, &mut desk, CUT)?.ok()?;
-    let closed = match which {
-        0 => private.close(&[desk]),
-        1 => private.close(forked),
-        _ => private.close(&[]),
-    };
-    Some(match closed {
-        Ok(log) => Ok(log.len()),
-        Err(CloseFault::MissingDesk(_)) => Err(true),
-        Err(CloseFault::Mismatch(_)) => Err(false),
-    })
+    Some((private, desk, desks))
+}
+
+/// The private board closed with its own desk.
+fn closed_with_its_own<R: Threads + Wait + Sync>(
+    rt: &R,
+    alloc: Global,
+) -> Option<Result<u32, bool>> {
+    let (private, desk, _desks) = private_board(rt, alloc)?;
+    let own = [desk];
+    Some(closed(private, &own))
+}
+
+/// The private board closed with the desk that was forked, or with none.
+fn closed_with_forked<R: Threads + Wait + Sync>(
+    rt: &R,
+    alloc: Global,
+    first: usize,
+) -> Option<Result<u32, bool>> {
+    let (private, _desk, desks) = private_board(rt, alloc)?;
+    let some = desks.as_slice().get(first..)?;
+    Some(closed(private, some))
 }
 
 #[test]
 fn close_of_a_private_board(rt: HostRuntime) -> Result<(), Fail> {
-    assert!(rt; closed_with(&rt, rt.alloc(), 0) == Some(Ok(2)));
-    assert!(rt; closed_with(&rt, rt.alloc(), 1) == Some(Err(false)));
-    assert!(rt; closed_with(&rt, rt.alloc(), 2) == Some(Err(true)));
+    assert!(rt; closed_with_its_own(&rt, rt.alloc()) == Some(Ok(2)));
+    assert!(rt; closed_with_forked(&rt, rt.alloc(), 1) == Some(Err(false)));
+    assert!(rt; closed_with_forked(&rt, rt.alloc(), 2) == Some(Err(true)));
     Ok(())
 }

@@ -15,7 +15,8 @@ use std::thread;
 use std::thread::Threads;
 
 /// Eight arrays with many references among them, and roots on two of them.
-const DENSE: &str = "ids 4\nsegment\nroot 1\nroot 4\narray 1: 2 3 5\narray 2: 3 1 4\narray 3: 4 4 6\narray 4: 5 2 0\n\
+const DENSE: &str =
+    "ids 4\nsegment\nroot 1\nroot 4\narray 1: 2 3 5\narray 2: 3 1 4\narray 3: 4 4 6\narray 4: 5 2 0\n\
     array 5: 1 6 7\narray 6: 7 3 8\narray 7: 8 8 1\narray 8: 5 2 3\n";
 
 /// The next of a row of random numbers (Marsaglia's xorshift with 64 bits).
@@ -46,7 +47,13 @@ fn random_call<R: Wait>(rt: &R, alloc: Global, board: &Board, desk: &mut Desk, x
 }
 
 /// A hundred random calls of a desk. Those that are answered otherwise than by a desk of the board's own are counted.
-fn hundred_calls<R: Wait>(rt: &R, alloc: Global, board: &Board, desk: &mut Desk, wrong: &AtomicU64) {
+fn hundred_calls<R: Wait>(
+    rt: &R,
+    alloc: Global,
+    board: &Board,
+    desk: &mut Desk,
+    wrong: &AtomicU64,
+) {
     let mut x = next_random(0x9E37_79B9_7F4A_7C15 ^ u64::from(desk.who()));
     for _ in 0..100u32 {
         x = next_random(x);
@@ -113,14 +120,22 @@ fn sixteen_threads(rt: HostRuntime) -> Result<(), Fail> {
     let graph = graph_of(&rt, alloc, DENSE).ok_or("the dump opens")?;
     let (board, mut desks) = sixteen_desks(alloc, &graph).ok_or("the board opens")?;
     let wrong = AtomicU64::new(0);
-    thread::for_each_mut(&rt, desks.as_mut_slice(), 16, &|_, desk| {
-        hundred_calls(&rt, alloc, &board, desk, &wrong)
-    });
+    thread::for_each_mut(
+        &rt,
+        desks.as_mut_slice(),
+        16,
+        &|_, desk| { hundred_calls(&rt, alloc, &board, desk, &wrong) },
+    );
     assert_eq!(rt; wrong.load(Ordering::SeqCst), 0);
     let log = last_log(&rt, alloc, &board, desks.as_mut_slice()).ok_or("the log is seen")?;
-    let agreeing = agreeing(&rt, alloc, &board, desks.as_mut_slice(), &graph, &log).ok_or("memory")?;
+    let agreeing = agreeing(&rt, alloc, &board, desks.as_mut_slice(), &graph, &log).ok_or(
+        "memory",
+    )?;
     assert_eq!(rt; agreeing, 16);
-    let closed = board.close(desks.as_slice()).ok().ok_or("the board closes")?;
+    let closed = board
+        .close(desks.as_slice())
+        .ok()
+        .ok_or("the board closes")?;
     assert!(rt; closed.begins_with(&log) && log.begins_with(&closed));
     assert!(rt; closed.len() > 800);
     Ok(())

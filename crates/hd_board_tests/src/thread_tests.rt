@@ -51,12 +51,21 @@ fn two_threads_cut_and_undo(rt: HostRuntime) -> Result<(), Fail> {
     let (board, mut desks) = two_desks(&rt, rt.alloc()).ok_or("the board opens")?;
     let done = AtomicU64::new(0);
     let alloc = rt.alloc();
-    thread::for_each_mut(&rt, desks.as_mut_slice(), 2, &|_, desk| {
-        cut_and_undo(&rt, alloc, &board, desk, &done)
-    });
+    thread::for_each_mut(
+        &rt,
+        desks.as_mut_slice(),
+        2,
+        &|_, desk| { cut_and_undo(&rt, alloc, &board, desk, &done) },
+    );
     assert_eq!(rt; done.load(Ordering::SeqCst), 200);
-    assert_eq!(rt; strong_after_refresh(&rt, alloc, &board, desks.as_mut_slice()), 2);
-    let log = board.close(desks.as_slice()).ok().ok_or("the board closes")?;
+    assert_eq!(rt;
+        strong_after_refresh(&rt, alloc, &board, desks.as_mut_slice()),
+        2
+    );
+    let log = board
+        .close(desks.as_slice())
+        .ok()
+        .ok_or("the board closes")?;
     assert_eq!(rt; log.len(), 200);
     assert_eq!(rt; events_of(&log, 0), 100);
     assert_eq!(rt; events_of(&log, 1), 100);
@@ -83,11 +92,17 @@ fn four_desks_add(rt: HostRuntime) -> Result<(), Fail> {
     let (board, mut desks) = four_desks(&rt, rt.alloc()).ok_or("the board opens")?;
     let done = AtomicU64::new(0);
     let alloc = rt.alloc();
-    thread::for_each_mut(&rt, desks.as_mut_slice(), 4, &|_, desk| {
-        add_ten(&rt, alloc, &board, desk, &done)
-    });
+    thread::for_each_mut(
+        &rt,
+        desks.as_mut_slice(),
+        4,
+        &|_, desk| { add_ten(&rt, alloc, &board, desk, &done) },
+    );
     assert_eq!(rt; done.load(Ordering::SeqCst), 40);
-    let log = board.close(desks.as_slice()).ok().ok_or("the board closes")?;
+    let log = board
+        .close(desks.as_slice())
+        .ok()
+        .ok_or("the board closes")?;
     assert_eq!(rt; log.len(), 40);
     for who in 0..4u8 {
         assert_eq!(rt; events_of(&log, who), 10);
