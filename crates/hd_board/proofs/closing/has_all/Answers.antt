@@ -1,4 +1,4 @@
-use Rattle.std.proofs.Common.{◌+◌, ◌-◌, arith}
+use Rattle.std.proofs.Common.{◌+◌, arith}
 use Rattle.hd_board.proofs.Numbers.{is_number}
 use Rattle.hd_board.proofs.Closings.{one_more_has, all_have}
 use Rattle.hd_board.proofs.closing.has_all.Goals as goal

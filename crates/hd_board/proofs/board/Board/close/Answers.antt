@@ -1,4 +1,4 @@
-use Rattle.std.proofs.Common.{◌≡◌, ℕ, List, map, drop, length, inr, subst, sym}
+use Rattle.std.proofs.Common.{◌≡◌, ℕ, List, map, drop, inr, subst, sym}
 use Rattle.std.specs.List.{All}
 use Rattle.hd_terms.specs.declared.Event.{Event}
 use Rattle.hd_terms.specs.Schedule.{Board, AreMembers, Closes}
