@@ -1,5 +1,5 @@
 -- A desk's state on the way to what the desk has seen.
-use Rattle.std.proofs.Common.{◌≡◌, ◌∙◌, ℕ, ◌+◌, ◌-◌, ◌<◌, ◌≤◌, List, [], ◌∷◌, ◌++◌, length, take, drop, length-append, Option, None, Some, Result, slice_get, subst, refl, sym, ap, arith}
+use Rattle.std.proofs.Common.{◌≡◌, ◌∙◌, ℕ, ◌+◌, ◌<◌, ◌≤◌, List, [], ◌∷◌, ◌++◌, length, take, drop, length-append, Option, None, Some, Result, slice_get, subst, refl, sym, ap, arith}
 use Rattle.std.specs.Result.{IsErr, OnErr}
 use Rattle.std.proofs.lemmas.Result.{MatchResult-from_err}
 use Rattle.std.proofs.lemmas.List.{length-take-le, take-append-drop}
@@ -9,7 +9,7 @@ use Rattle.hd_terms.specs.Dump.{Dump}
 use Rattle.hd_terms.specs.declared.errors.LogFault.{LogFault}
 use Rattle.hd_terms.specs.Log.{IsEvent, IsLawful, begins_with, log_fault}
 use Rattle.hd_terms.specs.Sessions.{with_event}
-use Rattle.hd_terms.proofs.Beginnings.{begins_itself, begins_trans, begins_length, begins_shorter, begins_next, lawful_beginning}
+use Rattle.hd_terms.proofs.Beginnings.{begins_itself, begins_trans, begins_shorter, begins_next, lawful_beginning}
 use Rattle.hd_terms.proofs.LawfulLogs.{refuses, get-last}
 use Rattle.hd_state.specs.declared.state.Done.{Done}
 use Rattle.hd_state.specs.Done.{IsDone}
@@ -89,7 +89,9 @@ pub arrives : (old mid : Replica) (count : ℕ) → IsOnTheWay old mid count →
 arrives old mid count way within le =
     let len : length mid.front ≡ count = omega (arith, way.most) in
     record {
-      who = way.at.who; dump = way.at.dump; seen = way.at.seen;
+      who = way.at.who;
+      dump = way.at.dump;
+      seen = way.at.seen;
       front = front_of mid.seen mid.front count within len ∙ ap (take count) way.at.seen;
     }
 

@@ -1,12 +1,12 @@
 -- What the calls of a desk answer, and what they leave.
 -- Source: this project.
-use Rattle.std.specs.Prelude.{◌≡◌, ℕ, ◌⊎◌, List, [], ◌∷◌, ◌++◌, length, Option, None, Some}
+use Rattle.std.specs.Prelude.{◌≡◌, ℕ, ◌⊎◌, List, length, Option, None, Some}
 use Rattle.hd_terms.specs.declared.Edit.{Edit}
 use Rattle.hd_terms.specs.declared.Event.{Event}
 use Rattle.hd_terms.specs.declared.What.{What}
 use Rattle.hd_terms.specs.declared.What.TheVariants as whats
 use Rattle.hd_terms.specs.Asking.{edit_refusal}
-use Rattle.hd_terms.specs.Log.{begins_with, last_live}
+use Rattle.hd_terms.specs.Log.{begins_with}
 use Rattle.hd_terms.specs.Desks.{Continues, IsForeign, IsApart}
 use Rattle.hd_terms.specs.Schedule.{Board}
 use Rattle.hd_terms.specs.Sessions.{event_by, with_event}

@@ -1,6 +1,6 @@
 -- How a desk's state comes to what the desk has seen.
 -- Source: this project.
-use Rattle.std.specs.Prelude.{◌≡◌, ℕ, List, length}
+use Rattle.std.specs.Prelude.{List, length}
 use Rattle.hd_terms.specs.declared.Event.{Event}
 use Rattle.hd_terms.specs.declared.What.{What}
 use Rattle.hd_terms.specs.Log.{IsEvent}

@@ -30,10 +30,12 @@ pub struct Desk {
     state: State,
 }
 
-/// Why an event wasn't appended, or was and the desk couldn't come to it.
+/// Why the desk hasn't come to an event that it asked for.
 #[derive(Drop)]
 enum Unfinished {
+    /// The event isn't appended.
     Append(AppendFault),
+    /// It is the event of this number, but memory ran out as the desk caught up with it.
     Accepted { event: u32 },
 }
 
@@ -116,92 +118,6 @@ impl Desk {
     {
         let count = self.seen.len();
         self.step_to(alloc, count)
-    }
-
-    /// Steps the state by the next event of what was seen, and answers what this event did. An `Err` changes nothing.
-    fn step_once(&mut self, alloc: Global) -> Result<Done, NoMemory>
-        requires { length self.old.front < length self.old.seen }
-        ensures ok { IfOk result (StepsOnce self.old self.new) }
-        ensures err { OnErr result (IsAt self.old self.new self.old.seen self.old.front) }
-    {
-        let reached = self.state.front().len();
-        let count = self.seen.len();
-        prove!(reached < count);
-        let event = self.seen.event(reached);
-        let (state, done) = self.state.step(alloc, event)?;
-        self.state = state;
-        Ok(done)
-    }
-
-    /// Steps the state to so many events of what was seen.
-    fn step_to(&mut self, alloc: Global, count: u32) -> Result<(), NoMemory>
-        requires least { length self.old.front ≤ count }
-        requires most { count ≤ length self.old.seen }
-        ensures ok { OnOk result (IsAt self.old self.new self.old.seen (take count self.old.seen)) }
-        ensures err { OnErr result (IsBehindAt self.old self.new self.old.seen self.old.front) }
-    {
-        while self.state.front().len() < count {
-            self.step_once(alloc)?;
-        }
-        Ok(())
-    }
-
-    /// Comes to a longer log, and answers what its last event did.
-    fn come_to(&mut self, alloc: Global, log: Front) -> Result<Done, NoMemory>
-        requires begins { begins_with log self.old.front }
-        requires longer { length self.old.front < length log }
-        ensures ok { IfOk result (λ done. (before : List OneEvent) (event : OneEvent) → log ≡ with_event before event → ComesTo self.old self.new before event done) }
-        ensures err { OnErr result (IsBehindAt self.old self.new log self.old.front) }
-    {
-        self.seen = log;
-        let last = self.seen.len() - 1;
-        self.step_to(alloc, last)?;
-        let done = self.step_once(alloc)?;
-        Ok(done)
-    }
-
-    /// Sees the log that an append found which was refused, where it isn't foreign. The answer is why nothing was appended:
-    /// that reason, or else that memory ran out.
-    fn see_refused(&mut self, fault: AppendFault) -> AppendFault
-        requires { (refusal : OneRefusal) (found : List OneEvent) → fault ≡ append_faults.Refused refusal found → begins_with found self.old.seen }
-        ensures at { IsAt self.old self.new (seen_after self.old.seen result) self.old.front }
-        ensures fault { (result ≡ fault) ⊎ (result ≡ append_faults.OutOfMemory) }
-    {
-        let AppendFault::Refused(refusal, found) = fault else {
-            return fault;
-        };
-        let Ok(seen) = found.share() else {
-            return AppendFault::OutOfMemory;
-        };
-        self.seen = seen;
-        AppendFault::Refused(refusal, found)
-    }
-
-    /// Appends what the analyst does to the board's log, and comes to it. What is answered is what this one event did.
-    fn append(
-        &mut self,
-        rt: &impl Wait,
-        alloc: Global,
-        board: &Board,
-        what: What,
-    ) -> Result<Done, Unfinished>
-        requires { self.old.front ≡ self.old.seen }
-        ensures ok { IfOk result (Appends board.now self.old self.new what) }
-        ensures err { IfErr result (Unfinishes board.now self.old self.new what) }
-    {
-        let event = Event {
-            who: self.who,
-            what,
-        };
-        let log = match board.append(rt, alloc, &self.seen, event) {
-            Ok(log) => log,
-            Err(fault) => return Err(Unfinished::Append(self.see_refused(fault))),
-        };
-        let number = log.len() - 1;
-        match self.come_to(alloc, log) {
-            Ok(done) => Ok(done),
-            Err(NoMemory) => Err(Unfinished::Accepted { event: number }),
-        }
     }
 
     /// Does an edit: catches up, decides by the dump whether the edit can be done, appends it to the board's log, and comes to
@@ -326,5 +242,107 @@ impl Desk {
         }
         self.seen = told.share()?;
         Ok(())
+    }
+
+    /// Appends what the analyst does to the board's log, and comes to it. What is answered is what this one event did.
+    ///
+    /// # Errors
+    ///
+    /// Why the desk hasn't come to the event. The state is where it was, or nearer to the event.
+    fn append(
+        &mut self,
+        rt: &impl Wait,
+        alloc: Global,
+        board: &Board,
+        what: What,
+    ) -> Result<Done, Unfinished>
+        requires { self.old.front ≡ self.old.seen }
+        ensures ok { IfOk result (Appends board.now self.old self.new what) }
+        ensures err { IfErr result (Unfinishes board.now self.old self.new what) }
+    {
+        let event = Event {
+            who: self.who,
+            what,
+        };
+        let log = match board.append(rt, alloc, &self.seen, event) {
+            Ok(log) => log,
+            Err(fault) => return Err(Unfinished::Append(self.see_refused(fault))),
+        };
+        let number = log.len() - 1;
+        match self.come_to(alloc, log) {
+            Ok(done) => Ok(done),
+            Err(NoMemory) => Err(Unfinished::Accepted { event: number }),
+        }
+    }
+
+    /// Sees the log that a refused append has found, where it isn't foreign. Answers why nothing is appended: that reason, or
+    /// else that memory ran out.
+    fn see_refused(&mut self, fault: AppendFault) -> AppendFault
+        requires { (refusal : OneRefusal) (found : List OneEvent) → fault ≡ append_faults.Refused refusal found → begins_with found self.old.seen }
+        ensures at { IsAt self.old self.new (seen_after self.old.seen result) self.old.front }
+        ensures fault { (result ≡ fault) ⊎ (result ≡ append_faults.OutOfMemory) }
+    {
+        let AppendFault::Refused(refusal, found) = fault else {
+            return fault;
+        };
+        let Ok(seen) = found.share() else {
+            return AppendFault::OutOfMemory;
+        };
+        self.seen = seen;
+        AppendFault::Refused(refusal, found)
+    }
+
+    /// Sees a longer log and steps the state to it. Answers what its last event did.
+    ///
+    /// # Errors
+    ///
+    /// Memory ran out. The log is seen, and the state stays at the last event that it came to.
+    fn come_to(&mut self, alloc: Global, log: Front) -> Result<Done, NoMemory>
+        requires begins { begins_with log self.old.front }
+        requires longer { length self.old.front < length log }
+        ensures ok { IfOk result (λ done. (before : List OneEvent) (event : OneEvent) → log ≡ with_event before event → ComesTo self.old self.new before event done) }
+        ensures err { OnErr result (IsBehindAt self.old self.new log self.old.front) }
+    {
+        self.seen = log;
+        let last = self.seen.len() - 1;
+        self.step_to(alloc, last)?;
+        let done = self.step_once(alloc)?;
+        Ok(done)
+    }
+
+    /// Steps the state to so many events of what was seen.
+    ///
+    /// # Errors
+    ///
+    /// Memory ran out. The state stays at the last event that it came to.
+    fn step_to(&mut self, alloc: Global, count: u32) -> Result<(), NoMemory>
+        requires least { length self.old.front ≤ count }
+        requires most { count ≤ length self.old.seen }
+        ensures ok { OnOk result (IsAt self.old self.new self.old.seen (take count self.old.seen)) }
+        ensures err { OnErr result (IsBehindAt self.old self.new self.old.seen self.old.front) }
+    {
+        while self.state.front().len() < count {
+            self.step_once(alloc)?;
+        }
+        Ok(())
+    }
+
+    /// Steps the state by the next event of what was seen, and answers what this event did.
+    ///
+    /// # Errors
+    ///
+    /// Memory ran out. The desk is as it was.
+    fn step_once(&mut self, alloc: Global) -> Result<Done, NoMemory>
+        requires { length self.old.front < length self.old.seen }
+        ensures ok { IfOk result (StepsOnce self.old self.new) }
+        ensures err { OnErr result (IsAt self.old self.new self.old.seen self.old.front) }
+    {
+        let reached = self.state.front().len();
+        let count = self.seen.len();
+        prove!(reached < count);
+        let event = self.seen.event(reached);
+        let (state, done) = self.state.step(alloc, event)?;
+        self.state = state;
+        Ok(done)
     }
 }

@@ -1,8 +1,7 @@
 use Rattle.std.proofs.Common.{◌∙◌, length, subst, sym, ap}
-use Rattle.hd_terms.specs.declared.Event.{Event}
 use Rattle.hd_terms.specs.Log.{begins_with}
 use Rattle.hd_terms.proofs.Beginnings.{begins_next}
-use Rattle.std.proofs.Common.{slice_get, ℕ}
+use Rattle.std.proofs.Common.{slice_get}
 use Rattle.hd_board.proofs.Steps.{takes_next}
 use Rattle.hd_board.proofs.desk.Desk.step_once.Goals as goal
 

@@ -1,4 +1,4 @@
-use Rattle.std.proofs.Common.{◌≡◌, ◌∙◌, ◌<◌, ap, sym, length, arith}
+use Rattle.std.proofs.Common.{◌∙◌, ◌<◌, ap, length, arith}
 use Rattle.hd_board.specs.Replicas.{Replica}
 use Rattle.hd_board.proofs.Steps.{sets_out, goes_on}
 use Rattle.hd_board.proofs.desk.Desk.step_to.Goals as goal

@@ -1,4 +1,4 @@
-use Rattle.std.proofs.Common.{ℕ, ◌-◌, ◌≤◌, length}
+use Rattle.std.proofs.Common.{◌-◌, length}
 use Rattle.hd_board.proofs.Steps.{IsOnTheWay}
 use Rattle.hd_board.proofs.desk.Desk.step_to.Given as goal
 
