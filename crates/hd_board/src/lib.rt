@@ -6,6 +6,7 @@ mod board;
 mod closing;
 mod desk;
 mod faults;
+mod laws;
 
 pub use append::append_to;
 pub use board::{Board, open};
@@ -13,3 +14,4 @@ pub use desk::Desk;
 pub use faults::{
     AppendFault, CloseFault, EditFault, LearnFault, LookFault, RefreshFault, UndoFault,
 };
+pub use laws::answers_are_steps;
