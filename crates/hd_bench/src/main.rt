@@ -1,14 +1,18 @@
 //! Opens a dump and answers the strength of one object, for measuring: `hd_bench FILE ID WORKERS`. With a fourth word, as in
-//! `hd_bench FILE ID 4 edits`, it also cuts the object's first reference to an object, and takes that back.
+//! `hd_bench FILE ID 4 edits`, it also cuts the object's first reference to an object, and takes that back. With the fourth
+//! word `boards` it opens a board of as many desks as the fifth says and appends to it instead (`boards.rt`).
 //!
 //! It prints the objects and roots of the dump, the strength, what fell and came back, and the microseconds that each
 //! part took. Without words it does nothing.
 #![tactic(auto)]
 
+mod boards;
+
 ghost use Rattle.std.specs.Prelude.{IfOk};
 ghost use Rattle.hd_terms.specs.Workers.{IsWorkers};
 
 use anyhow::{Context, Result, anyhow};
+use boards::measure_boards;
 use hd_decode::NoGate;
 use hd_graph::{Graph, open_dump};
 use hd_records::check_size;
@@ -18,6 +22,7 @@ use std::env;
 use std::fs::{self, File};
 use std::io::Read;
 use std::rt::{Clock, Env, Files};
+use std::sync::Arc;
 use std::thread::Threads;
 use std::time::Instant;
 
@@ -53,7 +58,7 @@ fn workers_of(word: &str) -> Result<u32>
 }
 
 /// What took how long since a moment; answers the moment now.
-fn lap(rt: &(impl Print + Clock), name: &str, start: Instant) -> Result<Instant> {
+pub(crate) fn lap(rt: &(impl Print + Clock), name: &str, start: Instant) -> Result<Instant> {
     let micros = start.elapsed(rt)?.as_micros();
     println!(rt; "{name} {micros}")?;
     Ok(Instant::now(rt)?)
@@ -113,12 +118,12 @@ fn cut_and_undo<R: Clock + Print + AllocGlobal>(rt: &R, state: &State, id: u64) 
     Ok(())
 }
 
-/// Opens a dump and computes the strengths of its objects.
-fn opened<R: Files<File = File> + Clock + Print + AllocGlobal + Threads + Sync>(
+/// Opens a dump.
+fn open_file<R: Files<File = File> + Clock + Print + AllocGlobal + Threads + Sync>(
     rt: &R,
     path: &str,
     workers: u32,
-) -> Result<State>
+) -> Result<Arc<Graph>>
     requires workers { IsWorkers workers }
 {
     let start = Instant::now(rt)?;
@@ -134,9 +139,15 @@ fn opened<R: Files<File = File> + Clock + Print + AllocGlobal + Threads + Sync>(
     )
     .map_err(|fault| anyhow!("{fault:?}"))?;
     drop(bytes);
-    let opened = lap(rt, "open", read)?;
+    let _opened = lap(rt, "open", read)?;
+    Ok(graph)
+}
+
+/// Computes the strengths of a graph's objects.
+fn solved<R: Clock + Print + AllocGlobal>(rt: &R, graph: Arc<Graph>) -> Result<State> {
+    let start = Instant::now(rt)?;
     let state = State::open(rt.alloc(), graph).map_err(|_| anyhow!("out of memory"))?;
-    let _done = lap(rt, "strengths", opened)?;
+    let _done = lap(rt, "strengths", start)?;
     Ok(state)
 }
 
@@ -148,9 +159,14 @@ fn main(rt: HostRuntime) -> Result<()> {
     };
     let id = id_of(id.as_str())?;
     let workers = workers_of(workers.as_str())?;
-    let state = opened(&rt, path.as_str(), workers)?;
+    let graph = open_file(&rt, path.as_str(), workers)?;
+    let what = words.next();
+    if let Some(desks) = words.next() {
+        return measure_boards(&rt, graph, id, desks.as_str());
+    }
+    let state = solved(&rt, graph)?;
     answer(&rt, &state, id)?;
-    if words.next().is_some() {
+    if what.is_some() {
         cut_and_undo(&rt, &state, id)?;
     }
     Ok(())
