@@ -24,10 +24,7 @@ no_fault front e (Some f) is law = absurd (refuses front e f is law)
 pub takes_next : (log front : List Event) (e : Event) → IsLawful log → begins_with log front → IsEvent log (length front) e → log_fault front e ≡ None
 takes_next log front e law begins next = no_fault front e (log_fault front e) refl (lawful_beginning log (with_event front e) (begins_next log front e begins next) law)
 
--- beginnings by their length
-pub front_of : (log front : List Event) (n : ℕ) → begins_with log front → length front ≡ n → front ≡ take n log
-front_of log front n begins len = sym (ap (take n) begins.1 ∙ (ap (λ (k : ℕ). take k (front ++ begins.0)) (sym len) ∙ take-append_seam front begins.0))
-
+-- beginnings of a log
 pub begins_take : (log : List Event) (n : ℕ) → begins_with log (take n log)
 begins_take log n = (drop n log, sym (take-append-drop n log))
 
@@ -71,28 +68,6 @@ goes_on old mid new count done way lt step =
       at = record { who = step.at.who ∙ way.at.who; dump = step.at.dump ∙ way.at.dump; seen = step.at.seen ∙ way.at.seen; front = refl };
       reached = begins_trans new.front mid.front old.front longer way.reached;
       most = omega (arith, len);
-    }
-
-pub stops : (old mid new : Replica) (count : ℕ) → IsOnTheWay old mid count → begins_with mid.seen mid.front → length mid.front < count → count ≤ length old.seen → IsAt mid new mid.seen mid.front → IsBehindAt old new old.seen old.front
-stops old mid new count way within lt le stays =
-    let len : length new.front ≡ length mid.front = ap length stays.front in
-    record {
-      who = stays.who ∙ way.at.who;
-      dump = stays.dump ∙ way.at.dump;
-      seen = stays.seen ∙ way.at.seen;
-      front = subst (λ (f : List Event). begins_with f old.front) (sym stays.front) way.reached;
-      within = subst (λ (f : List Event). begins_with old.seen f) (sym stays.front) (subst (λ (s : List Event). begins_with s mid.front) way.at.seen within);
-      behind = omega (arith, len);
-    }
-
-pub arrives : (old mid : Replica) (count : ℕ) → IsOnTheWay old mid count → begins_with mid.seen mid.front → count ≤ length mid.front → IsAt old mid old.seen (take count old.seen)
-arrives old mid count way within le =
-    let len : length mid.front ≡ count = omega (arith, way.most) in
-    record {
-      who = way.at.who;
-      dump = way.at.dump;
-      seen = way.at.seen;
-      front = front_of mid.seen mid.front count within len ∙ ap (take count) way.at.seen;
     }
 
 -- a desk has seen a longer log, and its state has come to all of it but the last event

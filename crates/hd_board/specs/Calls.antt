@@ -46,7 +46,7 @@ seen_after seen (append_faults.Foreign found) = seen
 seen_after seen (append_faults.Refused refusal found) = found
 seen_after seen append_faults.OutOfMemory = seen
 
--- an event of the desk's analyst wasn't appended; the state is where it was
+-- an event of the desk's analyst wasn't appended; the state has come to what was seen before
 pub record AppendsNot (board : Board) (old new : Replica) (what : What) (fault : AppendFault) : Type 0 where
   pub log : List Event
   pub refused : RefusesAppend board.roots board.numbers old.seen log (event_by old.who what) fault

@@ -248,7 +248,7 @@ impl Desk {
     ///
     /// # Errors
     ///
-    /// Why the desk hasn't come to the event. The state is where it was, or nearer to the event.
+    /// The event isn't appended; or it is, but memory ran out as the desk caught up with it.
     fn append(
         &mut self,
         rt: &impl Wait,

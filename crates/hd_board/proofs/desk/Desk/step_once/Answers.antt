@@ -1,7 +1,6 @@
-use Rattle.std.proofs.Common.{◌∙◌, length, subst, sym, ap}
+use Rattle.std.proofs.Common.{◌∙◌, length, slice_get, subst, sym, ap}
 use Rattle.hd_terms.specs.Log.{begins_with}
 use Rattle.hd_terms.proofs.Beginnings.{begins_next}
-use Rattle.std.proofs.Common.{slice_get}
 use Rattle.hd_board.proofs.Steps.{takes_next}
 use Rattle.hd_board.proofs.desk.Desk.step_once.Goals as goal
 
