@@ -1,5 +1,5 @@
 -- The desks of a board that is opened.
-use Rattle.std.proofs.Common.{◌≡◌, ◌∙◌, ℕ, ◌+◌, List, [], ◌∷◌, ◌++◌, suc, map, ap, arith}
+use Rattle.std.proofs.Common.{◌≡◌, ◌∙◌, ℕ, ◌+◌, [], ◌∷◌, ◌++◌, suc, map, ap, arith}
 use Rattle.std.proofs.lemmas.List.{map-append}
 use Rattle.hd_terms.specs.Dump.{Dump}
 use Rattle.hd_terms.specs.Schedule.{numbers_from}

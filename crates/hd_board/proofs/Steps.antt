@@ -1,5 +1,5 @@
 -- A desk's state on the way to what the desk has seen.
-use Rattle.std.proofs.Common.{◌≡◌, ◌∙◌, ℕ, ◌+◌, ◌<◌, ◌≤◌, List, [], ◌∷◌, ◌++◌, length, take, drop, length-append, Option, None, Some, Result, slice_get, subst, refl, sym, ap, arith}
+use Rattle.std.proofs.Common.{◌≡◌, ◌∙◌, ℕ, ◌+◌, ◌<◌, ◌≤◌, List, [], ◌∷◌, length, take, drop, length-append, Option, None, Some, Result, slice_get, subst, refl, sym, ap, arith}
 use Rattle.std.specs.Result.{IsErr, OnErr}
 use Rattle.std.proofs.lemmas.Result.{MatchResult-from_err}
 use Rattle.std.proofs.lemmas.List.{length-take-le, take-append-drop}

@@ -1,9 +1,9 @@
 -- What closing a board with desks answers.
 -- Source: this project.
-use Rattle.std.specs.Prelude.{◌≡◌, ℕ, ◌⊎◌, List, map, Contains}
+use Rattle.std.specs.Prelude.{◌≡◌, ℕ, ◌⊎◌, List, Contains}
 use Rattle.hd_terms.specs.declared.Event.{Event}
 use Rattle.hd_terms.specs.Desks.{IsForeign}
-use Rattle.hd_terms.specs.Schedule.{Board, AreMembers, Closes}
+use Rattle.hd_terms.specs.Schedule.{Board, AreMembers}
 use Rattle.hd_board.specs.declared.faults.CloseFault.{CloseFault}
 use Rattle.hd_board.specs.declared.faults.CloseFault.TheVariants as close_faults
 use Rattle.hd_board.specs.Replicas.{Replica}
