@@ -1,4 +1,6 @@
 //! How long it takes to open a board, to fork its first desk, and to append to it from sixteen threads.
+ghost use Rattle.std.specs.Prelude.{◌≤◌, IfOk};
+
 use crate::lap;
 use anyhow::{Result, anyhow};
 use hd_board::{Board, Desk, append_to, open};
@@ -75,9 +77,15 @@ fn fork_first(alloc: Global, desks: &[Desk]) -> Result<Vec<(Board, Desk)>> {
 }
 
 /// The number of desks that decimal digits spell.
-fn desks_of(word: &str) -> Result<u8> {
+fn desks_of(word: &str) -> Result<u8>
+    ensures least { IfOk result (λ n. 1 ≤ n) }
+    ensures most { IfOk result (λ n. n ≤ 16) }
+{
     let desks: u8 = word.parse()?;
-    Ok(desks.clamp(1, 16))
+    if desks == 0 || desks > 16 {
+        return Err(anyhow!("desks are 1 to 16"));
+    }
+    Ok(desks)
 }
 
 /// Opens a board over a graph, forks its first desk sixteen times, lets each desk append in a thread of its own, and then
