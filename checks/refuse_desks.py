@@ -29,13 +29,13 @@ HERE = pathlib.Path(__file__).resolve().parent
 
 
 class Desk:
-    """What a desk has seen, how far its state has come, and the log's events as undone or not."""
+    """How many events a desk has seen, and to how many its state has come."""
 
     def __init__(self, who):
         self.who, self.seen, self.front = who, 0, 0
 
-    def line(self, strong):
-        return f"desk {self.who}: seen {self.seen} front {self.front} strong {str(strong[self.front]).lower()}"
+    def line(self, strengths):
+        return f"desk {self.who}: seen {self.seen} front {self.front} {strengths[self.front]}"
 
 
 def reads(lines, wanted):
@@ -48,25 +48,24 @@ def reads(lines, wanted):
 
 def append(lines, desk, log, name, right, faults):
     """A cut or an undo: what it answers, and what the desk and the log are then. Answers the new length of the log."""
-    line = reads(lines, [f"{name}: {right}", f"{name}: OutOfMemory", f"{name}: Accepted", f"{name}: Behind"])
+    line = reads(lines, [f"{name}: {right}", f"{name}: OutOfMemory", f"{name}: Accepted {log}", f"{name}: Behind"])
     answer = line.split(": ")[1]
     if answer == right:
         log += 1
         desk.seen = desk.front = log
-    elif answer == "Accepted":
+    elif answer.startswith("Accepted"):
         log += 1
         desk.seen = log
     elif answer == "Behind" and desk.front == desk.seen:
         raise ValueError("a desk that isn't behind was told so")
     if answer != right:
-        faults.append(f"{name} {answer}")
+        faults.append(f"{name} {answer.split()[0]}")
     return log
 
 
 def refresh(lines, desk, log, faults):
-    answer = reads(lines, ["refresh: ok", "refresh: OutOfMemory", "refresh: Behind"]).split(": ")[1]
-    if answer != "OutOfMemory":
-        desk.seen = log
+    answer = reads(lines, ["refresh: ok", "refresh: Behind"]).split(": ")[1]
+    desk.seen = log
     if answer == "ok":
         desk.front = log
     else:
@@ -82,27 +81,29 @@ def check(lines):
     head = next(lines, None)
     if head == "open: OutOfMemory":
         if next(lines, None) is not None:
-            raise ValueError("something behind the refused board")
+            raise ValueError("something after the refused board")
         return ["open OutOfMemory"]
     lines = iter([head] + list(lines))
     log = append(lines, first, 0, "cut", "event 0 fell 1 back 0", faults)
     is_cut = log == 1
-    strong = [True] + [False] * is_cut
-    reads(lines, [first.line(strong)])
+    strengths = ["Strong"] + ["Unreachable"] * is_cut
+    reads(lines, [first.line(strengths)])
     refresh(lines, first, log, faults)
-    reads(lines, [first.line(strong)])
+    reads(lines, [first.line(strengths)])
     refresh(lines, second, log, faults)
-    reads(lines, [second.line(strong)])
-    line = reads(lines, ["fork: OutOfMemory", f"desk 1: seen {second.front} front {second.front} strong {str(strong[second.front]).lower()}"])
-    if line == "fork: OutOfMemory":
-        faults.append("fork OutOfMemory")
-    reads(lines, [second.line(strong)])
+    reads(lines, [second.line(strengths)])
+    forked = Desk(1)
+    forked.seen = forked.front = second.front
+    reads(lines, [forked.line(strengths)])
+    reads(lines, [second.line(strengths)])
     if is_cut:
         log = append(lines, first, log, "undo", "event 1 fell 0 back 1", faults)
-        strong.append(True)
+        strengths.append("Strong")
     else:
         reads(lines, ["undo: NothingToUndo"])
-    reads(lines, [first.line(strong)])
+    reads(lines, [first.line(strengths)])
+    refresh(lines, first, log, faults)
+    reads(lines, [first.line(strengths)])
     reads(lines, [f"close: events {log}"])
     if next(lines, None) is not None:
         raise ValueError("a line too many")

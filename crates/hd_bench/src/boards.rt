@@ -15,7 +15,7 @@ use std::thread;
 use std::thread::Threads;
 use std::time::Instant;
 
-/// How many events each of sixteen analysts appends: as many as the log has room for.
+/// How many events each analyst appends. Sixteen times this fills the log.
 const EACH: u32 = 256;
 
 /// An added root by an analyst.

@@ -1,6 +1,6 @@
 //! Opens a dump and answers the strength of one object, for measuring: `hd_bench FILE ID WORKERS`. With a fourth word, as in
-//! `hd_bench FILE ID 4 edits`, it also cuts the object's first reference to an object, and takes that back. With the fourth
-//! word `boards` it opens a board of as many desks as the fifth says and appends to it instead (`boards.rt`).
+//! `hd_bench FILE ID 4 edits`, it also cuts the object's first reference to an object, and takes that back. With a fifth
+//! word, as in `hd_bench FILE ID 4 boards 16`, it opens a board of so many desks and appends to it instead (`boards.rt`).
 //!
 //! It prints the objects and roots of the dump, the strength, what fell and came back, and the microseconds that each
 //! part took. Without words it does nothing.

@@ -91,7 +91,7 @@ never_foreign numbers who seen log f (inr differs) = never_differs who seen log 
 pub desk_differs : (board : Board) (log : List Event) (desks : List Replica) → (d : Replica) × Contains desks d × IsForeign board.numbers d.who d.seen log → IsMismatch board log (map numbered desks)
 desk_differs board log desks (d, found, foreign) = inl (d.who, d.seen, in_map numbered desks d found, foreign)
 
--- all desks find the log, whose events behind the base are the board's
+-- all desks find the log, whose events after the base are the board's
 pub no_mismatch : (board : Board) (log : List Event) (desks : List Replica) → All (finds board.numbers log) desks → AreMembers board log → IsMismatch board log (map numbered desks) → ⊥
 no_mismatch board log desks all ours (inl (who, seen, found, foreign)) = never_foreign board.numbers who seen log (found_by_number board.numbers log desks all who seen found) foreign
 no_mismatch board log desks all ours (inr wrong) = wrong ours

@@ -97,7 +97,7 @@ RefusesRefresh board old new refresh_faults.OutOfMemory = IsAt old new old.seen 
 abbrev pub Learns : (old new : Replica) → (told : List Event) → Type 0
 Learns old new told = (Continues old.who old.seen told × IsAt old new told old.front) ⊎ (begins_with old.seen told × IsAt old new old.seen old.front)
 
--- a desk doesn't learn what it was told, and nothing changes: that stands apart, or memory ran out
+-- a desk doesn't learn what it was told, and nothing changes: that stands apart, or it is longer and memory ran out
 abbrev pub RefusesLearn : (old new : Replica) → (told : List Event) → LearnFault → Type 0
 RefusesLearn old new told learn_faults.Apart = IsApart old.who old.seen told × IsAt old new old.seen old.front
-RefusesLearn old new told learn_faults.OutOfMemory = Continues old.who old.seen told × IsAt old new old.seen old.front
+RefusesLearn old new told learn_faults.OutOfMemory = Continues old.who old.seen told × (begins_with old.seen told → ⊥) × IsAt old new old.seen old.front

@@ -16,7 +16,7 @@ numbered desk = (desk.who, desk.seen)
 abbrev pub HasDesk : List Replica → ℕ → Type 0
 HasDesk desks who = (desk : Replica) × Contains desks desk × (desk.who ≡ who)
 
--- the log doesn't fit a desk, to which it is foreign, or has an event behind the base that is no event of the board's
+-- the log doesn't fit a desk, to which it is foreign, or has an event after the base that is no event of the board's
 abbrev pub IsMismatch : Board → List Event → List (ℕ × List Event) → Type 0
 IsMismatch board log desks = ((who : ℕ) × (seen : List Event) × Contains desks (who, seen) × IsForeign board.numbers who seen log) ⊎ (AreMembers board log → ⊥)
 

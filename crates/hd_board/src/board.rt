@@ -124,7 +124,8 @@ impl Board {
     ///
     /// # Errors
     ///
-    /// The log doesn't fit a desk, or one is missing. The log is answered.
+    /// The log doesn't fit a desk, or after the base it has an event of a number that isn't the board's; or a desk is missing.
+    /// The log is answered.
     pub fn close(self, desks: &[Desk]) -> Result<Front, CloseFault>
         ensures ok { IfOk result (λ log. Closes self log (map numbered desks.now)) }
         ensures err { IfErr result (RefusesClose self (map numbered desks.now)) }

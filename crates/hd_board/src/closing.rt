@@ -24,7 +24,7 @@ pub fn all_find(log: &Front, first: u8, count: u8, desks: &[Desk]) -> bool
     true
 }
 
-/// Whether from the event of a number on all events are of the board's analysts.
+/// Whether all events from this number on are by the board's analysts.
 pub fn are_members(log: &Front, from: u32, first: u8, count: u8) -> bool
     ensures { IsTrue result ↔ All (λ (e : Event). Contains (numbers_from first count) e.who) (drop from log.now) }
 {

@@ -12,7 +12,9 @@ ghost use Rattle.hd_board.specs.declared.faults.AppendFault.TheVariants as appen
 ghost use Rattle.hd_board.specs.Calls.{Appends, Edits, IsRefreshedBy, Learns, RefusesEdit, RefusesLearn, RefusesRefresh, RefusesUndo, RefusesUndoLast, seen_after};
 
 use crate::board::Board;
-use crate::faults::{AppendFault, EditFault, LearnFault, LookFault, RefreshFault, UndoFault};
+use crate::faults::{
+    AppendFault, Behind, EditFault, LearnFault, LookFault, RefreshFault, UndoFault,
+};
 use hd_graph::Graph;
 use hd_log::Front;
 use hd_state::{Done, State, edit_refusal};
@@ -112,12 +114,15 @@ impl Desk {
     /// # Errors
     ///
     /// Memory ran out. The state stays at the last event that it came to.
-    pub fn catch_up(&mut self, alloc: Global) -> Result<(), NoMemory>
+    pub fn catch_up(&mut self, alloc: Global) -> Result<(), Behind>
         ensures ok { OnOk result (IsAt self.old self.new self.old.seen self.old.seen) }
         ensures err { OnErr result (IsBehindAt self.old self.new self.old.seen self.old.front) }
     {
         let count = self.seen.len();
-        self.step_to(alloc, count)
+        match self.step_to(alloc, count) {
+            Ok(()) => Ok(()),
+            Err(NoMemory) => Err(Behind),
+        }
     }
 
     /// Does an edit: catches up, decides by the dump whether the edit can be done, appends it to the board's log, and comes to

@@ -4,6 +4,10 @@ ghost use Rattle.std.specs.Prelude.{◌≡◌};
 use hd_log::Front;
 use hd_terms::{NoMemory, Refusal};
 
+/// Memory ran out as a desk caught up with what it had seen. It stays at the last event that it came to.
+#[derive(Clone, Copy, Debug, PartialEq, Eq)]
+pub struct Behind;
+
 /// Why an event isn't appended. The first reason in this order is answered.
 #[derive(Drop)]
 pub enum AppendFault {
@@ -46,7 +50,7 @@ impl From<NoMemory> for LookFault {
     }
 }
 
-/// Why an edit isn't done. The first reason in this order is answered.
+/// Why a desk hasn't come to an edit that it asked for. The first reason in this order is answered.
 #[derive(Drop)]
 pub enum EditFault {
     /// Memory ran out as the desk caught up with what it had seen.
@@ -59,7 +63,7 @@ pub enum EditFault {
     Accepted { event: u32 },
 }
 
-/// Why an undo isn't done. The first reason in this order is answered.
+/// Why a desk hasn't come to an undo that it asked for. The first reason in this order is answered.
 #[derive(Drop)]
 pub enum UndoFault {
     /// Memory ran out as the desk caught up with what it had seen.
@@ -105,8 +109,8 @@ impl From<NoMemory> for LearnFault {
 /// Why a board isn't closed with these desks. The board's log is answered.
 #[derive(Drop)]
 pub enum CloseFault {
-    /// A desk has no number of the board, or has seen what the log doesn't continue; or the log has an event of an analyst who
-    /// has no desk here.
+    /// A desk's number isn't the board's, or the log doesn't continue what the desk has seen; or after the base the log has an
+    /// event of a number that isn't the board's.
     Mismatch(Front),
     /// A number of the board is no desk's.
     MissingDesk(Front),

@@ -12,6 +12,6 @@ pub use append::append_to;
 pub use board::{Board, open};
 pub use desk::Desk;
 pub use faults::{
-    AppendFault, CloseFault, EditFault, LearnFault, LookFault, RefreshFault, UndoFault,
+    AppendFault, Behind, CloseFault, EditFault, LearnFault, LookFault, RefreshFault, UndoFault,
 };
 pub use laws::answers_are_steps;

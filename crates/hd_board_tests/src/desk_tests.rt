@@ -98,22 +98,31 @@ fn is_apart<R: Wait>(rt: &R, alloc: Global, desk: &mut Desk, other: &Board, told
     apart && foreign
 }
 
-/// Whether a desk that has seen a cut stands apart from a second board, on which a root was added.
-fn stands_apart<R: Threads + Wait + Sync>(rt: &R, alloc: Global) -> Option<bool> {
+/// Whether a desk that has seen another's cut stands apart from a second board, on which a root was added; and then how many
+/// events it has seen, how far its state has come, and how well that reaches the second array.
+fn stands_apart<R: Threads + Wait + Sync>(
+    rt: &R,
+    alloc: Global,
+) -> Option<(bool, u32, u32, Option<Strength>)> {
     let (board, mut desks) = two_desks(rt, alloc)?;
     let (other, mut others) = two_desks(rt, alloc)?;
-    edit_by(rt, alloc, &board, desks.as_mut_slice(), 1, CUT)?.ok()?;
+    edit_by(rt, alloc, &board, desks.as_mut_slice(), 0, CUT)?.ok()?;
     add_by_first(rt, alloc, &other, others.as_mut_slice())?.ok()?;
     let desk = desks.as_mut_slice().get_mut(1)?;
-    let told = others.as_slice().first()?;
-    let apart = is_apart(rt, alloc, desk, &other, told);
-    Some(apart && strength_at(desk, 2) == Some(Strength::Unreachable))
+    desk.refresh(rt, alloc, &board).ok()?;
+    let apart = is_apart(rt, alloc, desk, &other, others.as_slice().first()?);
+    Some((
+        apart,
+        desk.seen().len(),
+        desk.front().len(),
+        strength_at(desk, 2),
+    ))
 }
 
 #[test]
 fn boards_stand_apart(rt: HostRuntime) -> Result<(), Fail> {
     let apart = stands_apart(&rt, rt.alloc()).ok_or("both boards open")?;
-    assert!(rt; apart);
+    assert!(rt; apart == (true, 1, 1, Some(Strength::Unreachable)));
     Ok(())
 }
 
@@ -128,21 +137,21 @@ fn closed_with_some<R: Threads + Sync>(
     Some(closed(board, some))
 }
 
-/// A board closed with the desks of another board, the first of which has added a root.
-fn closed_with_others<R: Threads + Wait + Sync>(
+/// A board closed with the first desk of another board, which has added a root.
+fn closed_with_another<R: Threads + Wait + Sync>(
     rt: &R,
     alloc: Global,
 ) -> Option<Result<u32, bool>> {
     let (board, _) = two_desks(rt, alloc)?;
     let (other, mut others) = two_desks(rt, alloc)?;
     add_by_first(rt, alloc, &other, others.as_mut_slice())?.ok()?;
-    Some(closed(board, others.as_slice()))
+    Some(closed(board, others.as_slice().get(..1)?))
 }
 
 #[test]
 fn close_of_desks(rt: HostRuntime) -> Result<(), Fail> {
     assert!(rt; closed_with_some(&rt, rt.alloc(), 1) == Some(Err(true)));
     assert!(rt; closed_with_some(&rt, rt.alloc(), 2) == Some(Ok(0)));
-    assert!(rt; closed_with_others(&rt, rt.alloc()) == Some(Err(false)));
+    assert!(rt; closed_with_another(&rt, rt.alloc()) == Some(Err(false)));
     Ok(())
 }

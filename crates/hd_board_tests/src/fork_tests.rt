@@ -39,45 +39,57 @@ fn forked_desk(rt: HostRuntime) -> Result<(), Fail> {
     assert!(rt; strength_at(&desk, 2) == Some(Strength::Strong));
     assert!(rt; strength_at(forked, 2) == Some(Strength::Unreachable));
     assert!(rt; closed(board, desks.as_slice()) == Ok(1));
+    let own = [desk];
+    assert!(rt; closed(private, &own) == Ok(3));
     Ok(())
 }
 
-/// The private board of the second desk, after a cut by its own desk; that desk; and the desks of the first board.
-fn private_board<R: Threads + Wait + Sync>(
-    rt: &R,
-    alloc: Global,
-) -> Option<(Board, Desk, Vec<Desk>)> {
+/// The private board of the second desk, after a cut by its own desk; and the desks of the first board.
+fn private_board<R: Threads + Wait + Sync>(rt: &R, alloc: Global) -> Option<(Board, Vec<Desk>)> {
     let (_, desks) = cut_and_refreshed(rt, alloc)?;
     let (private, mut desk) = Board::fork(desks.as_slice().get(1)?).ok()?;
     edit(rt, alloc, &private, &mut desk, CUT)?.ok()?;
-    Some((private, desk, desks))
-}
-
-/// The private board closed with its own desk.
-fn closed_with_its_own<R: Threads + Wait + Sync>(
-    rt: &R,
-    alloc: Global,
-) -> Option<Result<u32, bool>> {
-    let (private, desk, _desks) = private_board(rt, alloc)?;
-    let own = [desk];
-    Some(closed(private, &own))
+    Some((private, desks))
 }
 
 /// The private board closed with the desk that was forked, or with none.
-fn closed_with_forked<R: Threads + Wait + Sync>(
+fn closed_from<R: Threads + Wait + Sync>(
     rt: &R,
     alloc: Global,
     first: usize,
 ) -> Option<Result<u32, bool>> {
-    let (private, _desk, desks) = private_board(rt, alloc)?;
+    let (private, desks) = private_board(rt, alloc)?;
     let some = desks.as_slice().get(first..)?;
     Some(closed(private, some))
 }
 
 #[test]
 fn close_of_a_private_board(rt: HostRuntime) -> Result<(), Fail> {
-    assert!(rt; closed_with_its_own(&rt, rt.alloc()) == Some(Ok(2)));
-    assert!(rt; closed_with_forked(&rt, rt.alloc(), 1) == Some(Err(false)));
-    assert!(rt; closed_with_forked(&rt, rt.alloc(), 2) == Some(Err(true)));
+    assert!(rt; closed_from(&rt, rt.alloc(), 1) == Some(Err(false)));
+    assert!(rt; closed_from(&rt, rt.alloc(), 2) == Some(Err(true)));
+    Ok(())
+}
+
+/// What the desk of a private board answers to an added root, where the desk that was forked had seen a cut and not come to
+/// it; and how many events the private board has then.
+fn forked_behind<R: Threads + Wait + Sync>(
+    rt: &R,
+    alloc: Global,
+) -> Option<(Answer, Result<u32, bool>)> {
+    let (board, mut desks) = two_desks(rt, alloc)?;
+    let (first, second) = desks.as_mut_slice().split_first_mut()?;
+    let second = second.first_mut()?;
+    edit(rt, alloc, &board, first, CUT)?.ok()?;
+    second.learn(first.seen()).ok()?;
+    let (private, mut desk) = Board::fork(second).ok()?;
+    let added = edit(rt, alloc, &private, &mut desk, Edit::Add(2));
+    let own = [desk];
+    Some((added, closed(private, &own)))
+}
+
+#[test]
+fn fork_of_a_desk_that_is_behind(rt: HostRuntime) -> Result<(), Fail> {
+    let forked = forked_behind(&rt, rt.alloc()).ok_or("the second desk learns")?;
+    assert!(rt; forked == (Some(Ok((0, 0, 0))), Ok(1)));
     Ok(())
 }

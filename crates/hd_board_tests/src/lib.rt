@@ -2,6 +2,8 @@
 #![tactic(auto)]
 
 #[cfg(test)]
+mod append_tests;
+#[cfg(test)]
 mod boards;
 #[cfg(test)]
 mod desk_tests;

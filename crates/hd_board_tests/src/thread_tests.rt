@@ -46,6 +46,17 @@ fn strong_after_refresh<R: Wait>(rt: &R, alloc: Global, board: &Board, desks: &m
     count
 }
 
+/// How many of some desks have a state whose log is a beginning of a log.
+fn beginnings(log: &Front, desks: &[Desk]) -> u32 {
+    let mut count = 0u32;
+    for desk in desks {
+        if log.begins_with(desk.front()) {
+            count = count.saturating_add(1);
+        }
+    }
+    count
+}
+
 #[test]
 fn two_threads_cut_and_undo(rt: HostRuntime) -> Result<(), Fail> {
     let (board, mut desks) = two_desks(&rt, rt.alloc()).ok_or("the board opens")?;
@@ -69,6 +80,7 @@ fn two_threads_cut_and_undo(rt: HostRuntime) -> Result<(), Fail> {
     assert_eq!(rt; log.len(), 200);
     assert_eq!(rt; events_of(&log, 0), 100);
     assert_eq!(rt; events_of(&log, 1), 100);
+    assert_eq!(rt; beginnings(&log, desks.as_slice()), 2);
     Ok(())
 }
 

@@ -35,6 +35,12 @@ fn append_fault_name(fault: &AppendFault) -> &'static str {
     }
 }
 
+/// Prints that an edit or an undo stands in the log, and that the desk couldn't come to it.
+fn print_accepted(rt: &impl Print, name: &str, event: u32) -> io::Result<()> {
+    println!(rt; "{name}: Accepted {event}")?;
+    Ok(())
+}
+
 /// Prints what a desk answers to a cut of the first array's reference to the second.
 fn print_cut<R: Wait + Print + AllocGlobal>(
     rt: &R,
@@ -43,10 +49,10 @@ fn print_cut<R: Wait + Print + AllocGlobal>(
 ) -> io::Result<()> {
     let fault = match desk.edit(rt, rt.alloc(), board, Edit::Cut(1, Slot::Element(0))) {
         Ok(done) => return print_done(rt, "cut", done),
+        Err(EditFault::Accepted { event }) => return print_accepted(rt, "cut", event),
         Err(EditFault::Behind) => "Behind",
         Err(EditFault::Refused(_)) => "RefusedByDump",
         Err(EditFault::Append(fault)) => append_fault_name(&fault),
-        Err(EditFault::Accepted { .. }) => "Accepted",
     };
     println!(rt; "cut: {fault}")?;
     Ok(())
@@ -60,10 +66,10 @@ fn print_undo<R: Wait + Print + AllocGlobal>(
 ) -> io::Result<()> {
     let fault = match desk.undo_last(rt, rt.alloc(), board) {
         Ok(done) => return print_done(rt, "undo", done),
+        Err(UndoFault::Accepted { event }) => return print_accepted(rt, "undo", event),
         Err(UndoFault::Behind) => "Behind",
         Err(UndoFault::NothingToUndo) => "NothingToUndo",
         Err(UndoFault::Append(fault)) => append_fault_name(&fault),
-        Err(UndoFault::Accepted { .. }) => "Accepted",
     };
     println!(rt; "undo: {fault}")?;
     Ok(())
@@ -94,8 +100,8 @@ fn second_strength(desk: &Desk) -> Option<Strength> {
 /// Prints what a desk has seen, how far its state has come, and how well its state reaches the second array.
 fn print_desk(rt: &impl Print, desk: &Desk) -> io::Result<()> {
     let (who, seen, front) = (desk.who(), desk.seen().len(), desk.front().len());
-    let strong = second_strength(desk) == Some(Strength::Strong);
-    println!(rt; "desk {who}: seen {seen} front {front} strong {strong}")?;
+    let strength = second_strength(desk).unwrap_or(Strength::Unreachable);
+    println!(rt; "desk {who}: seen {seen} front {front} {strength:?}")?;
     Ok(())
 }
 
@@ -144,6 +150,8 @@ fn print_calls<R: Wait + Print + AllocGlobal>(
     print_desk(rt, second)?;
     print_fork(rt, second)?;
     print_undo(rt, board, first)?;
+    print_desk(rt, first)?;
+    print_refresh(rt, board, first)?;
     print_desk(rt, first)
 }
 

@@ -6,7 +6,7 @@ use Rattle.hd_terms.specs.declared.Strength.TheVariants as strengths
 use Rattle.hd_strength.specs.declared.buckets.Offer.{Offer}
 use Rattle.hd_strength.specs.declared.buckets.Buckets.{Buckets}
 
--- the offers of a strength, the first made first: none waits of the greatest
+-- the offers of a strength, the first made first; of the greatest strength none ever waits
 abbrev pub bucket : Buckets → Strength → List Offer
 bucket b strengths.Unreachable = []
 bucket b strengths.Phantom = b.phantom.items

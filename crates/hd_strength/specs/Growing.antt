@@ -47,12 +47,12 @@ pub record IsBacked (mode : Mode) (at : ℕ → ℕ → Option Edge) (ks : List 
   pub passes_on : PassesOn mode (reached_at ks x.source)
   pub gives : s ≡ offered_strength ks edge
 
--- what an edge gives is had by its target, or offered
+-- the target has at least what an edge gives, or that is offered
 abbrev pub IsHadOrOffered : List Reached → (Strength → List Offer) → ℕ → ℕ → Edge → Type 0
 IsHadOrOffered ks offers o i e = (rank (offered_strength ks e) ≤ rank_at ks e.target) ⊎ Contains (offers (offered_strength ks e)) (offer_at o i)
 
--- what is reached is supported, and has at least the strength that is spread; what a slot gives that is done is had or
--- offered; each offer is backed, and of a rank below the limit
+-- what is reached is supported and has at least the strength that is being spread; the objects of roots are strong; no stamp
+-- is above the count; what a slot gives that is done, its target has or is offered; each offer is backed and below the limit
 pub record IsGrowing (g : Standing) (at : ℕ → ℕ → Option Edge) (ks : List Reached) (offers : Strength → List Offer) (count : ℕ) (s : Strength) (limit : ℕ) (IsDone : ℕ → ℕ → Type 0) : Type 0 where
   pub supported : (o : ℕ) → IsSupported g ks o (reached_at ks o).support
   pub by_roots : (r : RootEntry) → Contains g.roots r → (reached_at ks r.target).strength ≡ strengths.Strong
@@ -70,8 +70,8 @@ unreached_count ks = sum_by (λ k. if nat_eq (rank k.strength) 0 then 1 else 0) 
 abbrev pub to_do : Search → ℕ
 to_do search = unreached_count search.kept.items + length search.queue.items
 
--- what is reached is growing, each stamp was given to one object, and what is queued has the strength that is spread
--- and passes it on
+-- a search on its way: what is queued has the strength that is being spread and passes it on, and no more stamps were given
+-- than objects were reached
 pub record IsSearching (dump : Dump) (log : List Event) (search : Search) (s : Strength) (limit : ℕ) (IsDone : ℕ → ℕ → Type 0) : Type 0 where
   pub growing : IsGrowing (standing dump log) (edge_at dump log) search.kept.items (bucket search.buckets) search.count s limit IsDone
   pub queued : (o : ℕ) → Contains search.queue.items o → ((reached_at search.kept.items o).strength ≡ s) × IsPassedOn dump.mode s

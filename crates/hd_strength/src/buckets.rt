@@ -53,7 +53,7 @@ impl Buckets {
         Ok(())
     }
 
-    /// Takes out the offer of a strength that was made first.
+    /// Takes out the earliest offer of a strength.
     pub fn pop(&mut self, strength: Strength) -> Option<Offer>
         ensures none { IfNone result (bucket self.old strength ≡ []) }
         ensures same { IfNone result ((s : OneStrength) → bucket self.new s ≡ bucket self.old s) }

@@ -34,11 +34,11 @@ use std::collections::VecDeque;
 struct Search {
     /// What is kept of each object.
     kept: Vec<PackedReached>,
-    /// What references give that is less than what is being spread.
+    /// What references give and no target has taken yet; never more than what is being spread.
     buckets: Buckets,
     /// The objects that are reached and have yet to pass their strength on.
     queue: VecDeque<u32>,
-    /// How many objects have a stamp.
+    /// The last stamp that was given. Stamps count from 1.
     count: u64,
 }
 

@@ -1,5 +1,6 @@
--- Which logs an analyst can find who has seen an earlier one.
--- Source: this project. All analysts append to one log; what one has seen of it is a beginning of it, with all own events.
+-- Which logs an analyst can find, having seen an earlier one.
+-- Source: this project. All analysts append to one log; what one has seen of it is a beginning of it, with all of the
+-- analyst's own events.
 use Rattle.std.specs.Prelude.{◌≡◌, ◌≢◌, ℕ, ◌⊎◌, List, Contains}
 use Rattle.hd_terms.specs.declared.Event.{Event}
 use Rattle.hd_terms.specs.Log.{own, begins_with}

@@ -82,11 +82,11 @@ pub record Reaches (board : Board) (s : Desks) : Type 0 where
 abbrev pub fork : Board → Desks → ℕ → Board
 fork board s who = record { roots = board.roots; base = (s.desk who).front; numbers = who ∷ [] }
 
--- the events behind the base
+-- the events after the base
 abbrev pub after_base : Board → List Event → List Event
 after_base board log = drop (length board.base) log
 
--- every event behind the base is an event of the board's own analysts
+-- every event after the base is an event of the board's own analysts
 abbrev pub AreMembers : Board → List Event → Type 0
 AreMembers board log = All (λ (e : Event). Contains board.numbers e.who) (after_base board log)
 
