@@ -1,4 +1,4 @@
-use Rattle.std.proofs.Common.{◌≡◌, ℕ, [], ◌∷◌, refl, sym, ap}
+use Rattle.std.proofs.Common.{ℕ, [], ◌∷◌, refl, sym, ap}
 use Rattle.hd_terms.specs.Schedule.{Board}
 use Rattle.hd_terms.proofs.Schedules.{kept_after, one_history}
 use Rattle.hd_board.proofs.laws.answers_are_steps.Goals as goal
