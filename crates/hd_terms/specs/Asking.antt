@@ -110,4 +110,6 @@ asked dump log who (commands.Undo number) = Some (undo_asked log who number)
 asked dump log who commands.Mark = None
 asked dump log who (commands.Fell m) = None
 asked dump log who commands.Events = None
+asked dump log who commands.Private = None
+asked dump log who commands.Back = None
 asked dump log who commands.Quit = None

@@ -217,7 +217,7 @@ undo_command (number ∷ rest) = spelled (option_map (λ (k : ℕ). commands.Und
 abbrev pub fell_command : List (List ℕ) → Result Command LineFault
 fell_command arguments = spelled (option_map (λ (m : ℕ). commands.Fell m) (option_and_then number_of_word (only_word arguments)))
 
--- `roots`, `mark`, `events` and `quit` take no word
+-- `roots`, `mark`, `events`, `private`, `back` and `quit` take no word
 abbrev pub bare_command : Command → List (List ℕ) → Result Command LineFault
 bare_command command [] = Ok command
 bare_command command (more ∷ rest) = Err faults.BadArgument
@@ -247,6 +247,8 @@ command_of_words (word ∷ arguments) =
     else if bytes_eq word (codes "mark") then bare_command commands.Mark arguments
     else if bytes_eq word (codes "fell") then fell_command arguments
     else if bytes_eq word (codes "events") then bare_command commands.Events arguments
+    else if bytes_eq word (codes "private") then bare_command commands.Private arguments
+    else if bytes_eq word (codes "back") then bare_command commands.Back arguments
     else if bytes_eq word (codes "quit") then bare_command commands.Quit arguments
     else change_command word arguments
 
@@ -269,6 +271,8 @@ is_quit_command (Ok (commands.Undo number)) = false
 is_quit_command (Ok commands.Mark) = false
 is_quit_command (Ok (commands.Fell m)) = false
 is_quit_command (Ok commands.Events) = false
+is_quit_command (Ok commands.Private) = false
+is_quit_command (Ok commands.Back) = false
 is_quit_command (Ok commands.Quit) = true
 
 abbrev pub is_quit : List ℕ → Bool

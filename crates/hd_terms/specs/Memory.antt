@@ -1,6 +1,6 @@
 -- What a session remembers from one line to the next.
 -- Source: this project.
-use Rattle.std.specs.Prelude.{ℕ, List, [], ◌∷◌, ◌++◌, Option, None}
+use Rattle.std.specs.Prelude.{ℕ, List, [], ◌∷◌, ◌++◌, Option, None, Some}
 use Rattle.hd_terms.specs.declared.Event.{Event}
 
 -- the log, the logs of the marks by their numbers, and the log to which a private part goes back, if the session is in one
@@ -25,3 +25,20 @@ most_marks = 16
 -- the same with one more mark, of its log
 abbrev pub with_mark : Memory → Memory
 with_mark memory = record { log = memory.log; marks = memory.marks ++ memory.log ∷ []; home = memory.home }
+
+-- the same as a private part begins: the log is its home, and it goes on from there
+abbrev pub gone_private : Memory → Memory
+gone_private memory = record { log = memory.log; marks = memory.marks; home = Some memory.log }
+
+-- the same as a private part ends: the log is its home again
+abbrev pub gone_back : Memory → List Event → Memory
+gone_back memory home = record { log = home; marks = memory.marks; home = None }
+
+-- a private part's home, or the log where there is none
+abbrev pub home_or : Option (List Event) → List Event → List Event
+home_or None log = log
+home_or (Some home) log = home
+
+-- what the session has seen of its board's log, in a private part too
+abbrev pub board_log : Memory → List Event
+board_log memory = home_or memory.home memory.log

@@ -1,6 +1,6 @@
 -- The reply to a line: bytes that are a function of the dump, of logs and of the line, but for which chain is shown.
 -- Source: this project's protocol (docs/PROTOCOL.md).
-use Rattle.std.specs.Prelude.{◌≡◌, ◌⊎◌, ◌≤◌, ℕ, false, true, Bool, if◌then◌else◌, List, [], ◌∷◌, ◌++◌, length, map, slice_get, codes, decimal, Option, Some, None, Result, Ok, Err}
+use Rattle.std.specs.Prelude.{◌≡◌, ◌⊎◌, ◌≤◌, ℕ, false, Bool, not, if◌then◌else◌, List, [], ◌∷◌, ◌++◌, length, map, slice_get, codes, decimal, Option, Some, None, Result, Ok, Err}
 use Rattle.std.specs.Option.{option_map}
 use Rattle.std.specs.List.{flat_map, enumerate_from}
 use Rattle.hd_terms.specs.declared.Strength.{Strength}
@@ -41,13 +41,13 @@ use Rattle.hd_terms.specs.RootRows.{root_rows}
 use Rattle.hd_terms.specs.IntoRows.{into_rows}
 use Rattle.hd_terms.specs.Listed.{AreMembers, AreFallen, AreClassRows}
 use Rattle.hd_terms.specs.Names.{id_text, group_text, group_name}
-use Rattle.hd_terms.specs.Memory.{most_marks}
+use Rattle.hd_terms.specs.Memory.{Memory, most_marks}
 use Rattle.hd_terms.specs.Fell.{FellCount}
 use Rattle.hd_terms.specs.declared.commands.Command.{Command}
 use Rattle.hd_terms.specs.declared.commands.Command.TheVariants as commands
 use Rattle.hd_terms.specs.declared.commands.LineFault.{LineFault}
 use Rattle.hd_terms.specs.declared.commands.LineFault.TheVariants as line_faults
-use Rattle.hd_terms.specs.Lines.{command_of}
+use Rattle.hd_terms.specs.Lines.{command_of, is_quit_command}
 
 -- a text and the newline that ends it
 abbrev pub with_newline : List ℕ → List ℕ
@@ -94,6 +94,10 @@ refusal_name refusals.NothingToUndo = codes "NothingToUndo"
 refusal_name refusals.NoSuchRoot = codes "NoSuchRoot"
 refusal_name refusals.NoSuchMark = codes "NoSuchMark"
 refusal_name refusals.MarksFull = codes "MarksFull"
+refusal_name refusals.AlreadyPrivate = codes "AlreadyPrivate"
+refusal_name refusals.NotPrivate = codes "NotPrivate"
+refusal_name refusals.Behind = codes "Behind"
+refusal_name refusals.Foreign = codes "Foreign"
 refusal_name (refusals.Log f) = log_fault_name f
 
 -- a slot as it is printed
@@ -206,6 +210,13 @@ class_line dump row = group_text row.group ++ 32 ∷ decimal row.count ++ 32 ∷
 abbrev pub mark_reply : ℕ → List ℕ
 mark_reply m = answered ((codes "mark " ++ decimal m) ∷ [])
 
+-- the reply to `private` over a log of so many events, and to `back` from so many events after it
+abbrev pub private_reply : ℕ → List ℕ
+private_reply n = answered ((codes "private " ++ decimal n) ∷ [])
+
+abbrev pub back_reply : ℕ → List ℕ
+back_reply k = answered ((codes "back " ++ decimal k) ∷ [])
+
 -- `event E fell F back B`
 abbrev pub event_line : (event fell back : ℕ) → List ℕ
 event_line event fell back = codes "event " ++ decimal event ++ codes " fell " ++ decimal fell ++ codes " back " ++ decimal back
@@ -254,27 +265,39 @@ abbrev pub RepliesSlots : Dump → List Event → Option ℕ → List ℕ → Ty
 RepliesSlots dump log None reply = reply ≡ refused (refusal_name refusals.NoSuchObject)
 RepliesSlots dump log (Some o) reply = reply ≡ answered (map slot_line (slot_rows dump log (object_at dump o)))
 
--- the reply to a command that adds neither an event nor a mark, under the session's log and the logs of its marks. What an
--- edit, an undo or a new mark is answered isn't said here
-abbrev pub RepliesTo : Dump → (log : List Event) → (marks : List (List Event)) → Result Command LineFault → List ℕ → Type 0
-RepliesTo dump log marks (Err f) reply = reply ≡ refused (line_fault_name f)
-RepliesTo dump log marks (Ok (commands.Strength id)) reply = RepliesStrength dump log (index_of dump.objects id) reply
-RepliesTo dump log marks (Ok (commands.Chain id)) reply = RepliesChain dump log (index_of dump.objects id) reply
-RepliesTo dump log marks (Ok (commands.Slots id)) reply = RepliesSlots dump log (index_of dump.objects id) reply
-RepliesTo dump log marks (Ok (commands.Into id)) reply = RepliesInto dump log (index_of dump.objects id) reply
-RepliesTo dump log marks (Ok commands.Roots) reply = reply ≡ answered (map root_line (root_rows dump log))
-RepliesTo dump log marks (Ok (commands.Classes s)) reply = RepliesClasses dump log s reply
-RepliesTo dump log marks (Ok (commands.Members group s)) reply = RepliesIds (AreMembers dump log group s) reply
-RepliesTo dump log marks (Ok (commands.Edit edit)) reply = ⊥
-RepliesTo dump log marks (Ok (commands.Undo number)) reply = ⊥
-RepliesTo dump log marks (Ok commands.Mark) reply = RefusesMark marks reply
-RepliesTo dump log marks (Ok (commands.Fell m)) reply = RepliesFell dump log (slice_get marks m) reply
-RepliesTo dump log marks (Ok commands.Events) reply = reply ≡ answered (log_lines log)
-RepliesTo dump log marks (Ok commands.Quit) reply = reply ≡ answered []
+-- the reply to `private` where it is refused: a private part is open
+abbrev pub RefusesPrivate : Option (List Event) → List ℕ → Type 0
+RefusesPrivate None reply = ⊥
+RefusesPrivate (Some home) reply = reply ≡ refused (refusal_name refusals.AlreadyPrivate)
 
--- the reply to a line that asks nothing of the log
-abbrev pub IsReply : Dump → (log : List Event) → (marks : List (List Event)) → List ℕ → List ℕ → Type 0
-IsReply dump log marks line reply = RepliesTo dump log marks (command_of line) reply
+-- the reply to `back` where it is refused: none is open
+abbrev pub RefusesBack : Option (List Event) → List ℕ → Type 0
+RefusesBack None reply = reply ≡ refused (refusal_name refusals.NotPrivate)
+RefusesBack (Some home) reply = ⊥
+
+-- the reply to a command that changes nothing of what the session remembers. What an edit, an undo, a new mark, or the beginning
+-- or end of a private part is answered isn't said here
+abbrev pub RepliesTo : Dump → Memory → Result Command LineFault → List ℕ → Type 0
+RepliesTo dump m (Err f) reply = reply ≡ refused (line_fault_name f)
+RepliesTo dump m (Ok (commands.Strength id)) reply = RepliesStrength dump m.log (index_of dump.objects id) reply
+RepliesTo dump m (Ok (commands.Chain id)) reply = RepliesChain dump m.log (index_of dump.objects id) reply
+RepliesTo dump m (Ok (commands.Slots id)) reply = RepliesSlots dump m.log (index_of dump.objects id) reply
+RepliesTo dump m (Ok (commands.Into id)) reply = RepliesInto dump m.log (index_of dump.objects id) reply
+RepliesTo dump m (Ok commands.Roots) reply = reply ≡ answered (map root_line (root_rows dump m.log))
+RepliesTo dump m (Ok (commands.Classes s)) reply = RepliesClasses dump m.log s reply
+RepliesTo dump m (Ok (commands.Members group s)) reply = RepliesIds (AreMembers dump m.log group s) reply
+RepliesTo dump m (Ok (commands.Edit edit)) reply = ⊥
+RepliesTo dump m (Ok (commands.Undo number)) reply = ⊥
+RepliesTo dump m (Ok commands.Mark) reply = RefusesMark m.marks reply
+RepliesTo dump m (Ok (commands.Fell k)) reply = RepliesFell dump m.log (slice_get m.marks k) reply
+RepliesTo dump m (Ok commands.Events) reply = reply ≡ answered (log_lines m.log)
+RepliesTo dump m (Ok commands.Private) reply = RefusesPrivate m.home reply
+RepliesTo dump m (Ok commands.Back) reply = RefusesBack m.home reply
+RepliesTo dump m (Ok commands.Quit) reply = reply ≡ answered []
+
+-- the reply to a line that changes nothing of what the session remembers
+abbrev pub IsReply : Dump → Memory → List ℕ → List ℕ → Type 0
+IsReply dump m line reply = RepliesTo dump m (command_of line) reply
 
 -- the reply to an edit or an undo that the log has taken: the number of its event, and how many objects fell by it and
 -- how many came back
@@ -285,23 +308,21 @@ pub record RepliesDone (dump : Dump) (before after : List Event) (reply : List �
   pub back_is : FellCount dump after before back
   pub reply_is : reply ≡ answered (event_line (length before) fell back ∷ [])
 
+-- the reply to an edit or an undo that the log has taken as the event of this number, but to which the analyst's desk couldn't
+-- come, since memory ran out
+abbrev pub accepted_reply : ℕ → List ℕ
+accepted_reply event = refused (codes "Accepted " ++ decimal event)
+
 -- the reply to a command for which there is not enough memory
 abbrev pub out_of_memory_reply : List ℕ
 out_of_memory_reply = refused (log_fault_name faults.OutOfMemory)
 
--- the commands that take memory
-abbrev pub takes_memory : Result Command LineFault → Bool
-takes_memory (Err f) = false
-takes_memory (Ok (commands.Strength id)) = false
-takes_memory (Ok (commands.Chain id)) = true
-takes_memory (Ok (commands.Slots id)) = true
-takes_memory (Ok (commands.Into id)) = true
-takes_memory (Ok commands.Roots) = true
-takes_memory (Ok (commands.Classes s)) = true
-takes_memory (Ok (commands.Members group s)) = true
-takes_memory (Ok (commands.Edit edit)) = true
-takes_memory (Ok (commands.Undo number)) = true
-takes_memory (Ok commands.Mark) = true
-takes_memory (Ok (commands.Fell m)) = true
-takes_memory (Ok commands.Events) = true
-takes_memory (Ok commands.Quit) = false
+-- the reply to a command that isn't run: memory ran out; or, as the desk was to be refreshed, on the way to the board's log; or
+-- that log is foreign
+abbrev pub IsUnserved : List ℕ → Type 0
+IsUnserved reply = (reply ≡ out_of_memory_reply) ⊎ ((reply ≡ refused (refusal_name refusals.Behind)) ⊎ (reply ≡ refused (refusal_name refusals.Foreign)))
+
+-- the commands before which the analyst's desk is refreshed: all but `quit`
+abbrev pub refreshes : Result Command LineFault → Bool
+refreshes (Err f) = false
+refreshes (Ok command) = not (is_quit_command (Ok command))

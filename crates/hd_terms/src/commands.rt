@@ -28,6 +28,10 @@ pub enum Command {
     Fell(u32),
     /// The events of the log.
     Events,
+    /// A private part begins: from here on the log is the analyst's own.
+    Private,
+    /// The private part ends, and its events with it.
+    Back,
     /// The end of the session.
     Quit,
 }

@@ -75,6 +75,14 @@ pub enum Refusal {
     NoSuchMark,
     /// The analyst has 16 marks, and takes no more.
     MarksFull,
+    /// A private part is open already.
+    AlreadyPrivate,
+    /// No private part is open.
+    NotPrivate,
+    /// Memory ran out as the analyst's desk caught up with the board's log.
+    Behind,
+    /// The board's log doesn't continue what the analyst's desk has seen.
+    Foreign,
     /// The log doesn't take the event.
     Log(LogFault),
 }

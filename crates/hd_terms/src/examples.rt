@@ -11,8 +11,8 @@ ghost use Rattle.hd_terms.specs.Chains.{IsChain};
 ghost use Rattle.hd_terms.specs.Edges.{edges};
 ghost use Rattle.hd_terms.specs.EditedDump.{edge_stands, root_entries, root_stands, standing};
 ghost use Rattle.hd_terms.specs.Replies.{IsReply};
-ghost use Rattle.hd_terms.specs.Sessions.{IsServed, IsServedUntilRead, IsServedUntilWrite, IsSession};
-ghost use Rattle.hd_terms.specs.Memory.{beginning};
+ghost use Rattle.hd_terms.specs.Sessions.{IsAlone, IsServed, IsServedUntilRead, IsServedUntilWrite, IsSession, memory_after};
+ghost use Rattle.hd_terms.specs.Memory.{at_log, beginning, board_log};
 ghost use Rattle.hd_terms.specs.declared.SlotMode.TheVariants as modes;
 ghost use Rattle.hd_terms.specs.declared.EdgeKind.TheVariants as kinds;
 ghost use Rattle.hd_terms.specs.declared.RefKind.TheVariants as references;
@@ -238,11 +238,15 @@ pub fn total_examples()
     ensures array { IsGroupTotal examples.opaque_and_repeated [] (groups.Class 0x99) strengths.Strong 1 8 }
 {}
 
-/// What two analysts are answered who cut one slot, and what a line is answered that finds no memory.
+/// What two analysts are answered who cut one slot, what is answered where memory runs out, and a private part.
 pub fn session_examples()
-    ensures first_analyst { IsSession examples.two_arrays 0 (beginning [] []) examples.turns_of_the_first }
-    ensures second_analyst { IsSession examples.two_arrays 1 (beginning [] []) examples.turns_of_the_second }
-    ensures out_of_memory { IsSession examples.two_arrays 0 (beginning [] []) (examples.turn_without_memory ∷ []) }
+    ensures first_analyst { IsSession (examples.at_two_arrays 0) (beginning [] []) examples.turns_of_the_first }
+    ensures second_analyst { IsSession (examples.at_two_arrays 1) (beginning [] []) examples.turns_of_the_second }
+    ensures out_of_memory { IsSession (examples.at_two_arrays 0) (beginning [] []) (examples.turn_without_memory ∷ []) }
+    ensures behind { IsSession (examples.at_two_arrays 0) (beginning [] []) examples.turns_behind }
+    ensures private_part { IsSession (examples.at_two_arrays 0) (beginning [] []) examples.turns_of_a_private_part }
+    ensures private_part_alone { IsAlone (beginning [] []) examples.turns_of_a_private_part }
+    ensures private_part_leaves { board_log (memory_after (beginning [] []) examples.turns_of_a_private_part) ≡ examples.first_cuts 1 }
 {}
 
 /// What lines ask for, and why some ask for nothing.
@@ -284,6 +288,9 @@ pub fn line_examples()
     ensures roots { command_of (codes "roots") ≡ Ok commands.Roots }
     ensures events { command_of (codes "events") ≡ Ok commands.Events }
     ensures events_of_one { command_of (codes "events 0") ≡ Err line_faults.BadArgument }
+    ensures private { command_of (codes "private") ≡ Ok commands.Private }
+    ensures private_of_one { command_of (codes "private 1") ≡ Err line_faults.BadArgument }
+    ensures back { command_of (codes "back") ≡ Ok commands.Back }
     ensures quit { command_of (codes "quit") ≡ Ok commands.Quit }
     ensures quit_now { command_of (codes "quit now") ≡ Err line_faults.BadArgument }
     ensures no_argument { command_of (codes "strength") ≡ Err line_faults.BadArgument }
@@ -301,17 +308,17 @@ pub fn line_examples()
 
 /// What lines and whole inputs are answered under the empty log.
 pub fn reply_examples()
-    ensures strength { IsReply examples.two_arrays [] ([] ∷ []) (codes "strength 0x2") (codes "ok 1" ++ 10 ∷ codes "STRONG" ++ 10 ∷ []) }
-    ensures absent { IsReply examples.two_arrays [] ([] ∷ []) (codes "strength 0x9") (codes "no NoSuchObject" ++ 10 ∷ []) }
-    ensures no_prefix { IsReply examples.two_arrays [] ([] ∷ []) (codes "strength 2") (codes "no BadArgument" ++ 10 ∷ []) }
-    ensures nothing_there { IsReply examples.empty_dump [] ([] ∷ []) (codes "strength 0x1") (codes "no NoSuchObject" ++ 10 ∷ []) }
-    ensures events { IsReply examples.two_arrays examples.cut_and_undo ([] ∷ []) (codes "events")
+    ensures strength { IsReply examples.two_arrays (beginning [] []) (codes "strength 0x2") (codes "ok 1" ++ 10 ∷ codes "STRONG" ++ 10 ∷ []) }
+    ensures absent { IsReply examples.two_arrays (beginning [] []) (codes "strength 0x9") (codes "no NoSuchObject" ++ 10 ∷ []) }
+    ensures no_prefix { IsReply examples.two_arrays (beginning [] []) (codes "strength 2") (codes "no BadArgument" ++ 10 ∷ []) }
+    ensures nothing_there { IsReply examples.empty_dump (beginning [] []) (codes "strength 0x1") (codes "no NoSuchObject" ++ 10 ∷ []) }
+    ensures events { IsReply examples.two_arrays (at_log (beginning [] []) examples.cut_and_undo) (codes "events")
         (codes "ok 2" ++ 10 ∷ codes "0 0 cut 0x1 e0 undone" ++ 10 ∷ codes "1 0 undo 0" ++ 10 ∷ []) }
     ensures odd_name { class_name (Some (0x41 ∷ 0x20 ∷ 0xc3 ∷ 0xa9 ∷ 0x5c ∷ [])) ≡ codes "A\\x20\\xc3\\xa9\\x5c" }
     ensures no_name { class_name None ≡ codes "?" }
     ensures empty_name { class_name (Some []) ≡ codes "?" }
-    ensures no_such_mark { IsReply examples.two_arrays [] ([] ∷ []) (codes "fell 1") (codes "no NoSuchMark" ++ 10 ∷ []) }
-    ensures roots { IsReply examples.two_arrays [] ([] ∷ []) (codes "roots") (codes "ok 1" ++ 10 ∷ codes "0 unknown 0x1 stands" ++ 10 ∷ []) }
+    ensures no_such_mark { IsReply examples.two_arrays (beginning [] []) (codes "fell 1") (codes "no NoSuchMark" ++ 10 ∷ []) }
+    ensures roots { IsReply examples.two_arrays (beginning [] []) (codes "roots") (codes "ok 1" ++ 10 ∷ codes "0 unknown 0x1 stands" ++ 10 ∷ []) }
     ensures served { IsServed examples.two_arrays (codes "strength 0x2" ++ 10 ∷ codes "quit" ++ 10 ∷ codes "strength 0x1" ++ 10 ∷ [])
         (codes "ok 1" ++ 10 ∷ codes "STRONG" ++ 10 ∷ codes "ok 0" ++ 10 ∷ []) }
     ensures read_failed { IsServedUntilRead examples.two_arrays (codes "strength 0x2") (codes "2") [] }

@@ -31,7 +31,7 @@ ok_none_is : ok_none ≡ answered []
 ok_none_is = sym (ap (λ (digits : List ℕ). with_newline (codes "ok " ++ digits) ++ []) (decimal_digit 0 (lit< tt)))
 
 -- the second object is strong
-strong_reply : IsReply examples.two_arrays [] ([] ∷ []) (codes "strength 0x2") ok_strong
+strong_reply : IsReply examples.two_arrays (beginning [] []) (codes "strength 0x2") ok_strong
 strong_reply = (
   strengths.Strong,
   strengths_of (standing examples.two_arrays [])
@@ -55,7 +55,7 @@ nothing_new = record { later = nothing_came; same = refl }
 one_turn : IsSessionAlone examples.two_arrays (codes "strength 0x2" ∷ []) (turn (codes "strength 0x2") ok_strong ∷ [])
 one_turn = record {
   session = record { session = (nothing_new, nothing_came, sessions.answered strong_reply refl refl, tt); over = refl };
-  alone = (refl, refl, tt);
+  alone = (λ _. (refl, refl), tt);
 }
 
 pub returns-clause-strength : goal.returns-clause-strength
@@ -75,7 +75,7 @@ returns-clause-served c = (
         );
         over = refl;
       };
-      alone = (refl, refl, (refl, refl, tt));
+      alone = (λ _. (refl, refl), (λ _. (refl, refl), tt));
     };
     written_is = refl;
   },

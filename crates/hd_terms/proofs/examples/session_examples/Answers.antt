@@ -1,4 +1,4 @@
-use Rattle.std.proofs.Common.{◌≡◌, ◌∙◌, ℕ, List, [], ◌∷◌, ◌++◌, ◌+◌, ◌<◌, Some, codes, lit<, sym, ap, refl}
+use Rattle.std.proofs.Common.{◌≡◌, ◌∙◌, ℕ, inl, inr, true, List, [], ◌∷◌, ◌++◌, ◌+◌, ◌<◌, Some, None, take, codes, lit<, sym, ap, refl, append-nil}
 use Rattle.std.specs.Prelude.{decimal}
 use Rattle.std.proofs.lemmas.Fmt.{decimal_digit}
 use Rattle.hd_terms.specs.declared.Slot.TheVariants as slots
@@ -12,12 +12,12 @@ use Rattle.hd_terms.specs.declared.commands.Command.TheVariants as commands
 use Rattle.hd_terms.specs.Settled.{Reached, unreached}
 use Rattle.hd_terms.specs.Replies.{RepliesDone, answered, with_newline, event_line}
 use Rattle.hd_terms.specs.Sessions.{IsLater, IsRefreshed}
-use Rattle.hd_terms.specs.Memory.{beginning, at_log}
+use Rattle.hd_terms.specs.Memory.{Memory, beginning, at_log}
 use Rattle.hd_terms.specs.Sessions as sessions
 use Rattle.hd_terms.specs.Log.{IsLawful, own}
 use Rattle.hd_terms.specs.Examples as examples
 use Rattle.hd_terms.proofs.FellByTest.{fell}
-use Rattle.hd_terms.proofs.LawfulByTest.{lawful}
+use Rattle.hd_terms.proofs.LawfulByTest.{is_lawful, lawful}
 use Rattle.hd_terms.proofs.examples.session_examples.Goals as goal
 
 -- what is kept of the two arrays, with and without the edge between them
@@ -142,6 +142,84 @@ pub returns-clause-out_of_memory : goal.returns-clause-out_of_memory
 returns-clause-out_of_memory c = (
   refreshed 0 0 0 (none 0 0 refl lawful_0),
   none 0 0 refl lawful_0,
-  sessions.out_of_memory refl refl refl refl,
+  sessions.unserved refl (inl refl) refl refl,
   tt,
 )
+
+pub returns-clause-behind : goal.returns-clause-behind
+returns-clause-behind c = (
+  refreshed 0 0 0 (none 0 0 refl lawful_0),
+  none 0 0 refl lawful_0,
+  sessions.behind (commands.Edit (examples.cut 0)) (whats.Do (examples.cut 0)) refl refl refl (sym (ap (λ (digits : List ℕ). with_newline (codes "no Accepted " ++ digits)) (decimal_digit 0 (lit< tt)))) refl,
+  (
+    refreshed 0 1 1 (none 0 1 refl lawful_1),
+    none 0 1 refl lawful_1,
+    sessions.unserved refl (inr (inl refl)) refl refl,
+    (
+      refreshed 0 1 1 (none 0 1 refl lawful_1),
+      none 0 1 refl lawful_1,
+      sessions.answered (sym (ap (λ (digits : List ℕ). with_newline (codes "ok " ++ digits) ++ []) (decimal_digit 0 (lit< tt)))) refl refl,
+      tt,
+    ),
+  ),
+)
+
+-- the cut of a private part's home, and its undo
+lawful_cut : (n : ℕ) → is_lawful (take n examples.cut_and_undo) ≡ true → IsLater 0 (take n examples.cut_and_undo) (take n examples.cut_and_undo)
+lawful_cut n is = record { more = []; begins = sym (append-nil (take n examples.cut_and_undo)); same_own = refl; lawful = lawful (take n examples.cut_and_undo) is }
+
+cut_done : RepliesDone examples.two_arrays [] (take 1 examples.cut_and_undo) (codes "ok 1" ++ 10 ∷ codes "event 0 fell 1 back 0" ++ 10 ∷ [])
+cut_done = first_cut
+
+undo_done : RepliesDone examples.two_arrays (take 1 examples.cut_and_undo) examples.cut_and_undo (codes "ok 1" ++ 10 ∷ codes "event 1 fell 0 back 1" ++ 10 ∷ [])
+undo_done = record {
+  fell = 0;
+  back = 1;
+  fell_is = fell examples.two_arrays (take 1 examples.cut_and_undo) examples.cut_and_undo first both refl refl;
+  back_is = fell examples.two_arrays examples.cut_and_undo (take 1 examples.cut_and_undo) both first refl refl;
+  reply_is = sym (spelled 1 0 1 (lit< tt) (lit< tt) (lit< tt));
+}
+
+-- `ok 1`, a word and the number 1
+numbered : (word : List ℕ) → answered ((word ++ decimal 1) ∷ []) ≡ with_newline (codes "ok 1") ++ (with_newline (word ++ 49 ∷ []) ++ [])
+numbered word =
+    ap (λ (one : List ℕ). with_newline (codes "ok " ++ one) ++ (with_newline (word ++ decimal 1) ++ [])) (decimal_digit 1 (lit< tt))
+    ∙ ap (λ (one : List ℕ). with_newline (codes "ok 1") ++ (with_newline (word ++ one) ++ [])) (decimal_digit 1 (lit< tt))
+
+-- nothing came to what is remembered
+kept : (memory : Memory) → IsLater 0 memory.log memory.log → IsRefreshed 0 memory memory
+kept memory is = record { later = is; same = refl }
+
+pub returns-clause-private_part : goal.returns-clause-private_part
+returns-clause-private_part c =
+    let none_0 = lawful_cut 0 refl in
+    let none_1 = lawful_cut 1 refl in
+    let none_2 = lawful_cut 2 refl in (
+      kept (examples.at_cut 0) none_0,
+      none_0,
+      sessions.accepted (commands.Edit (examples.cut 0)) (whats.Do (examples.cut 0)) refl refl refl cut_done refl,
+      (
+        kept (examples.at_cut 1) none_1,
+        none_1,
+        sessions.gone_private refl refl (sym (numbered (codes "private "))) refl refl,
+        (
+          kept (examples.in_private 1) none_1,
+          none_1,
+          sessions.answered refl refl refl,
+          (
+            kept (examples.in_private 1) none_1,
+            none_1,
+            sessions.accepted (commands.Undo None) (whats.Undo 0) refl refl refl undo_done refl,
+            (
+              kept (examples.in_private 2) none_2,
+              none_2,
+              sessions.gone_back (take 1 examples.cut_and_undo) refl refl (sym (numbered (codes "back "))) refl refl,
+              (kept (examples.at_cut 1) none_1, none_1, sessions.answered refl refl refl, tt),
+            ),
+          ),
+        ),
+      ),
+    )
+
+pub returns-clause-private_part_alone : goal.returns-clause-private_part_alone
+returns-clause-private_part_alone c = (λ _. (refl, refl), (λ _. (refl, refl), (λ p. absurd cc, (λ p. absurd cc, (λ p. absurd cc, (λ _. (refl, refl), tt))))))
