@@ -1,20 +1,35 @@
 -- What a run over the bytes of a dump does.
 -- Source: this project.
-use Rattle.std.specs.Prelude.{◌≡◌, ◌⊎◌, ℕ, List, Option, Result, Ok, Err}
-use Rattle.std.specs.Io.KnownBytes.{Keeps}
+use Rattle.std.specs.Prelude.{◌≡◌, ◌⊎◌, ℕ, List, [], Option, Result, Ok, Err}
+use Rattle.std.specs.Io.KnownBytes.{Keeps, Appends}
 use Rattle.hd_terms.specs.declared.errors.Cause.TheVariants.{OutOfMemory}
 use Rattle.hd_terms.specs.declared.Mode.{Mode}
 use Rattle.hd_terms.specs.Dump.{Dump}
+use Rattle.hd_terms.specs.Memory.{Memory, beginning}
 use Rattle.hd_terms.specs.Objects.{IsDumpOf}
 use Rattle.hd_terms.specs.ReadFaults.{fault, IsReadFault}
+use Rattle.hd_terms.specs.Sessions.{IsServed, lone_analyst}
 use Rattle.hd_protocol.specs.declared.run.RunFault.{RunFault}
 use Rattle.hd_protocol.specs.declared.run.RunFault.TheVariants as faults
 use Rattle.hd_protocol.specs.declared.serving.ServeFault.{ServeFault}
-use Rattle.hd_protocol.specs.Serving.{Serves}
+use Rattle.hd_protocol.specs.Serving.{OfBytes, ServesFrom}
 
--- the bytes are a dump, and lines were served over it
-abbrev pub ServesDump : Mode → (bytes : List ℕ) → (input rest before after : Option (List ℕ)) → Result (Unit {0}) ServeFault → Type 0
-ServesDump mode bytes input rest before after result = (dump : Dump) × IsDumpOf mode bytes dump × Serves dump input rest before after result
+-- an analyst was served alone over a dump, to the end of the input or to `quit`
+abbrev pub ServesAlone : Dump → (input before after : Option (List ℕ)) → Type 0
+ServesAlone dump input before after = OfBytes input (λ bytes. (written : List ℕ) × Appends before after written × IsServed dump bytes written)
+
+-- the only analyst of a board over a dump was served from the empty log. That nothing came between the turns isn't said
+abbrev pub ServesLone : Dump → (input rest before after : Option (List ℕ)) → Result (Unit {0}) ServeFault → Type 0
+ServesLone dump input rest before after ended = (last : Memory) × ServesFrom (lone_analyst dump) (beginning [] []) last input rest before after ended
+
+-- how a run over an open dump ends: an analyst was served alone; or memory ran out before anything was read or written; or
+-- serving ended early; or it ended well, and the board could not be closed then
+abbrev pub RunsOver : Dump → (input rest before after : Option (List ℕ)) → Result (Unit {0}) RunFault → Type 0
+RunsOver dump input rest before after (Ok done) = ServesAlone dump input before after
+RunsOver dump input rest before after (Err (faults.Dump f)) = ⊥
+RunsOver dump input rest before after (Err faults.Memory) = Keeps input rest × Keeps before after
+RunsOver dump input rest before after (Err (faults.Serve f)) = ServesLone dump input rest before after (Err f)
+RunsOver dump input rest before after (Err faults.Close) = ServesLone dump input rest before after (Ok tt)
 
 -- why a dump isn't open: it has this fault, or memory ran out
 abbrev pub IsOpenFault : (bytes : List ℕ) → RunFault → Type 0
@@ -23,11 +38,15 @@ IsOpenFault bytes faults.Memory = Unit {0}
 IsOpenFault bytes (faults.Serve f) = ⊥
 IsOpenFault bytes faults.Close = ⊥
 
--- how a run ends: lines were served to their end; or the dump has this fault, or memory ran out, and nothing was read
--- or written; or serving ended early. A board that can't be closed isn't met
+-- a run over the dump of these bytes
+abbrev pub RunsOverDump : Mode → (bytes : List ℕ) → (input rest before after : Option (List ℕ)) → Result (Unit {0}) RunFault → Type 0
+RunsOverDump mode bytes input rest before after ended = (dump : Dump) × IsDumpOf mode bytes dump × RunsOver dump input rest before after ended
+
+-- how a run over bytes ends: as one over their dump; or the dump has this fault, or memory ran out, and nothing was read or
+-- written
 abbrev pub RunsDump : Mode → (bytes : List ℕ) → (input rest before after : Option (List ℕ)) → Result (Unit {0}) RunFault → Type 0
-RunsDump mode bytes input rest before after (Ok done) = ServesDump mode bytes input rest before after (Ok done)
+RunsDump mode bytes input rest before after (Ok done) = RunsOverDump mode bytes input rest before after (Ok done)
 RunsDump mode bytes input rest before after (Err (faults.Dump f)) = ((f ≡ fault OutOfMemory 0) ⊎ IsReadFault bytes f) × Keeps input rest × Keeps before after
 RunsDump mode bytes input rest before after (Err faults.Memory) = Keeps input rest × Keeps before after
-RunsDump mode bytes input rest before after (Err (faults.Serve f)) = ServesDump mode bytes input rest before after (Err f)
-RunsDump mode bytes input rest before after (Err faults.Close) = ⊥
+RunsDump mode bytes input rest before after (Err (faults.Serve f)) = RunsOverDump mode bytes input rest before after (Err (faults.Serve f))
+RunsDump mode bytes input rest before after (Err faults.Close) = RunsOverDump mode bytes input rest before after (Err faults.Close)

@@ -3,12 +3,13 @@
 use Rattle.std.specs.Prelude.{◌≡◌, ℕ, true, false, List, [], ◌∷◌, ◌++◌, take, Option, Some, Result, Ok, Err, IfSome}
 use Rattle.std.specs.List.{AllByRecursion}
 use Rattle.std.specs.Io.KnownBytes.{Keeps, Appends}
-use Rattle.hd_terms.specs.Dump.{Dump}
 use Rattle.hd_terms.specs.Lines.{command_of, pieces, whole_lines, is_quit}
-use Rattle.hd_terms.specs.Log.{IsLawful}
-use Rattle.hd_terms.specs.Memory.{Memory, beginning}
-use Rattle.hd_terms.specs.Sessions.{Turn, IsTurn, IsSessionAlone, memory_after, replies, IsServed, IsServedUntilRead, IsServedUntilWrite}
-use Rattle.hd_protocol.specs.Work.{Work}
+use Rattle.hd_terms.specs.Memory.{Memory, beginning, board_log}
+use Rattle.hd_terms.specs.Schedule.{Board}
+use Rattle.hd_terms.specs.Sessions.{Analyst, Turn, IsSessionOver, memory_after, replies, IsServedBy, IsServedUntilReadBy, IsServedUntilWriteBy}
+use Rattle.hd_board.specs.Replicas.{Replica}
+use Rattle.hd_protocol.specs.Answering.{IsAnswered}
+use Rattle.hd_protocol.specs.Work.{Work, analyst_at}
 use Rattle.hd_protocol.specs.declared.serving.ServeFault.{ServeFault}
 use Rattle.hd_protocol.specs.declared.serving.ServeFault.TheVariants as faults
 use Rattle.hd_protocol.specs.declared.serving.Flow.{Flow}
@@ -28,23 +29,32 @@ open_line seen = last_piece (pieces seen)
 abbrev pub kept_of : List ℕ → List ℕ
 kept_of line = take 4097 line
 
--- the turn of an analyst alone: what is remembered before it and after it
-abbrev pub turn_alone : (line : List ℕ) → (before after : Memory) → (reply : List ℕ) → Turn
-turn_alone line before after reply = record { line = line; before = before; found = before.log; after = after; reply = reply }
-
--- these lines were answered so by an analyst alone, and this is remembered then
-pub record IsAnsweredSoFar (dump : Dump) (lines : List (List ℕ)) (written : List ℕ) (memory : Memory) : Type 0 where
+-- these lines were answered so, from what is remembered at first, and this is remembered then
+pub record IsAnsweredSoFar (a : Analyst) (first : Memory) (lines : List (List ℕ)) (written : List ℕ) (memory : Memory) : Type 0 where
   pub turns : List Turn
-  pub session : IsSessionAlone dump lines turns
+  pub session : IsSessionOver a first lines turns
   pub written_is : written ≡ replies turns
-  pub memory_is : memory ≡ memory_after (beginning [] []) turns
-  pub lawful : IsLawful memory.log
+  pub memory_is : memory ≡ memory_after first turns
+
+-- the whole input was served: this is written, and this is remembered then
+abbrev pub ServedFrom : Analyst → (first last : Memory) → (input written : List ℕ) → Type 0
+ServedFrom a first last input written = (turns : List Turn) × IsServedBy (IsSessionOver a first) turns input written × (last ≡ memory_after first turns)
+
+-- the same where the input could be read no further
+abbrev pub ServedUntilReadFrom : Analyst → (first last : Memory) → (input rest written : List ℕ) → Type 0
+ServedUntilReadFrom a first last input rest written =
+    (turns : List Turn) × IsServedUntilReadBy (IsSessionOver a first) turns input rest written × (last ≡ memory_after first turns)
+
+-- and where the output could be written no further
+abbrev pub ServedUntilWriteFrom : Analyst → (first last : Memory) → (input written : List ℕ) → Type 0
+ServedUntilWriteFrom a first last input written =
+    (turns : List Turn) × IsServedUntilWriteBy (IsSessionOver a first) turns input written × (last ≡ memory_after first turns)
 
 -- the lines that don't end a session
 abbrev pub NoneQuits : List (List ℕ) → Type 0
 NoneQuits lines = AllByRecursion (λ line. is_quit line ≡ false) lines
 
--- what is known between two bytes: the dump with what is remembered, and what is kept of the open line
+-- what is known between two bytes: what is worked on, and what is kept of the open line
 pub record Midway : Type 0 where
   pub work : Work
   pub kept : List ℕ
@@ -53,24 +63,26 @@ abbrev pub midway : Work → List ℕ → Midway
 midway work kept = record { work = work; kept = kept }
 
 -- the whole lines of what was read are answered, none of them is `quit`, and the open line is kept
-pub record IsOpen (dump : Dump) (seen : List ℕ) (m : Midway) (written : List ℕ) : Type 0 where
-  pub same_dump : m.work.dump ≡ dump
-  pub so_far : IsAnsweredSoFar dump (whole_lines seen) written m.work.memory
+pub record IsOpen (a : Analyst) (first : Memory) (seen : List ℕ) (m : Midway) (written : List ℕ) : Type 0 where
+  pub same_analyst : m.work.analyst ≡ a
+  pub so_far : IsAnsweredSoFar a first (whole_lines seen) written m.work.memory
   pub none_quits : NoneQuits (whole_lines seen)
   pub kept_is : m.kept ≡ kept_of (open_line seen)
 
 -- how it stands once these bytes were read and those written: open, ended by `quit`, or by a fault of the writer
-abbrev pub Stands : Dump → (seen : List ℕ) → Midway → (written : List ℕ) → Result Flow ServeFault → Type 0
-Stands dump seen m written (Ok flows.GoesOn) = IsOpen dump seen m written
-Stands dump seen m written (Ok flows.Quits) = (rest : List ℕ) → IsServed dump (seen ++ rest) written
-Stands dump seen m written (Err faults.Read) = ⊥
-Stands dump seen m written (Err faults.Write) = (rest : List ℕ) → IsServedUntilWrite dump (seen ++ rest) written
-Stands dump seen m written (Err faults.OutOfMemory) = ⊥
+abbrev pub Stands : Analyst → (first : Memory) → (seen : List ℕ) → Midway → (written : List ℕ) → Result Flow ServeFault → Type 0
+Stands a first seen m written (Ok flows.GoesOn) = IsOpen a first seen m written
+Stands a first seen m written (Ok flows.Quits) = (rest : List ℕ) → ServedFrom a first m.work.memory (seen ++ rest) written
+Stands a first seen m written (Err faults.Read) = ⊥
+Stands a first seen m written (Err faults.Write) = (rest : List ℕ) → ServedUntilWriteFrom a first m.work.memory (seen ++ rest) written
+Stands a first seen m written (Err faults.OutOfMemory) = ⊥
 
 -- bytes are run: from how it stood before them to how it stands after them
 abbrev pub RunsBytes : (bytes : List ℕ) → (m m' : Midway) → (before after : Option (List ℕ)) → Result Flow ServeFault → Type 0
 RunsBytes bytes m m' before after result =
-    (dump : Dump) (seen written : List ℕ) → IsOpen dump seen m written → (more : List ℕ) × Appends before after more × Stands dump (seen ++ bytes) m' (written ++ more) result
+    (m'.work.analyst ≡ m.work.analyst)
+    × ((a : Analyst) (first : Memory) (seen written : List ℕ) → IsOpen a first seen m written
+    → (more : List ℕ) × Appends before after more × Stands a first (seen ++ bytes) m' (written ++ more) result)
 
 -- how a line that has this reply ends: the whole reply is written, or a front of it at a fault of the writer
 abbrev pub EndsLine : (line reply : List ℕ) → (before after : Option (List ℕ)) → Result Flow ServeFault → Type 0
@@ -80,45 +92,56 @@ EndsLine line reply before after (Err faults.Read) = ⊥
 EndsLine line reply before after (Err faults.Write) = (k : ℕ) × Appends before after (take k reply)
 EndsLine line reply before after (Err faults.OutOfMemory) = ⊥
 
--- a line that spells the same as this one has this reply, and turns what is remembered so
-abbrev pub IsTurnOf : Dump → (line : List ℕ) → (before after : Memory) → (reply : List ℕ) → Type 0
-IsTurnOf dump line before after reply = (spelled : List ℕ) → command_of spelled ≡ command_of line → IsTurn dump 0 (turn_alone spelled before after reply)
-
 -- a line is run
 pub record RunsLine (old new : Work) (line : List ℕ) (before after : Option (List ℕ)) (result : Result Flow ServeFault) : Type 0 where
   pub reply : List ℕ
-  pub same_dump : new.dump ≡ old.dump
-  pub is_turn : IsTurnOf old.dump line old.memory new.memory reply
+  pub answered : IsAnswered old new (command_of line) reply
   pub ends : EndsLine line reply before after result
 
 -- how it stands at the end of the input
-abbrev pub StandsAtEnd : Dump → (seen written : List ℕ) → Result Unit ServeFault → Type 0
-StandsAtEnd dump seen written (Ok done) = IsServed dump seen written
-StandsAtEnd dump seen written (Err faults.Read) = ⊥
-StandsAtEnd dump seen written (Err faults.Write) = IsServedUntilWrite dump seen written
-StandsAtEnd dump seen written (Err faults.OutOfMemory) = ⊥
+abbrev pub StandsAtEnd : Analyst → (first last : Memory) → (seen written : List ℕ) → Result Unit ServeFault → Type 0
+StandsAtEnd a first last seen written (Ok done) = ServedFrom a first last seen written
+StandsAtEnd a first last seen written (Err faults.Read) = ⊥
+StandsAtEnd a first last seen written (Err faults.Write) = ServedUntilWriteFrom a first last seen written
+StandsAtEnd a first last seen written (Err faults.OutOfMemory) = ⊥
 
 -- what is open at the end of the input is run
-abbrev pub RunsEnd : Midway → (before after : Option (List ℕ)) → Result Unit ServeFault → Type 0
-RunsEnd m before after result =
-    (dump : Dump) (seen written : List ℕ) → IsOpen dump seen m written → (more : List ℕ) × Appends before after more × StandsAtEnd dump seen (written ++ more) result
+abbrev pub RunsEnd : Midway → (new : Work) → (before after : Option (List ℕ)) → Result Unit ServeFault → Type 0
+RunsEnd m new before after result =
+    (new.analyst ≡ m.work.analyst)
+    × ((a : Analyst) (first : Memory) (seen written : List ℕ) → IsOpen a first seen m written
+    → (more : List ℕ) × Appends before after more × StandsAtEnd a first new.memory seen (written ++ more) result)
 
--- where the input is known, all of it was served, and the replies were written
-abbrev pub ServesAll : Dump → (input before after : Option (List ℕ)) → Type 0
-ServesAll dump input before after = IfSome input (λ bytes. (written : List ℕ) × Appends before after written × IsServed dump bytes written)
+-- of some bytes, which are those of the stream where it tells them
+abbrev pub OfBytes : Option (List ℕ) → (List ℕ → Type 0) → Type 0
+OfBytes told P = (bytes : List ℕ) × IfSome told (λ all. all ≡ bytes) × P bytes
 
--- where the input is known, a front of it was read and its whole lines served, and the replies were written
-abbrev pub ServesUntilRead : Dump → (input rest before after : Option (List ℕ)) → Type 0
-ServesUntilRead dump input rest before after =
-    IfSome input (λ bytes. (left : List ℕ) × (rest ≡ Some left) × (written : List ℕ) × Appends before after written × IsServedUntilRead dump bytes left written)
+-- all of the input was served, and the replies were written
+abbrev pub ServesAll : Analyst → (first last : Memory) → (input before after : Option (List ℕ)) → Type 0
+ServesAll a first last input before after = OfBytes input (λ bytes. (written : List ℕ) × Appends before after written × ServedFrom a first last bytes written)
 
--- where the input is known, lines of a front of it were served, and a front of the replies was written
-abbrev pub ServesUntilWrite : Dump → (input before after : Option (List ℕ)) → Type 0
-ServesUntilWrite dump input before after = IfSome input (λ bytes. (written : List ℕ) × Appends before after written × IsServedUntilWrite dump bytes written)
+-- a front of the input was read and its whole lines served, and the replies were written
+abbrev pub ServesUntilRead : Analyst → (first last : Memory) → (input rest before after : Option (List ℕ)) → Type 0
+ServesUntilRead a first last input rest before after =
+    OfBytes input (λ bytes. OfBytes rest (λ left. (written : List ℕ) × Appends before after written × ServedUntilReadFrom a first last bytes left written))
 
--- how serving ends
-abbrev pub Serves : Dump → (input rest before after : Option (List ℕ)) → Result Unit ServeFault → Type 0
-Serves dump input rest before after (Ok done) = ServesAll dump input before after
-Serves dump input rest before after (Err faults.Read) = ServesUntilRead dump input rest before after
-Serves dump input rest before after (Err faults.Write) = ServesUntilWrite dump input before after
-Serves dump input rest before after (Err faults.OutOfMemory) = Keeps input rest × Keeps before after
+-- lines of a front of the input were served, and a front of the replies was written
+abbrev pub ServesUntilWrite : Analyst → (first last : Memory) → (input before after : Option (List ℕ)) → Type 0
+ServesUntilWrite a first last input before after =
+    OfBytes input (λ bytes. (written : List ℕ) × Appends before after written × ServedUntilWriteFrom a first last bytes written)
+
+-- how serving ends, from what is remembered at first to what is remembered at last
+abbrev pub ServesFrom : Analyst → (first last : Memory) → (input rest before after : Option (List ℕ)) → Result Unit ServeFault → Type 0
+ServesFrom a first last input rest before after (Ok done) = ServesAll a first last input before after
+ServesFrom a first last input rest before after (Err faults.Read) = ServesUntilRead a first last input rest before after
+ServesFrom a first last input rest before after (Err faults.Write) = ServesUntilWrite a first last input before after
+ServesFrom a first last input rest before after (Err faults.OutOfMemory) = (last ≡ first) × Keeps input rest × Keeps before after
+
+-- a session of a desk at a board was served. The desk has then seen what the session had seen at last of the board's log: that
+-- of its last turn, or where it ended in a private part, of the part's home
+pub record Serves (board : Board) (old new : Replica) (input rest before after : Option (List ℕ)) (result : Result Unit ServeFault) : Type 0 where
+  pub last : Memory
+  pub served : ServesFrom (analyst_at board old) (beginning old.seen old.front) last input rest before after result
+  pub same_who : new.who ≡ old.who
+  pub same_dump : new.dump ≡ old.dump
+  pub seen_is : new.seen ≡ board_log last

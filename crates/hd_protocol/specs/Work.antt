@@ -1,28 +1,35 @@
 -- What an analyst works on.
 -- Source: this project.
-use Rattle.std.specs.Prelude.{List, map, None}
+use Rattle.std.specs.Prelude.{ℕ, List, [], ◌∷◌, map, Option, None}
 use Rattle.hd_terms.specs.declared.Event.{Event}
-use Rattle.hd_terms.specs.Dump.{Dump}
-use Rattle.hd_terms.specs.Memory.{Memory, at_log, with_mark}
+use Rattle.hd_terms.specs.Memory.{Memory, beginning}
+use Rattle.hd_terms.specs.Schedule.{Board}
+use Rattle.hd_terms.specs.Sessions.{Analyst}
+use Rattle.hd_board.specs.Replicas.{Replica}
 use Rattle.hd_state.specs.Situation.{Situation}
 
--- a dump, and what the session remembers
+-- the analyst, what the session remembers, and the log to which the state of the analyst's desk has come
 pub record Work : Type 0 where
-  pub dump : Dump
+  pub analyst : Analyst
   pub memory : Memory
-
--- the same with another log
-abbrev pub work_at : Work → List Event → Work
-work_at work log = record { dump = work.dump; memory = at_log work.memory log }
-
--- the same with one more mark, of its log
-abbrev pub work_marked : Work → Work
-work_marked work = record { dump = work.dump; memory = with_mark work.memory }
+  pub front : List Event
 
 -- the logs of marks
 abbrev pub logs_of : List Situation → List (List Event)
 logs_of marks = map (λ (mark : Situation). mark.log) marks
 
--- a state and its marks, with no private part
-abbrev pub work_on : Situation → List Situation → Work
-work_on state marks = record { dump = state.dump; memory = record { log = state.log; marks = logs_of marks; home = None } }
+-- what a session remembers under the log of a state, with marks, and in a private part if it has a home
+abbrev pub memory_at : List Event → List Situation → (home : Option (List Event)) → Memory
+memory_at log marks home = record { log = log; marks = logs_of marks; home = home }
+
+-- the analyst of a desk at a board
+abbrev pub analyst_at : Board → Replica → Analyst
+analyst_at board desk = record { dump = desk.dump; who = desk.who; roots = board.roots }
+
+-- the dump of a desk under the log of its state
+abbrev pub situation_of : Replica → Situation
+situation_of desk = record { dump = desk.dump; log = desk.front }
+
+-- a session of a desk at a board begins
+abbrev pub work_begun : Board → Replica → Work
+work_begun board desk = record { analyst = analyst_at board desk; memory = beginning desk.seen desk.front; front = desk.front }

@@ -1,58 +1,107 @@
 //! Edits and undos: what they ask of the log, and what they come to.
-ghost use Rattle.std.specs.Prelude.{Ok};
+ghost use Rattle.std.specs.Prelude.{◌≡◌};
 ghost use Rattle.hd_terms.specs.declared.What.TheVariants as whats;
 ghost use Rattle.hd_terms.specs.Asking.{edit_refusal, undo_asked, unless_refused};
-ghost use Rattle.hd_protocol.specs.Editing.{EditEnds};
+ghost use Rattle.hd_protocol.specs.Editing.{EditEnds, append_reason, edit_not_done, undo_not_done};
 
-use crate::analyst::Analyst;
-use hd_state::{Done, edit_refusal};
-use hd_terms::{Edit, Event, LogFault, Refusal, What};
+use crate::analyst::{Analyst, board_in, lawful_seen};
+use hd_board::{AppendFault, EditFault, UndoFault};
+use hd_state::Done;
+use hd_terms::{Edit, LogFault, Refusal};
 use std::alloc::Global;
+use std::sync::Wait;
 
-/// The number of the only analyst.
-const ANALYST: u8 = 0;
-
-/// Adds an edit to the log.
-pub(crate) fn apply_edit(alloc: Global, analyst: &mut Analyst, edit: Edit) -> Result<Done, Refusal>
-    ensures { EditEnds analyst.old analyst.new (unless_refused (edit_refusal analyst.old.dump edit) (whats.Do edit)) result }
-{
-    if let Some(refusal) = edit_refusal(analyst.state().graph(), edit) {
-        return Err(refusal);
-    }
-    append(alloc, analyst, What::Do(edit))
+/// Why an edit or an undo isn't answered with what it did.
+#[derive(Clone, Copy, Debug, PartialEq, Eq)]
+pub(crate) enum NotDone {
+    /// It isn't in the log.
+    Refused(Refusal),
+    /// It is the event of this number, but memory ran out as the desk caught up with it.
+    Accepted { event: u32 },
 }
 
-/// Takes back the event of a number, or without one the last live edit.
-pub(crate) fn undo(
-    alloc: Global,
-    analyst: &mut Analyst,
-    number: Option<u32>,
-) -> Result<Done, Refusal>
-    ensures { EditEnds analyst.old analyst.new (undo_asked analyst.old.memory.log 0 number) result }
+/// Why an event isn't appended, as it is answered.
+fn append_reason(fault: AppendFault) -> Refusal
+    ensures { result ≡ append_reason fault }
 {
-    let number = match number {
-        Some(number) => number,
-        None => match analyst.state().front().last_live(ANALYST) {
-            Some(number) => number,
-            None => return Err(Refusal::NothingToUndo),
-        },
-    };
-    append(alloc, analyst, What::Undo(number))
+    match fault {
+        AppendFault::Foreign(_) => Refusal::Foreign,
+        AppendFault::Refused(refusal, _) => refusal,
+        AppendFault::OutOfMemory => Refusal::Log(LogFault::OutOfMemory),
+    }
 }
 
-/// Adds the analyst's event to the log, and steps the state to it. Where it is refused, or finds no memory, nothing
-/// changes.
-fn append(alloc: Global, analyst: &mut Analyst, what: What) -> Result<Done, Refusal>
-    ensures { EditEnds analyst.old analyst.new (Ok what) result }
+/// Why an edit isn't done, as it is answered.
+fn edit_not_done(fault: EditFault) -> NotDone
+    ensures { result ≡ edit_not_done fault }
 {
-    let event = Event { who: ANALYST, what };
-    let state = analyst.state();
-    let roots = u64::from(state.graph().roots_len());
-    if let Some(refusal) = state.front().append_refusal(roots, &event) {
-        return Err(refusal);
+    match fault {
+        EditFault::Behind => NotDone::Refused(Refusal::Behind),
+        EditFault::Refused(refusal) => NotDone::Refused(refusal),
+        EditFault::Append(fault) => NotDone::Refused(append_reason(fault)),
+        EditFault::Accepted { event } => NotDone::Accepted { event },
     }
-    match analyst.step(alloc, event) {
-        Ok(done) => Ok(done),
-        Err(_) => Err(Refusal::Log(LogFault::OutOfMemory)),
+}
+
+/// Why an undo isn't done, as it is answered.
+fn undo_not_done(fault: UndoFault) -> NotDone
+    ensures { result ≡ undo_not_done fault }
+{
+    match fault {
+        UndoFault::Behind => NotDone::Refused(Refusal::Behind),
+        UndoFault::NothingToUndo => NotDone::Refused(Refusal::NothingToUndo),
+        UndoFault::Append(fault) => NotDone::Refused(append_reason(fault)),
+        UndoFault::Accepted { event } => NotDone::Accepted { event },
+    }
+}
+
+impl Analyst<'_> {
+    /// Adds an edit to the log.
+    ///
+    /// # Errors
+    ///
+    /// Why it isn't done.
+    pub(crate) fn edit(
+        &mut self,
+        rt: &impl Wait,
+        alloc: Global,
+        edit: Edit,
+    ) -> Result<Done, NotDone>
+        requires { self.old.front ≡ self.old.memory.log }
+        ensures { EditEnds self.old self.new (unless_refused (edit_refusal self.old.analyst.dump edit) (whats.Do edit)) result }
+    {
+        let board = board_in(self.board, &self.private);
+        let ended = self.desk.edit(rt, alloc, board, edit);
+        lawful_seen(&self.desk);
+        match ended {
+            Ok(done) => Ok(done),
+            Err(fault) => Err(edit_not_done(fault)),
+        }
+    }
+
+    /// Takes back the event of a number, or without one the last of the analyst's edits that is live.
+    ///
+    /// # Errors
+    ///
+    /// Why it isn't done.
+    pub(crate) fn undo(
+        &mut self,
+        rt: &impl Wait,
+        alloc: Global,
+        number: Option<u32>,
+    ) -> Result<Done, NotDone>
+        requires { self.old.front ≡ self.old.memory.log }
+        ensures { EditEnds self.old self.new (undo_asked self.old.memory.log self.old.analyst.who number) result }
+    {
+        let board = board_in(self.board, &self.private);
+        let ended = match number {
+            Some(number) => self.desk.undo(rt, alloc, board, number),
+            None => self.desk.undo_last(rt, alloc, board),
+        };
+        lawful_seen(&self.desk);
+        match ended {
+            Ok(done) => Ok(done),
+            Err(fault) => Err(undo_not_done(fault)),
+        }
     }
 }

@@ -1,16 +1,19 @@
-//! A run: a dump's bytes are opened, and lines are served over it.
-ghost use Rattle.std.specs.Prelude.{◌≡◌, ◌≤◌, [], IfOk, IfErr};
+//! A run: a dump's bytes are opened, and one analyst's lines are served over it.
+ghost use Rattle.std.specs.Prelude.{◌≡◌, IfOk, IfErr};
+ghost use Rattle.std.specs.Arc.{arc_value};
 ghost use Rattle.hd_terms.specs.Workers.{IsWorkers};
 ghost use Rattle.hd_terms.specs.Objects.{IsDumpOf};
-ghost use Rattle.hd_protocol.specs.Running.{RunsDump, IsOpenFault};
+ghost use Rattle.hd_board.specs.Opening.{opened_board, opened_desk};
+ghost use Rattle.hd_protocol.specs.Running.{RunsDump, RunsOver, IsOpenFault};
 
 use crate::serving::{ServeFault, serve};
+use hd_board::{Board, Desk, open};
 use hd_decode::NoGate;
-use hd_graph::open_dump;
-use hd_state::State;
+use hd_graph::{Graph, open_dump};
 use hd_terms::{Mode, NoMemory, ReadFault};
-use std::alloc::AllocFailed;
+use std::alloc::{AllocFailed, Global};
 use std::io::{BufRead, Write};
+use std::sync::{Arc, Wait};
 use std::thread::Threads;
 use thiserror::Error;
 
@@ -26,7 +29,7 @@ pub enum RunFault {
     /// Serving ended early.
     #[error(transparent)]
     Serve(ServeFault),
-    /// The log could not be closed; it isn't answered yet.
+    /// The board could not be closed with its desk.
     #[error("cannot close")]
     Close,
 }
@@ -71,28 +74,76 @@ impl From<ServeFault> for RunFault {
     }
 }
 
-/// Opens the bytes of a dump: its state with no edit.
+/// Opens the bytes of a dump.
 ///
 /// `workers` is the number of threads that decode, 1 to 16; `mode` says how far phantom references are followed.
+///
+/// # Errors
+///
+/// The dump's fault, or memory ran out.
 pub fn open_bytes<T: AllocGlobal + Threads + Sync>(
     rt: &T,
     bytes: &[u8],
     workers: u32,
     mode: Mode,
-) -> Result<State, RunFault>
+) -> Result<Arc<Graph>, RunFault>
     requires workers { IsWorkers workers }
-    ensures ok { IfOk result (λ state. IsDumpOf mode bytes.now state.dump × (state.log ≡ [])) }
+    ensures ok { IfOk result (λ graph. IsDumpOf mode bytes.now (arc_value graph)) }
     ensures err { IfErr result (λ f. IsOpenFault bytes.now f) }
 {
     let graph = open_dump(rt, rt.alloc(), bytes, workers, mode, &NoGate)?;
-    let state = State::open(rt.alloc(), graph)?;
-    Ok(state)
+    Ok(graph)
 }
 
-/// Opens the bytes of a dump and serves one analyst's lines over it.
+/// Opens a board of one desk over a dump's graph.
+///
+/// # Errors
+///
+/// Memory ran out.
+pub fn open_alone(alloc: Global, graph: Arc<Graph>) -> Result<(Board, Desk), NoMemory>
+    ensures board { IfOk result (λ r. r.0 ≡ opened_board (arc_value graph) 1) }
+    ensures desk { IfOk result (λ r. r.1 ≡ opened_desk (arc_value graph) 0) }
+{
+    let (board, mut desks) = open(alloc, graph, 1)?;
+    match desks.pop() {
+        Some(desk) => Ok((board, desk)),
+        None => Err(NoMemory),
+    }
+}
+
+/// Serves the lines of the only analyst of a board that was just opened, and closes the board.
+///
+/// # Errors
+///
+/// Serving ended early, or the board can't be closed.
+pub fn serve_alone<R: BufRead, W: Write>(
+    rt: &impl Wait,
+    alloc: Global,
+    board: Board,
+    desk: Desk,
+    input: &mut R,
+    output: &mut W,
+) -> Result<(), RunFault>
+    requires board { board ≡ opened_board desk.dump 1 }
+    requires desk { desk ≡ opened_desk desk.dump 0 }
+    ensures { RunsOver desk.dump (R.remaining input.old) (R.remaining input.new) (W.contents output.old) (W.contents output.new) result }
+{
+    let mut desks = [desk];
+    serve(rt, alloc, input, output, &board, &mut desks[0])?;
+    match board.close(&desks) {
+        Ok(_log) => Ok(()),
+        Err(_fault) => Err(RunFault::Close),
+    }
+}
+
+/// Opens the bytes of a dump and serves one analyst's lines over it, on a board of one desk, which is closed at the end.
 ///
 /// `workers` is the number of threads that decode, 1 to 16; `mode` says how far phantom references are followed.
-pub fn run_bytes<T: AllocGlobal + Threads + Sync, R: BufRead, W: Write>(
+///
+/// # Errors
+///
+/// The first of: the dump's fault, memory ran out, serving ended early, the board can't be closed.
+pub fn run_bytes<T: AllocGlobal + Threads + Wait + Sync, R: BufRead, W: Write>(
     rt: &T,
     bytes: &[u8],
     workers: u32,
@@ -103,7 +154,8 @@ pub fn run_bytes<T: AllocGlobal + Threads + Sync, R: BufRead, W: Write>(
     requires workers { IsWorkers workers }
     ensures { RunsDump mode bytes.now (R.remaining input.old) (R.remaining input.new) (W.contents output.old) (W.contents output.new) result }
 {
-    let state = open_bytes(rt, bytes, workers, mode)?;
-    serve(rt.alloc(), input, output, state)?;
+    let graph = open_bytes(rt, bytes, workers, mode)?;
+    let (board, desk) = open_alone(rt.alloc(), graph)?;
+    serve_alone(rt, rt.alloc(), board, desk, input, output)?;
     Ok(())
 }

@@ -2,17 +2,19 @@
 ghost use Rattle.std.specs.Prelude.{◌≡◌, ℕ, ◌≤◌, [], ◌∷◌, ◌++◌, length, take, Ok, Err, IfOk, IfErr, OnOk, OnErr, OnSome, if◌then◌else◌};
 ghost use Rattle.std.specs.Io.KnownBytes.{Keeps, Appends, Consumes, IsAtEnd};
 ghost use Rattle.hd_terms.specs.Lines.{is_quit_command};
-ghost use Rattle.hd_terms.specs.Memory.{beginning};
-ghost use Rattle.hd_protocol.specs.Serving.{kept_of, midway, RunsLine, RunsBytes, RunsEnd, Serves};
+ghost use Rattle.hd_protocol.specs.Serving.{kept_of, midway, RunsLine, RunsBytes, RunsEnd, Serves, ServesFrom};
 
-use crate::analyst::Analyst;
+use crate::analyst::{Analyst, first_marks};
+use crate::answering::answer;
 use crate::fixed_buffer::FixedBuffer;
-use crate::reply::{LONGEST_REPLY, answer};
-use hd_state::State;
+use crate::reply::LONGEST_REPLY;
+use hd_board::{Board, Desk};
 use hd_terms::{Command, LineFault, NoMemory};
 use hd_words::{LONGEST_LINE, read_command};
 use std::alloc::{AllocError, Global};
 use std::io::{BufRead, Write};
+use std::mem;
+use std::sync::Wait;
 use thiserror::Error;
 
 /// Why serving ended early.
@@ -115,20 +117,25 @@ fn refill<R: BufRead>(reader: &mut R, chunk: &mut FixedBuffer<CHUNK>) -> Result<
 
 /// What serves an analyst: what is kept for the analyst, the line that isn't ended yet, and room for a reply.
 #[derive(Drop)]
-struct Service {
+struct Service<'a> {
     alloc: Global,
-    analyst: Analyst,
+    analyst: Analyst<'a>,
     line: FixedBuffer<KEPT_LINE>,
     reply: FixedBuffer<LONGEST_REPLY>,
 }
 
 /// Runs the open line, and writes its reply.
-fn run_line<W: Write>(writer: &mut W, service: &mut Service) -> Result<Flow, ServeFault>
+fn run_line<W: Write>(
+    rt: &impl Wait,
+    writer: &mut W,
+    service: &mut Service<'_>,
+) -> Result<Flow, ServeFault>
     ensures line { service.new.line ≡ service.old.line }
     ensures runs { RunsLine service.old.analyst service.new.analyst service.old.line (W.contents writer.old) (W.contents writer.new) result }
 {
     let reading = read_command(service.line.as_slice());
     match answer(
+        rt,
         service.alloc,
         &mut service.analyst,
         reading,
@@ -151,11 +158,16 @@ fn flow_after(reading: Result<Command, LineFault>) -> Flow
 }
 
 /// Runs one byte: a newline ends the open line, any other byte goes onto it.
-fn run_byte<W: Write>(writer: &mut W, service: &mut Service, byte: u8) -> Result<Flow, ServeFault>
+fn run_byte<W: Write>(
+    rt: &impl Wait,
+    writer: &mut W,
+    service: &mut Service<'_>,
+    byte: u8,
+) -> Result<Flow, ServeFault>
     ensures { RunsBytes (byte ∷ []) (midway service.old.analyst service.old.line) (midway service.new.analyst service.new.line) (W.contents writer.old) (W.contents writer.new) result }
 {
     if byte == b'\n' {
-        let flow = run_line(writer, service)?;
+        let flow = run_line(rt, writer, service)?;
         service.line.clear();
         return Ok(flow);
     }
@@ -174,14 +186,15 @@ fn keep(line: &mut FixedBuffer<KEPT_LINE>, byte: u8)
 
 /// Runs bytes in turn.
 fn run_chunk<W: Write>(
+    rt: &impl Wait,
     writer: &mut W,
-    service: &mut Service,
+    service: &mut Service<'_>,
     bytes: &[u8],
 ) -> Result<Flow, ServeFault>
     ensures { RunsBytes bytes.now (midway service.old.analyst service.old.line) (midway service.new.analyst service.new.line) (W.contents writer.old) (W.contents writer.new) result }
 {
     for byte in bytes {
-        match run_byte(writer, service, *byte)? {
+        match run_byte(rt, writer, service, *byte)? {
             Flow::GoesOn => {}
             Flow::Quits => return Ok(Flow::Quits),
         }
@@ -190,35 +203,40 @@ fn run_chunk<W: Write>(
 }
 
 /// Runs what is left at the end of the input, if it has a byte.
-fn run_end<W: Write>(writer: &mut W, service: &mut Service) -> Result<(), ServeFault>
-    ensures { RunsEnd (midway service.old.analyst service.old.line) (W.contents writer.old) (W.contents writer.new) result }
+fn run_end<W: Write>(
+    rt: &impl Wait,
+    writer: &mut W,
+    service: &mut Service<'_>,
+) -> Result<(), ServeFault>
+    ensures { RunsEnd (midway service.old.analyst service.old.line) service.new.analyst (W.contents writer.old) (W.contents writer.new) result }
 {
     if service.line.as_slice().is_empty() {
         return Ok(());
     }
-    let _flow = run_line(writer, service)?;
+    let _flow = run_line(rt, writer, service)?;
     Ok(())
 }
 
 /// Reads, runs and answers until the input ends, a line is `quit`, or a fault.
 fn run_input<R: BufRead, W: Write>(
+    rt: &impl Wait,
     reader: &mut R,
     writer: &mut W,
-    service: &mut Service,
+    service: &mut Service<'_>,
     chunk: &mut FixedBuffer<CHUNK>,
 ) -> Result<(), ServeFault>
-    requires memory { service.old.analyst.memory ≡ beginning [] [] }
-    requires line { service.old.line ≡ [] }
-    ensures { Serves service.old.analyst.dump (R.remaining reader.old) (R.remaining reader.new) (W.contents writer.old) (W.contents writer.new) result }
+    requires { service.old.line ≡ [] }
+    ensures same_analyst { service.new.analyst.analyst ≡ service.old.analyst.analyst }
+    ensures serves { ServesFrom service.old.analyst.analyst service.old.analyst.memory service.new.analyst.memory (R.remaining reader.old) (R.remaining reader.new) (W.contents writer.old) (W.contents writer.new) result }
 {
     for _ in 0..MOST_REFILLS {
         flush(writer)?;
         refill(reader, chunk)?;
         let bytes = chunk.as_slice();
         if bytes.is_empty() {
-            return run_end(writer, service);
+            return run_end(rt, writer, service);
         }
-        match run_chunk(writer, service, bytes)? {
+        match run_chunk(rt, writer, service, bytes)? {
             Flow::GoesOn => {}
             Flow::Quits => return Ok(()),
         }
@@ -227,29 +245,53 @@ fn run_input<R: BufRead, W: Write>(
     Err(ServeFault::Read)
 }
 
-/// Serves the lines of a reader to a writer, from a state with no edits on, until the input ends, a line is `quit`, or
-/// a fault. Room for lines and short replies is taken before anything is read; the writer is flushed before each refill
-/// and at the end.
+/// Serves the lines of a reader to a writer: a session of a desk at a board, from what the desk has seen, until the input ends, a
+/// line is `quit`, or a fault. Before each command but `quit` the desk is refreshed. Room for lines, short replies and marks is
+/// taken before anything is read; the writer is flushed before each refill and at the end.
+///
+/// # Errors
+///
+/// The reader or the writer failed; or memory ran out before anything was read.
 pub fn serve<R: BufRead, W: Write>(
+    rt: &impl Wait,
     alloc: Global,
     reader: &mut R,
     writer: &mut W,
-    state: State,
+    board: &Board,
+    desk: &mut Desk,
 ) -> Result<(), ServeFault>
-    requires { state.log ≡ [] }
-    ensures { Serves state.dump (R.remaining reader.old) (R.remaining reader.new) (W.contents writer.old) (W.contents writer.new) result }
+    ensures { Serves board.now desk.old desk.new (R.remaining reader.old) (R.remaining reader.new) (W.contents writer.old) (W.contents writer.new) result }
 {
     let mut chunk = FixedBuffer::new(alloc)?;
     let line = FixedBuffer::new(alloc)?;
     let reply = FixedBuffer::new(alloc)?;
-    let analyst = Analyst::new(alloc, state)?;
+    let marks = first_marks(alloc, desk)?;
+    let (_board, stand_in) = Board::fork(desk)?;
+    let analyst = Analyst::begin(board, mem::replace(desk, stand_in), marks);
     let mut service = Service {
         alloc,
         analyst,
         line,
         reply,
     };
-    run_input(reader, writer, &mut service, &mut chunk)?;
+    let ended = run_all(rt, reader, writer, &mut service, &mut chunk);
+    *desk = service.analyst.leave();
+    ended
+}
+
+/// Runs the whole input, and hands on what was written.
+fn run_all<R: BufRead, W: Write>(
+    rt: &impl Wait,
+    reader: &mut R,
+    writer: &mut W,
+    service: &mut Service<'_>,
+    chunk: &mut FixedBuffer<CHUNK>,
+) -> Result<(), ServeFault>
+    requires { service.old.line ≡ [] }
+    ensures same_analyst { service.new.analyst.analyst ≡ service.old.analyst.analyst }
+    ensures serves { ServesFrom service.old.analyst.analyst service.old.analyst.memory service.new.analyst.memory (R.remaining reader.old) (R.remaining reader.new) (W.contents writer.old) (W.contents writer.new) result }
+{
+    run_input(rt, reader, writer, service, chunk)?;
     flush(writer)?;
     Ok(())
 }

@@ -101,7 +101,8 @@ fn stat_of_bytes<T: AllocGlobal + Threads + Sync>(
     ensures ok { IfOk result (λ text. IsStatOf mode bytes.now (string_bytes text)) }
     ensures err { IfErr result (λ f. IsOpenFault bytes.now f) }
 {
-    let state = open_bytes(rt, bytes, workers, mode)?;
+    let graph = open_bytes(rt, bytes, workers, mode)?;
+    let state = State::open(rt.alloc(), graph)?;
     let text = stat_text(rt.alloc(), &state)?;
     Ok(text)
 }

@@ -233,6 +233,16 @@ change_command word arguments =
     else if bytes_eq word (codes "undo") then undo_command arguments
     else Err faults.UnknownCommand
 
+-- the commands that are about the session, and those that change the log
+abbrev pub session_command : List ℕ → List (List ℕ) → Result Command LineFault
+session_command word arguments =
+    if bytes_eq word (codes "mark") then bare_command commands.Mark arguments
+    else if bytes_eq word (codes "fell") then fell_command arguments
+    else if bytes_eq word (codes "private") then bare_command commands.Private arguments
+    else if bytes_eq word (codes "back") then bare_command commands.Back arguments
+    else if bytes_eq word (codes "quit") then bare_command commands.Quit arguments
+    else change_command word arguments
+
 -- the first word decides, in lower case; then the arguments have to fit
 abbrev pub command_of_words : List (List ℕ) → Result Command LineFault
 command_of_words [] = Err faults.UnknownCommand
@@ -244,13 +254,8 @@ command_of_words (word ∷ arguments) =
     else if bytes_eq word (codes "roots") then bare_command commands.Roots arguments
     else if bytes_eq word (codes "classes") then classes_command arguments
     else if bytes_eq word (codes "members") then members_command arguments
-    else if bytes_eq word (codes "mark") then bare_command commands.Mark arguments
-    else if bytes_eq word (codes "fell") then fell_command arguments
     else if bytes_eq word (codes "events") then bare_command commands.Events arguments
-    else if bytes_eq word (codes "private") then bare_command commands.Private arguments
-    else if bytes_eq word (codes "back") then bare_command commands.Back arguments
-    else if bytes_eq word (codes "quit") then bare_command commands.Quit arguments
-    else change_command word arguments
+    else session_command word arguments
 
 -- the command that a line spells, or the first of its faults: too long, unknown, a wrong argument
 abbrev pub command_of : List ℕ → Result Command LineFault

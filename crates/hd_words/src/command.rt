@@ -1,6 +1,6 @@
 //! The commands that lines spell.
 ghost use Rattle.std.specs.Prelude.{◌≡◌};
-ghost use Rattle.hd_terms.specs.Lines.{bare_command, change_command, command_of, cut_command, members_command, spelled, undo_command};
+ghost use Rattle.hd_terms.specs.Lines.{bare_command, change_command, command_of, cut_command, members_command, session_command, spelled, undo_command};
 ghost use Rattle.hd_words.specs.Words.{words_between};
 
 use crate::arguments::{
@@ -38,12 +38,25 @@ pub fn read_command(line: &[u8]) -> Result<Command, LineFault>
         spelled(read_only_strength(rest).map(|strength| Command::Classes(strength)))
     } else if word == b"members".as_slice() {
         read_members(rest)
-    } else if word == b"mark".as_slice() {
+    } else if word == b"events".as_slice() {
+        read_bare(Command::Events, rest)
+    } else {
+        read_session(word, rest)
+    }
+}
+
+/// The command that is about the session, or one that changes the log, by its first word and what follows it.
+fn read_session(word: &[u8], rest: &[u8]) -> Result<Command, LineFault>
+    ensures { result ≡ session_command word.now (words_between rest.now) }
+{
+    if word == b"mark".as_slice() {
         read_bare(Command::Mark, rest)
     } else if word == b"fell".as_slice() {
         spelled(read_only_number(rest).map(|mark| Command::Fell(mark)))
-    } else if word == b"events".as_slice() {
-        read_bare(Command::Events, rest)
+    } else if word == b"private".as_slice() {
+        read_bare(Command::Private, rest)
+    } else if word == b"back".as_slice() {
+        read_bare(Command::Back, rest)
     } else if word == b"quit".as_slice() {
         read_bare(Command::Quit, rest)
     } else {

@@ -1,9 +1,0 @@
-use Rattle.hd_protocol.specs.Serving.{midway}
-use Rattle.hd_protocol.proofs.ServedLines.{IsRunning}
-use Rattle.hd_protocol.proofs.serving.run_input.Given as goal
-
--- what was read so far was served
-abbrev pub invariant-loop : goal.invariant-loop
-invariant-loop g l =
-    IsRunning l.fn.service.analyst.dump (g.R.Read.remaining l.initial.reader) (g.R.Read.remaining l.reader) (g.W.Write.contents l.initial.writer) (g.W.Write.contents l.writer)
-    (midway l.service.analyst l.service.line)
