@@ -137,6 +137,11 @@ ServesFrom a first last input rest before after (Err faults.Read) = ServesUntilR
 ServesFrom a first last input rest before after (Err faults.Write) = ServesUntilWrite a first last input before after
 ServesFrom a first last input rest before after (Err faults.OutOfMemory) = (last ≡ first) × Keeps input rest × Keeps before after
 
+-- lines were served: the analyst is the same, and the session went on from what was remembered to what is
+pub record RunsInput (old new : Work) (input rest before after : Option (List ℕ)) (result : Result Unit ServeFault) : Type 0 where
+  pub same_analyst : new.analyst ≡ old.analyst
+  pub serves : ServesFrom old.analyst old.memory new.memory input rest before after result
+
 -- a session of a desk at a board was served. The desk has then seen what the session had seen at last of the board's log: that
 -- of its last turn, or where it ended in a private part, of the part's home
 pub record Serves (board : Board) (old new : Replica) (input rest before after : Option (List ℕ)) (result : Result Unit ServeFault) : Type 0 where

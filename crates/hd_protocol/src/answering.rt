@@ -1,6 +1,7 @@
 //! Lines that spell something are run and answered.
 ghost use Rattle.std.specs.Prelude.{◌≡◌, MatchOption, Ok, false, string_bytes, true};
 ghost use Rattle.hd_terms.specs.Lines.{is_quit_command};
+ghost use Rattle.hd_terms.specs.Log.{IsLawful};
 ghost use Rattle.hd_protocol.specs.Answering.{IsAnswered, IsRun};
 ghost use Rattle.hd_protocol.specs.Replying.{is_query};
 
@@ -28,14 +29,15 @@ pub(crate) fn answer(
 {
     analyst.is_lawful();
     match reading {
-        Ok(Command::Quit) => put_head(out, 0),
-        Ok(command) => return answer_command(rt, alloc, analyst, command, out),
-        Err(fault) => put_refused(out, fault_name(fault)),
+        Ok(command) => answer_command(rt, alloc, analyst, command, out),
+        Err(fault) => {
+            put_refused(out, fault_name(fault));
+            None
+        }
     }
-    None
 }
 
-/// Refreshes the desk, runs a command, and answers it.
+/// Refreshes the desk, runs a command, and answers it. For `quit` the desk isn't refreshed.
 fn answer_command(
     rt: &impl Wait,
     alloc: Global,
@@ -43,10 +45,14 @@ fn answer_command(
     command: Command,
     out: &mut FixedBuffer<LONGEST_REPLY>,
 ) -> Option<String>
-    requires { is_quit_command (Ok command) ≡ false }
+    requires { IsLawful analyst.old.memory.log }
     ensures { MatchOption result (IsAnswered analyst.old analyst.new (Ok command) out.new)
         (λ text. IsAnswered analyst.old analyst.new (Ok command) (string_bytes text)) }
 {
+    if let Command::Quit = command {
+        put_head(out, 0);
+        return None;
+    }
     if let Err(refusal) = analyst.refresh(rt, alloc) {
         put_refused(out, refusal_text(refusal));
         return None;

@@ -2,7 +2,7 @@
 ghost use Rattle.std.specs.Prelude.{◌≡◌, ℕ, ◌≤◌, [], ◌∷◌, ◌++◌, length, take, Ok, Err, IfOk, IfErr, OnOk, OnErr, OnSome, if◌then◌else◌};
 ghost use Rattle.std.specs.Io.KnownBytes.{Keeps, Appends, Consumes, IsAtEnd};
 ghost use Rattle.hd_terms.specs.Lines.{is_quit_command};
-ghost use Rattle.hd_protocol.specs.Serving.{kept_of, midway, RunsLine, RunsBytes, RunsEnd, Serves, ServesFrom};
+ghost use Rattle.hd_protocol.specs.Serving.{kept_of, midway, RunsLine, RunsBytes, RunsEnd, RunsInput, Serves};
 
 use crate::analyst::{Analyst, first_marks};
 use crate::answering::answer;
@@ -226,8 +226,7 @@ fn run_input<R: BufRead, W: Write>(
     chunk: &mut FixedBuffer<CHUNK>,
 ) -> Result<(), ServeFault>
     requires { service.old.line ≡ [] }
-    ensures same_analyst { service.new.analyst.analyst ≡ service.old.analyst.analyst }
-    ensures serves { ServesFrom service.old.analyst.analyst service.old.analyst.memory service.new.analyst.memory (R.remaining reader.old) (R.remaining reader.new) (W.contents writer.old) (W.contents writer.new) result }
+    ensures { RunsInput service.old.analyst service.new.analyst (R.remaining reader.old) (R.remaining reader.new) (W.contents writer.old) (W.contents writer.new) result }
 {
     for _ in 0..MOST_REFILLS {
         flush(writer)?;
@@ -288,8 +287,7 @@ fn run_all<R: BufRead, W: Write>(
     chunk: &mut FixedBuffer<CHUNK>,
 ) -> Result<(), ServeFault>
     requires { service.old.line ≡ [] }
-    ensures same_analyst { service.new.analyst.analyst ≡ service.old.analyst.analyst }
-    ensures serves { ServesFrom service.old.analyst.analyst service.old.analyst.memory service.new.analyst.memory (R.remaining reader.old) (R.remaining reader.new) (W.contents writer.old) (W.contents writer.new) result }
+    ensures { RunsInput service.old.analyst service.new.analyst (R.remaining reader.old) (R.remaining reader.new) (W.contents writer.old) (W.contents writer.new) result }
 {
     run_input(rt, reader, writer, service, chunk)?;
     flush(writer)?;
