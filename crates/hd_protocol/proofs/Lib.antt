@@ -6,3 +6,4 @@ pub mod Stating
 pub mod AnswerLemmas
 pub mod Alone
 pub mod ServedDesks
+pub mod EditLemmas
