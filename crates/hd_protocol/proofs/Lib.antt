@@ -7,3 +7,4 @@ pub mod AnswerLemmas
 pub mod Alone
 pub mod ServedDesks
 pub mod EditLemmas
+pub mod QueryLemmas
