@@ -1,5 +1,5 @@
 -- Lemmas on what a line is answered that spells something.
-use Rattle.std.proofs.Common.{◌≡◌, ◌∙◌, ℕ, ◌⊎◌, inl, inr, Bool, true, false, List, take, ◌∷◌, [], ◌++◌, length, drop, codes, Option, None, Some, Result, Ok, Err, refl, sym, ap, subst, append-nil}
+use Rattle.std.proofs.Common.{◌≡◌, ◌∙◌, ℕ, inl, inr, Bool, true, false, List, take, ◌∷◌, [], codes, Option, Some, Result, Ok, Err, refl, sym, ap, subst, append-nil}
 use Rattle.std.specs.Prelude.{if◌then◌else◌, not}
 use Rattle.std.specs.Io.KnownBytes.{Appends}
 use Rattle.hd_terms.specs.declared.Event.{Event}
@@ -10,11 +10,9 @@ use Rattle.hd_terms.specs.declared.commands.LineFault.{LineFault}
 use Rattle.hd_terms.specs.declared.errors.LogFault.TheVariants as faults
 use Rattle.hd_terms.specs.declared.errors.Refusal.{Refusal}
 use Rattle.hd_terms.specs.declared.errors.Refusal.TheVariants as refusals
-use Rattle.hd_terms.specs.Appending.{append_refusal}
 use Rattle.hd_terms.specs.Asking.{asked}
 use Rattle.hd_terms.specs.Lines.{command_of, is_quit, is_quit_command}
 use Rattle.hd_terms.specs.Log.{IsLawful}
-use Rattle.hd_terms.specs.Memory.{Memory, at_log}
 use Rattle.hd_terms.specs.Replies.{RepliesTo, RefusesPrivate, RefusesBack, IsUnserved, answered, event_line, line_fault_name, refused, refusal_name, refreshes}
 use Rattle.hd_terms.specs.Sessions.{Analyst, IsLater, IsRefreshed, IsTurn, event_by, with_event}
 use Rattle.hd_terms.specs.Sessions as sessions

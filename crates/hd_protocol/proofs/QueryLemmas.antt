@@ -87,10 +87,10 @@ pub query_run : (w : Work) (state : Situation) (marks : List Situation) (c : Com
     → logs_of marks ≡ w.memory.marks → IsQueryReply state marks c reply → IsRun w w (Ok c) reply
 query_run w state marks c reply dump log front logs h =
     leaves w (Ok c) reply (λ line spells.
-        let m : memory_at state.log marks w.memory.home ≡ w.memory = memory_is state.log marks w.memory (log ∙ front) logs in
-        let r : RepliesTo w.analyst.dump w.memory (Ok c) reply =
-            subst (λ d. RepliesTo d w.memory (Ok c) reply) dump (subst (λ x. RepliesTo state.dump x (Ok c) reply) m (h w.memory.home)) in
-        answered (subst (λ x. RepliesTo w.analyst.dump w.memory x reply) (sym spells) r) refl refl)
+    let m : memory_at state.log marks w.memory.home ≡ w.memory = memory_is state.log marks w.memory (log ∙ front) logs in
+    let r : RepliesTo w.analyst.dump w.memory (Ok c) reply =
+    subst (λ d. RepliesTo d w.memory (Ok c) reply) dump (subst (λ x. RepliesTo state.dump x (Ok c) reply) m (h w.memory.home)) in
+    answered (subst (λ x. RepliesTo w.analyst.dump w.memory x reply) (sym spells) r) refl refl)
 
 -- a query isn't run
 pub query_unserved : (w : Work) (c : Command) (reply : List ℕ) → is_query c ≡ true → IsUnserved reply → IsRun w w (Ok c) reply

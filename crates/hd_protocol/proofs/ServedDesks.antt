@@ -1,8 +1,7 @@
 -- Lemmas on a desk that is served, and on the only desk of a board.
-use Rattle.std.proofs.Common.{◌≡◌, ◌∙◌, ℕ, ◌+◌, ◌<◌, List, [], ◌∷◌, length, true, Option, Some, None, Result, Ok, Err, refl, sym, ap, subst, arith}
+use Rattle.std.proofs.Common.{◌≡◌, ◌∙◌, ℕ, List, [], ◌∷◌, true, Option, Result, Ok, Err, refl, sym, ap, subst, arith}
 use Rattle.std.specs.Prelude.{◌==◌}
-use Rattle.std.specs.List.{AllByRecursion, All, Contains}
-use Rattle.std.specs.Io.KnownBytes.{Keeps}
+use Rattle.std.specs.List.{Contains}
 use Rattle.std.proofs.KnownBytes.{Keeps-refl}
 use Rattle.std.proofs.lemmas.List.Elements.{All-weaker, recursion_from_All}
 use Rattle.hd_terms.specs.declared.Event.{Event}
@@ -15,7 +14,7 @@ use Rattle.hd_board.specs.Replicas.{Replica}
 use Rattle.hd_board.proofs.Numbers.{number_within}
 use Rattle.hd_protocol.specs.declared.serving.ServeFault.{ServeFault}
 use Rattle.hd_protocol.specs.declared.serving.ServeFault.TheVariants as faults
-use Rattle.hd_protocol.specs.Running.{ServesAlone, ServesLone}
+use Rattle.hd_protocol.specs.Running.{ServesAlone}
 use Rattle.hd_protocol.specs.Serving.{RunsInput, Serves}
 use Rattle.hd_protocol.specs.Work.{Work, work_begun}
 use Rattle.hd_protocol.proofs.Alone.{OnlyBy, only_front, alone}
@@ -48,13 +47,14 @@ served_desk board desk begun new left input rest before after result is runs who
 only_number : (n : ℕ) → Contains (numbers_from 0 1) n → (n == 0) ≡ true
 only_number n found =
     let within = number_within 0 1 n found in
-    ap (λ (k : ℕ). k == 0) (omega (arith, within.1))
+    let is : n ≡ 0 = omega (arith, within.1) in
+    ap (λ (k : ℕ). k == 0) is
 
 -- all events of a board of one desk are that desk's, where it can be closed
 only_desk : (dump : Dump) (desk : Replica) (log : List Event) → Closes (opened_board dump 1) log ((desk.who, desk.seen) ∷ []) → OnlyBy 0 desk.seen
 only_desk dump desk log closes =
     let all : OnlyBy 0 log = recursion_from_All (λ (e : Event). (e.who == 0) ≡ true) log
-        (All-weaker (λ (e : Event). Contains (numbers_from 0 1) e.who) (λ (e : Event). (e.who == 0) ≡ true) (λ (e : Event) found. only_number e.who found) log closes.members) in
+    (All-weaker (λ (e : Event). Contains (numbers_from 0 1) e.who) (λ (e : Event). (e.who == 0) ≡ true) (λ (e : Event) found. only_number e.who found) log closes.members) in
     let begins = (closes.continues desk.who desk.seen (0, omega arith, refl)).begins in
     only_front 0 desk.seen begins.0 (subst (OnlyBy 0) begins.1 all)
 

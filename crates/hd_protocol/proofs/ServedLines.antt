@@ -181,8 +181,7 @@ longer seen bs cs rest = sym (append_assoc (seen ++ bs) cs rest) ∙ ap (λ l. l
 module _ (old new : Work) (line kept : List ℕ) (b : ℕ) (before after : Option (List ℕ)) (newline : b ≡ 10) (same : line ≡ kept) where
   pub runs_newline : (kept' : List ℕ) (flow : Flow) → kept' ≡ [] → RunsLine old new line before after (Ok flow) → RunsBytes (b ∷ []) (midway old kept) (midway new kept') before after (Ok flow)
   runs_newline kept' flow none run =
-      let ran : RunsBytes (10 ∷ []) (midway old kept) (midway new []) before after (Ok flow) =
-      (
+      let ran : RunsBytes (10 ∷ []) (midway old kept) (midway new []) before after (Ok flow) = (
         answered_same old new (command_of line) run.reply run.answered,
         λ a first seen written o. newline_ok a first seen (midway old kept) written o new before after flow (subst (λ l. RunsLine old new l before after (Ok flow)) same run),
       ) in
@@ -192,8 +191,7 @@ module _ (old new : Work) (line kept : List ℕ) (b : ℕ) (before after : Optio
   pub runs_newline_fault : (kept' : List ℕ) (e : ServeFault) (result : Result Flow ServeFault) → result ≡ Err e → RunsLine old new line before after (Err e)
       → RunsBytes (b ∷ []) (midway old kept) (midway new kept') before after result
   runs_newline_fault kept' e result is run =
-      let ran : RunsBytes (10 ∷ []) (midway old kept) (midway new kept') before after (Err e) =
-      (
+      let ran : RunsBytes (10 ∷ []) (midway old kept) (midway new kept') before after (Err e) = (
         answered_same old new (command_of line) run.reply run.answered,
         λ a first seen written o. newline_err a first seen (midway old kept) written o new before after kept' e (subst (λ l. RunsLine old new l before after (Err e)) same run),
       ) in

@@ -1,6 +1,6 @@
 -- What is kept for an analyst, and what holds of it.
 -- Source: this project.
-use Rattle.std.specs.Prelude.{◌≡◌, ◌≤◌, ℕ, List, length, All, Option, None, Some}
+use Rattle.std.specs.Prelude.{◌≡◌, ◌≤◌, List, length, All, Option, None, Some}
 use Rattle.hd_terms.specs.declared.Event.{Event}
 use Rattle.hd_terms.specs.Memory.{most_marks}
 use Rattle.hd_terms.specs.Schedule.{Board}

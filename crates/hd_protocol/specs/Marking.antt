@@ -1,6 +1,6 @@
 -- How `mark`, `private` and `back` end, and how a desk is refreshed before a command.
 -- Source: this project.
-use Rattle.std.specs.Prelude.{◌≡◌, ◌⊎◌, ◌≤◌, ◌<◌, ℕ, List, [], ◌∷◌, ◌++◌, length, drop, decimal, Option, None, Some, Result, Ok, Err}
+use Rattle.std.specs.Prelude.{◌≡◌, ◌⊎◌, ◌≤◌, ◌<◌, ℕ, List, [], ◌∷◌, ◌++◌, length, drop, decimal, None, Some, Result, Ok, Err}
 use Rattle.hd_terms.specs.declared.Event.{Event}
 use Rattle.hd_terms.specs.declared.errors.LogFault.TheVariants as faults
 use Rattle.hd_terms.specs.declared.errors.Refusal.{Refusal}

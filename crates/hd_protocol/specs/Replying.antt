@@ -1,6 +1,6 @@
 -- Parts of replies, and replies to queries.
 -- Source: this project.
-use Rattle.std.specs.Prelude.{◌≡◌, ℕ, Bool, true, false, List, ◌++◌, codes, decimal, Option, None, Some, Result, Ok}
+use Rattle.std.specs.Prelude.{ℕ, Bool, true, false, List, ◌++◌, codes, decimal, Option, None, Some, Ok}
 use Rattle.hd_terms.specs.declared.Event.{Event}
 use Rattle.hd_terms.specs.declared.commands.Command.{Command}
 use Rattle.hd_terms.specs.declared.commands.Command.TheVariants as commands

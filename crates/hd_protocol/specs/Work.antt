@@ -1,6 +1,6 @@
 -- What an analyst works on.
 -- Source: this project.
-use Rattle.std.specs.Prelude.{ℕ, List, [], ◌∷◌, map, Option, None}
+use Rattle.std.specs.Prelude.{List, map, Option}
 use Rattle.hd_terms.specs.declared.Event.{Event}
 use Rattle.hd_terms.specs.Memory.{Memory, beginning}
 use Rattle.hd_terms.specs.Schedule.{Board}

@@ -12,7 +12,7 @@ use std::alloc::Global;
 use std::sync::Wait;
 
 /// Why an edit or an undo isn't answered with what it did.
-#[derive(Clone, Copy, Debug, PartialEq, Eq)]
+#[derive(Clone, Copy)]
 pub(crate) enum NotDone {
     /// It isn't in the log.
     Refused(Refusal),

@@ -52,7 +52,7 @@ impl From<NoMemory> for ServeFault {
 }
 
 /// Whether lines are read on.
-#[derive(Clone, Copy, Debug, PartialEq, Eq)]
+#[derive(Clone, Copy)]
 pub enum Flow {
     /// The next line is read.
     GoesOn,

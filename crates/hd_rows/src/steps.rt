@@ -5,10 +5,11 @@ use crate::case::Case;
 use crate::cuts::{Cut, openings_of_cuts};
 use crate::input::read_input;
 use hd_terms::Mode;
+use std::sync::Wait;
 use std::thread::Threads;
 
 /// Runs a line of a case. What is put in for a session is kept, and the first other line runs the session.
-pub fn run_line<R: AllocGlobal + Threads + Sync>(
+pub fn run_line<R: AllocGlobal + Threads + Wait + Sync>(
     rt: &R,
     case: &mut Case,
     line: &str,
@@ -28,7 +29,7 @@ pub fn run_line<R: AllocGlobal + Threads + Sync>(
 }
 
 /// Runs a line that puts nothing in.
-fn run_step<R: AllocGlobal + Threads + Sync>(
+fn run_step<R: AllocGlobal + Threads + Wait + Sync>(
     rt: &R,
     case: &mut Case,
     word: &str,
@@ -85,7 +86,7 @@ fn begin_case(case: &mut Case, name: &str) -> Result<(), CaseFault> {
 }
 
 /// Runs a session and writes the last lines of what it is answered.
-fn run_session<R: AllocGlobal + Threads + Sync>(
+fn run_session<R: AllocGlobal + Threads + Wait + Sync>(
     rt: &R,
     case: &mut Case,
     input: &[u8],
@@ -99,7 +100,7 @@ fn run_session<R: AllocGlobal + Threads + Sync>(
 }
 
 /// Writes the counts and totals of the dump.
-fn run_stat<R: AllocGlobal + Threads + Sync>(rt: &R, case: &mut Case) -> Result<(), CaseFault> {
+fn run_stat<R: AllocGlobal + Threads + Wait + Sync>(rt: &R, case: &mut Case) -> Result<(), CaseFault> {
     let dump = case.dump()?;
     let text = answer_of_all(rt, dump.as_slice(), case.settings(), Question::Stat)?;
     case.put(text.as_slice())?;
@@ -107,7 +108,7 @@ fn run_stat<R: AllocGlobal + Threads + Sync>(rt: &R, case: &mut Case) -> Result<
 }
 
 /// Writes how the dump opens.
-fn run_opens<R: AllocGlobal + Threads + Sync>(rt: &R, case: &mut Case) -> Result<(), CaseFault> {
+fn run_opens<R: AllocGlobal + Threads + Wait + Sync>(rt: &R, case: &mut Case) -> Result<(), CaseFault> {
     let dump = case.dump()?;
     let text = opening(rt, dump.as_slice())?;
     case.put(text.as_slice())?;
@@ -115,7 +116,7 @@ fn run_opens<R: AllocGlobal + Threads + Sync>(rt: &R, case: &mut Case) -> Result
 }
 
 /// Writes how the dump opens with one other byte, behind the line that says which.
-fn run_change<R: AllocGlobal + Threads + Sync>(
+fn run_change<R: AllocGlobal + Threads + Wait + Sync>(
     rt: &R,
     case: &mut Case,
     rest: &str,
@@ -139,7 +140,7 @@ fn run_change<R: AllocGlobal + Threads + Sync>(
 }
 
 /// Writes how the dump opens that is cut to each length below its own.
-fn run_cuts<R: AllocGlobal + Threads + Sync>(
+fn run_cuts<R: AllocGlobal + Threads + Wait + Sync>(
     rt: &R,
     case: &mut Case,
     cut: Cut,

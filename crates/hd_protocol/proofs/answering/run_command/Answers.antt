@@ -1,4 +1,4 @@
-use Rattle.std.proofs.Common.{◌∙◌, Ok, refl, sym, subst}
+use Rattle.std.proofs.Common.{Ok, refl, sym, subst}
 use Rattle.hd_terms.specs.declared.commands.Command.TheVariants as commands
 use Rattle.hd_protocol.specs.Answering.{IsRun}
 use Rattle.hd_protocol.proofs.AnswerLemmas.{edit_ran, mark_ran, private_ran, back_ran, run_as}

@@ -30,5 +30,5 @@ goes_back old a part private k view inv was none is =
 pub returns : goal.returns
 returns c =
     let k : c.saturating_sub.result ≡ length c.self.inside.desk.seen - length c.in-Some.part.home.seen =
-        cc (c.saturating_sub.ensures, c.len-events.ensures.len, c.len-begun.ensures.len, c.seen.ensures, c.seen-2.ensures) in
+    cc (c.saturating_sub.ensures, c.len-events.ensures.len, c.len-begun.ensures.len, c.seen.ensures, c.seen-2.ensures) in
     goes_back c.args.self.now c.self.inside c.in-Some.part c.take.new.self c.saturating_sub.result c.self.view_is c.self.invariant.part c.in-Some.ensures.value c.in-Some.ensures.after k
