@@ -1,4 +1,4 @@
-//! The workbench: a dump is opened, and an analyst's lines are read, run over it, and answered.
+//! The workbench: a dump is opened, and an analyst's lines are read, run over it, and answered, or those of several.
 #![tactic(auto)]
 
 mod arguments;
@@ -6,19 +6,30 @@ mod file;
 mod program;
 #[cfg(test)]
 mod program_tests;
+mod server;
 
 use std::env;
 use std::fs::File;
 use std::io::{self, BufReader, BufWriter, Write};
+use std::net::{Net, TcpListener, TcpStream};
 use std::process::ExitCode;
 use std::rt::{Env, Files};
+use std::sync::Wait;
 use std::thread::Threads;
 
 /// Binds the program to the words, the standard streams and the memory of the process. Faults are reported on `faults`.
-fn start<R: AllocGlobal + Env + Files<File = File> + Input + Print + Threads + Sync, E: Write>(
-    rt: &R,
-    faults: &mut E,
-) -> io::Result<u8> {
+fn start<R, E: Write>(rt: &R, faults: &mut E) -> io::Result<u8>
+where
+    R: AllocGlobal
+        + Env
+        + Files<File = File>
+        + Input
+        + Net<Listener = TcpListener, Stream = TcpStream>
+        + Print
+        + Threads
+        + Wait
+        + Sync,
+{
     let mut words = env::args(rt)?;
     let _name = words.next();
     let words: Vec<String> = words.collect(rt.alloc())?;

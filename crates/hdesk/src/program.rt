@@ -5,18 +5,22 @@ ghost use Rattle.hd_terms.specs.Workers.{IsWorkers};
 ghost use Rattle.hd_terms.specs.declared.Mode.TheVariants.{Direct};
 ghost use Rattle.hd_protocol.specs.declared.run.RunFault.{RunFault};
 ghost use Rattle.hd_protocol.specs.Running.{RunsDump};
-ghost use Rattle.hdesk.specs.Performing.{status, Performs, RunsWords};
+ghost use Rattle.hdesk.specs.Performing.{server_status, status, Performs, RunsWords, ServesOrFails};
+ghost use Rattle.hdesk.specs.Tasks.{IsAnalysts};
 ghost use Rattle.hdesk.specs.Tasks.{TaskWorkers};
 
-use crate::arguments::{Task, WORKERS, read_arguments};
+use crate::arguments::{Serving, Task, WORKERS, read_arguments};
 use crate::file::{FileFault, read_file};
+use crate::server::{ServerFault, serve_bytes};
 use clap::Error;
 use clap::error::ErrorKind;
 use hd_protocol::{RunFault, SAMPLE, open_bytes, run_bytes, serve, stat_bytes};
 use hd_terms::Mode;
 use std::fs::File;
 use std::io::{BufRead, Write};
+use std::net::{Net, TcpListener, TcpStream};
 use std::rt::Files;
+use std::sync::Wait;
 use std::thread::Threads;
 
 /// The run ended well.
@@ -51,6 +55,21 @@ fn report<E: Write>(ended: Result<(), RunFault>, faults: &mut E) -> u8
         Err(fault) => {
             let _ = writeln!(faults, "hdesk: {fault}");
             status_of(&fault)
+        }
+    }
+}
+
+/// Reports how a server ended, if it failed, and answers the exit status.
+fn report_server<E: Write>(ended: Result<(), ServerFault>, faults: &mut E) -> u8
+    ensures status { result ≡ server_status ended }
+    ensures no_usage { result ≢ USAGE }
+{
+    match ended {
+        Ok(()) => DONE,
+        Err(ServerFault::Open(fault)) => report(Err(fault), faults),
+        Err(fault) => {
+            let _ = writeln!(faults, "hdesk: {fault}");
+            FAILED
         }
     }
 }
@@ -101,14 +120,50 @@ fn run_file<T: AllocGlobal + Files<File = File> + Threads + Sync, R: BufRead, W:
     Ok(())
 }
 
+/// Serves several analysts over a file, and answers the exit status. The port is told on `output`, and the log is written
+/// there at the end.
+fn serve_file<T, W: Write, E: Write>(
+    rt: &T,
+    serving: Serving<'_>,
+    output: &mut W,
+    faults: &mut E,
+) -> u8
+where
+    T: AllocGlobal
+        + Files<File = File>
+        + Net<Listener = TcpListener, Stream = TcpStream>
+        + Threads
+        + Wait
+        + Sync,
+    requires workers { IsWorkers serving.opening.workers }
+    requires analysts { IsAnalysts serving.analysts }
+    ensures no_usage { result ≢ USAGE }
+    ensures serves { ServesOrFails serving.entry.opening.mode (W.contents output.old) (W.contents output.new) result }
+{
+    match read_file(rt, serving.opening.file) {
+        Ok(bytes) => {
+            let ended = serve_bytes(rt, bytes, serving, output);
+            report_server(ended, faults)
+        }
+        Err(fault) => report_file(fault, serving.opening.file, faults),
+    }
+}
+
 /// Does what the words ask for, and answers the exit status.
-fn perform<T: AllocGlobal + Files<File = File> + Threads + Sync, R: BufRead, W: Write, E: Write>(
+fn perform<T, R: BufRead, W: Write, E: Write>(
     rt: &T,
     task: Task<'_>,
     input: &mut R,
     output: &mut W,
     faults: &mut E,
 ) -> u8
+where
+    T: AllocGlobal
+        + Files<File = File>
+        + Net<Listener = TcpListener, Stream = TcpStream>
+        + Threads
+        + Wait
+        + Sync,
     requires { TaskWorkers task }
     ensures no_usage { result ≢ USAGE }
     ensures performs { Performs task.entry (R.remaining input.old) (R.remaining input.new) (W.contents output.old) (W.contents output.new) result }
@@ -129,19 +184,29 @@ fn perform<T: AllocGlobal + Files<File = File> + Threads + Sync, R: BufRead, W: 
             }
             Err(fault) => report_file(fault, opening.file, faults),
         },
+        Task::Serve(serving) => serve_file(rt, serving, output, faults),
     }
 }
 
 /// Runs the program with these words after its name, and answers its exit status. Without words the built-in sample is
-/// served on input and output; with words a file is served, or its counts and totals are printed. Faults are reported on
+/// served on input and output; with words a file is served, there or over connections, or its counts and totals are printed.
+/// Faults are reported on
 /// `faults`: a usage fault, or an asked help, with the text that belongs to it, any other in one line. At a usage fault, or
 /// where the file can't be read, no line is read and nothing is written on `output`.
-pub fn program<
-    T: AllocGlobal + Files<File = File> + Threads + Sync,
-    R: BufRead,
-    W: Write,
-    E: Write,
->(rt: &T, words: &[String], input: &mut R, output: &mut W, faults: &mut E) -> u8
+pub fn program<T, R: BufRead, W: Write, E: Write>(
+    rt: &T,
+    words: &[String],
+    input: &mut R,
+    output: &mut W,
+    faults: &mut E,
+) -> u8
+where
+    T: AllocGlobal
+        + Files<File = File>
+        + Net<Listener = TcpListener, Stream = TcpStream>
+        + Threads
+        + Wait
+        + Sync,
     ensures run { words.now ≡ [] → (ended : Result (Unit {0}) RunFault) × (result ≡ status ended)
         × RunsDump Direct SAMPLE (R.remaining input.old) (R.remaining input.new) (W.contents output.old) (W.contents output.new) ended }
     ensures words { words.now ≢ [] → RunsWords (R.remaining input.old) (R.remaining input.new) (W.contents output.old) (W.contents output.new) result }
@@ -156,7 +221,7 @@ pub fn program<
         Ok(None) => {
             let _ = writeln!(
                 faults,
-                "usage: hdesk [run FILE | stat FILE] [--workers N] [--phantom MODE]"
+                "usage: hdesk [run FILE | stat FILE | serve FILE --port P --analysts N] [--workers N] [--phantom MODE]"
             );
             USAGE
         }
