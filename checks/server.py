@@ -113,7 +113,7 @@ class LargerDump:
 
     def edit(self, draw):
         """A line with an edit that the dump doesn't refuse."""
-        kind = draw.choice(["cut", "cut", "cut", "clear", "clearall", "drop", "add"])
+        [kind] = draw.choices(["cut", "clear", "clearall", "drop", "add"], [70, 18, 1, 8, 3])
         if kind == "cut":
             name = draw.choice([name for name, held in self.held.items() if held])
             return f"cut {name:#x} e{draw.randrange(len(self.held[name]))}"
@@ -316,7 +316,7 @@ class Editor(threading.Thread):
 
     def edit(self):
         for _ in range(EDITS_OF_EACH):
-            undoes = self.live and self.draw.random() < 0.4
+            undoes = self.live and self.draw.random() < 0.45
             if undoes:
                 line = f"undo {self.live.pop(self.draw.randrange(len(self.live)))}"
             else:

@@ -11,6 +11,7 @@ use std::rt::Files;
 use std::sync::Wait;
 use std::test::Fail;
 use std::thread::Threads;
+use std::time::Clock;
 
 /// What `stat` prints of the sample.
 const SAMPLE_STAT: &str = "objects 2\nroots 1\nedges 1\nunresolved 1\nrepeated 0 0 0\nopaque 0\n\
@@ -35,6 +36,7 @@ fn ends<R>(
 ) -> Result<bool, AllocError>
 where
     R: AllocGlobal
+        + Clock
         + Files<File = File>
         + Net<Listener = TcpListener, Stream = TcpStream>
         + Threads
@@ -45,7 +47,14 @@ where
     let mut input: &[u8] = b"strength 0x2\nquit\n";
     let mut output = Vec::new(rt.alloc());
     let mut faults = Vec::new(rt.alloc());
-    let ended = program(rt, words.as_slice(), &mut input, &mut output, &mut faults);
+    let ended = program(
+        rt,
+        words.as_slice(),
+        false,
+        &mut input,
+        &mut output,
+        &mut faults,
+    );
     Ok(ended == status && output.as_slice() == written && faults.as_slice() == reported)
 }
 
@@ -53,6 +62,7 @@ where
 fn usage_of<R>(rt: &R, words: &[&str]) -> Result<Vec<u8>, AllocError>
 where
     R: AllocGlobal
+        + Clock
         + Files<File = File>
         + Net<Listener = TcpListener, Stream = TcpStream>
         + Threads
@@ -63,7 +73,14 @@ where
     let mut input: &[u8] = b"quit\n";
     let mut output = Vec::new(rt.alloc());
     let mut faults = Vec::new(rt.alloc());
-    let ended = program(rt, words.as_slice(), &mut input, &mut output, &mut faults);
+    let ended = program(
+        rt,
+        words.as_slice(),
+        false,
+        &mut input,
+        &mut output,
+        &mut faults,
+    );
     if ended != USAGE || !output.is_empty() || input.len() != 5 {
         faults.clear();
     }
@@ -217,6 +234,7 @@ fn over<R>(
 ) -> io::Result<bool>
 where
     R: AllocGlobal
+        + Clock
         + Files<File = File>
         + Net<Listener = TcpListener, Stream = TcpStream>
         + Threads
@@ -280,7 +298,7 @@ fn whole_program(rt: HostRuntime) {
     let mut input: &[u8] = b"strength 0x2\nquit\n";
     let mut output = Vec::new(rt.alloc());
     let mut faults = Vec::new(rt.alloc());
-    let status = program(&rt, &[], &mut input, &mut output, &mut faults);
+    let status = program(&rt, &[], false, &mut input, &mut output, &mut faults);
     assert_eq!(rt; status, DONE);
     assert_eq!(rt; output.as_slice(), b"ok 1\nSTRONG\nok 0\n".as_slice());
     assert_eq!(rt; faults.len(), 0);
@@ -290,7 +308,14 @@ fn whole_program(rt: HostRuntime) {
 fn failed_program(rt: HostRuntime) {
     let mut output = Vec::new(rt.alloc());
     let mut faults = Vec::new(rt.alloc());
-    let status = program(&rt, &[], &mut FailingReader, &mut output, &mut faults);
+    let status = program(
+        &rt,
+        &[],
+        false,
+        &mut FailingReader,
+        &mut output,
+        &mut faults,
+    );
     assert_eq!(rt; status, FAILED);
     assert_eq!(rt;
         faults.as_slice(),

@@ -9,6 +9,7 @@ ghost use Rattle.hdesk.specs.Listening.{listening_text, EndsEarly, EndsServer, P
 ghost use Rattle.hdesk.specs.Tasks.{IsAnalysts};
 
 use crate::arguments::{Opening, Serving};
+use crate::terminal::StatusLine;
 use hd_decode::NoGate;
 use hd_graph::{Graph, open_dump};
 use hd_protocol::RunFault;
@@ -19,6 +20,7 @@ use std::io::Write;
 use std::net::{Ipv4Addr, Net, SocketAddr, TcpListener, TcpStream};
 use std::sync::{Arc, Wait};
 use std::thread::Threads;
+use std::time::Clock;
 use thiserror::Error;
 
 /// Why serving connections ended early. The texts are what the program tells of it.
@@ -43,7 +45,7 @@ pub enum ServerFault {
 /// # Errors
 ///
 /// The dump can't be read, or memory ran out.
-fn open_graph<T: AllocGlobal + Threads + Sync>(
+pub fn open_graph<T: AllocGlobal + Threads + Sync>(
     rt: &T,
     bytes: &[u8],
     opening: Opening<'_>,
@@ -135,22 +137,32 @@ where
 /// # Errors
 ///
 /// The dump can't be read, or memory ran out; the port can't be listened on, or can't be told; or serving ended early.
-pub fn serve_bytes<T, W: Write>(
+pub fn serve_bytes<T, W: Write, E: Write>(
     rt: &T,
     bytes: Vec<u8>,
     serving: Serving<'_>,
+    status: &mut StatusLine,
     output: &mut W,
+    faults: &mut E,
 ) -> Result<(), ServerFault>
 where
-    T: AllocGlobal + Net<Listener = TcpListener, Stream = TcpStream> + Threads + Wait + Sync,
+    T: AllocGlobal
+        + Clock
+        + Net<Listener = TcpListener, Stream = TcpStream>
+        + Threads
+        + Wait
+        + Sync,
     requires workers { IsWorkers serving.opening.workers }
     requires analysts { IsAnalysts serving.analysts }
     ensures { EndsServer serving.entry.opening.mode bytes.items serving.entry.analysts (W.contents output.old) (W.contents output.new) result }
 {
+    status.show(rt, faults, "finding objects and references");
     let graph = match open_graph(rt, bytes.as_slice(), serving.opening) {
         Ok(graph) => graph,
         Err(fault) => return Err(ServerFault::Open(fault)),
     };
     drop(bytes);
+    let counts = graph.counts();
+    status.end(rt, faults, counts.objects, counts.edges);
     serve_graph(rt, graph, serving, output)
 }
