@@ -1,5 +1,5 @@
 //! Serving several analysts over connections.
-ghost use Rattle.std.specs.Prelude.{◌≡◌, ◌++◌, string_bytes, decimal, IfErr, IfOk, OnOk};
+ghost use Rattle.std.specs.Prelude.{◌≡◌, string_bytes, IfErr, IfOk, OnOk};
 ghost use Rattle.std.specs.Arc.{arc_value};
 ghost use Rattle.std.specs.Io.KnownBytes.{Appends, Keeps};
 ghost use Rattle.hd_terms.specs.Objects.{IsDumpOf};
