@@ -1,11 +1,12 @@
 //! Replies of many lines.
 ghost use Rattle.std.specs.Prelude.{◌≡◌, ◌<◌, Some, All, length, map, string_bytes, IfOk};
+ghost use Rattle.std.specs.List.{flat_map};
 ghost use Rattle.hd_terms.specs.Dump.{object_at};
 ghost use Rattle.hd_terms.specs.IntoRows.{into_rows};
 ghost use Rattle.hd_terms.specs.Listed.{AreFallen, AreMembers};
 ghost use Rattle.hd_terms.specs.RootRows.{root_rows};
 ghost use Rattle.hd_terms.specs.SlotRows.{slot_rows};
-ghost use Rattle.hd_terms.specs.Replies.{answered, into_line, log_lines, root_line, slot_line, RepliesChain, RepliesClasses, RepliesIds};
+ghost use Rattle.hd_terms.specs.Replies.{answered, into_line, log_lines, root_line, slot_line, with_newline, RepliesChain, RepliesClasses, RepliesIds};
 ghost use Rattle.hd_state.specs.declared.chain.Link.{Link as OneLink};
 ghost use Rattle.hd_replies.specs.ChainLines.{lines_of};
 ghost use Rattle.hd_replies.specs.EventRows.{event_rows};
@@ -145,5 +146,19 @@ pub fn events_text(alloc: Global, state: &State) -> Result<String, NoMemory>
 {
     let rows = event_rows(alloc, state.front())?;
     let text = lines_text(alloc, &EventLines, rows.as_slice())?;
+    Ok(text)
+}
+
+/// A line for each event of a log, each with its newline: the lines of the reply to `events`, without the `ok N`.
+///
+/// # Errors
+///
+/// Memory ran out.
+pub fn log_text(alloc: Global, front: &Front) -> Result<String, NoMemory>
+    ensures { IfOk result (λ text. string_bytes text ≡ flat_map with_newline (log_lines front.now)) }
+{
+    let rows = event_rows(alloc, front)?;
+    let mut text = String::new(alloc);
+    put_lines(&mut text, &EventLines, rows.as_slice())?;
     Ok(text)
 }

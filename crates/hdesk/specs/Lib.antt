@@ -1,2 +1,3 @@
 pub mod Tasks
 pub mod Performing
+pub mod Listening

@@ -7,6 +7,9 @@ use Rattle.hd_protocol.specs.declared.run.RunFault.{RunFault}
 use Rattle.hd_protocol.specs.declared.run.RunFault.TheVariants as faults
 use Rattle.hd_protocol.specs.Running.{RunsDump}
 use Rattle.hd_protocol.specs.Stating.{StatsDump}
+use Rattle.hdesk.specs.Listening.{EndsServer}
+use Rattle.hdesk.specs.declared.server.ServerFault.{ServerFault}
+use Rattle.hdesk.specs.declared.server.ServerFault.TheVariants as server_faults
 use Rattle.hdesk.specs.declared.arguments.Task.{Task}
 use Rattle.hdesk.specs.declared.arguments.Task.TheVariants as tasks
 
@@ -17,6 +20,14 @@ status (Err (faults.Dump f)) = 2
 status (Err faults.Memory) = 1
 status (Err (faults.Serve f)) = 1
 status (Err faults.Close) = 1
+
+-- the exit status that a server ends with
+abbrev pub server_status : Result (Unit {0}) ServerFault → ℕ
+server_status (Ok done) = 0
+server_status (Err (server_faults.Open f)) = status (Err f)
+server_status (Err server_faults.Listen) = 1
+server_status (Err server_faults.Write) = 1
+server_status (Err (server_faults.Serve f)) = 1
 
 -- lines were served over the bytes that were read from a file, opened in a mode
 pub record RunsFile (mode : Mode) (input rest before after : Option (List ℕ)) (exit : ℕ) : Type 0 where
@@ -33,6 +44,23 @@ pub record StatsFile (mode : Mode) (input rest before after : Option (List ℕ))
   pub unread : Keeps input rest
   pub exit_is : exit ≡ status ended
 
+-- analysts were served over connections, over the bytes that were read from a file, opened in a mode
+pub record ServesBytes (mode : Mode) (before after : Option (List ℕ)) (exit : ℕ) : Type 0 where
+  pub bytes : List ℕ
+  pub analysts : ℕ
+  pub ended : Result (Unit {0}) ServerFault
+  pub ends : EndsServer mode bytes analysts before after ended
+  pub exit_is : exit ≡ server_status ended
+
+-- analysts were served so, or the run failed before anything was written: no file is in memory
+abbrev pub ServesOrFails : Mode → (before after : Option (List ℕ)) → (exit : ℕ) → Type 0
+ServesOrFails mode before after exit = ServesBytes mode before after exit ⊎ (Keeps before after × (exit ≢ 0))
+
+-- analysts were served so, or the run failed, and no line was read
+pub record ServesFile (mode : Mode) (input rest before after : Option (List ℕ)) (exit : ℕ) : Type 0 where
+  pub serves : ServesOrFails mode before after exit
+  pub unread : Keeps input rest
+
 -- the run failed before any line was read and anything was written: no file is in memory, or the words are wrong
 pub record FailsFirst (input rest before after : Option (List ℕ)) (exit : ℕ) : Type 0 where
   pub unread : Keeps input rest
@@ -43,8 +71,9 @@ pub record FailsFirst (input rest before after : Option (List ℕ)) (exit : ℕ)
 abbrev pub Performs : Task → (input rest before after : Option (List ℕ)) → (exit : ℕ) → Type 0
 Performs (tasks.Run opening) input rest before after exit = RunsFile opening.mode input rest before after exit ⊎ FailsFirst input rest before after exit
 Performs (tasks.Stat opening) input rest before after exit = StatsFile opening.mode input rest before after exit ⊎ FailsFirst input rest before after exit
+Performs (tasks.Serve serving) input rest before after exit = ServesFile serving.opening.mode input rest before after exit
 
--- a run with words: one of the two tasks is done over the bytes that are read from a file, in some mode, or nothing
+-- a run with words: one of the three tasks is done over the bytes that are read from a file, in some mode, or nothing
 abbrev pub RunsWords : (input rest before after : Option (List ℕ)) → (exit : ℕ) → Type 0
 RunsWords input rest before after exit =
-    (mode : Mode) × (RunsFile mode input rest before after exit ⊎ (StatsFile mode input rest before after exit ⊎ FailsFirst input rest before after exit))
+    (mode : Mode) × (RunsFile mode input rest before after exit ⊎ (StatsFile mode input rest before after exit ⊎ (ServesFile mode input rest before after exit ⊎ FailsFirst input rest before after exit)))

@@ -1,14 +1,19 @@
 -- What the words after the program's name ask for.
 -- Source: this project.
-use Rattle.std.specs.Prelude.{Option, None, Some}
+use Rattle.std.specs.Prelude.{ℕ, ◌≤◌, Option, None, Some}
 use Rattle.hd_terms.specs.Workers.{IsWorkers}
 use Rattle.hdesk.specs.declared.arguments.Task.{Task}
 use Rattle.hdesk.specs.declared.arguments.Task.TheVariants as tasks
 
--- a task has from one worker to the most
+-- from one analyst to the most
+abbrev pub IsAnalysts : ℕ → Type 0
+IsAnalysts n = (1 ≤ n) × (n ≤ 16)
+
+-- a task has from one worker to the most, and from one analyst to the most
 abbrev pub TaskWorkers : Task → Type 0
 TaskWorkers (tasks.Run opening) = IsWorkers opening.workers
 TaskWorkers (tasks.Stat opening) = IsWorkers opening.workers
+TaskWorkers (tasks.Serve serving) = IsWorkers serving.opening.workers × IsAnalysts serving.analysts
 
 abbrev pub HasWorkers : Option Task → Type 0
 HasWorkers None = Unit {0}

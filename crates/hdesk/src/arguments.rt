@@ -1,7 +1,7 @@
 //! The words after the program's name, read with `clap`.
 ghost use Rattle.std.specs.Prelude.{IfOk};
 ghost use Rattle.hd_terms.specs.Workers.{IsWorkers};
-ghost use Rattle.hdesk.specs.Tasks.{HasWorkers};
+ghost use Rattle.hdesk.specs.Tasks.{HasWorkers, IsAnalysts, TaskWorkers};
 
 use clap::{Arg, ArgMatches, Command, Error, value_parser};
 use hd_terms::{MOST_WORKERS, Mode};
@@ -17,6 +17,16 @@ pub struct Opening<'a> {
     pub mode: Mode,
 }
 
+/// How analysts are served over connections.
+#[derive(Clone, Copy, Debug, PartialEq, Eq)]
+pub struct Serving<'a> {
+    pub opening: Opening<'a>,
+    /// The port that is listened on, or 0 where the system chooses one.
+    pub port: u16,
+    /// How many analysts there are, 1 to 16.
+    pub analysts: u8,
+}
+
 /// What the words ask for.
 #[derive(Clone, Copy, Debug, PartialEq, Eq)]
 pub enum Task<'a> {
@@ -24,7 +34,12 @@ pub enum Task<'a> {
     Run(Opening<'a>),
     /// The counts and totals of a file are printed.
     Stat(Opening<'a>),
+    /// Several analysts' lines are served over a file, each over a connection.
+    Serve(Serving<'a>),
 }
+
+/// The most analysts that are served at once.
+pub const MOST_ANALYSTS: u8 = 16;
 
 /// How many workers decode, where nothing else is said.
 pub const WORKERS: u32 = 4;
@@ -35,6 +50,8 @@ const EXAMPLES: &str = "Without words the built-in sample is served on standard 
 Examples:
   hdesk run heap.hprof           serve the lines of standard input over a dump
   hdesk stat heap.hprof          print its counts, and its objects by strength
+  hdesk serve heap.hprof --port 7070 --analysts 2
+                                 serve two analysts, each of whom calls: nc 127.0.0.1 7070
   printf 'strength 0x2\\nquit\\n' | hdesk";
 
 /// The argument that names a file.
@@ -64,6 +81,26 @@ fn phantom_option<'a>(alloc: Global) -> Arg<'a> {
         .help("How far phantom references are followed: to their referents, or to all behind these")
 }
 
+/// The option that says which port is listened on.
+fn port_option<'a>(alloc: Global) -> Arg<'a> {
+    Arg::new(alloc, "port")
+        .long("port")
+        .value_name("P")
+        .required(true)
+        .value_parser(value_parser!(u32).range(0..65_536))
+        .help("The port of 127.0.0.1 that is listened on, 0 to 65535; at 0 the system chooses one")
+}
+
+/// The option that says how many analysts are served.
+fn analysts_option<'a>(alloc: Global) -> Arg<'a> {
+    Arg::new(alloc, "analysts")
+        .long("analysts")
+        .value_name("N")
+        .required(true)
+        .value_parser(value_parser!(u32).range(1..i64::from(MOST_ANALYSTS) + 1))
+        .help("How many analysts are served, 1 to 16: one for each connection")
+}
+
 /// A command of the program over a file.
 fn over_file<'a>(alloc: Global, name: &'a str, about: &'a str) -> Result<Command<'a>, AllocError> {
     let command = Command::new(alloc, name)
@@ -86,13 +123,21 @@ fn all_words<'a>(alloc: Global) -> Result<Command<'a>, AllocError> {
         "stat",
         "Print a dump's counts and totals: example, hdesk stat heap.hprof",
     )?;
+    let serve = over_file(
+        alloc,
+        "serve",
+        "Serve several analysts over one log: example, hdesk serve heap.hprof --port 7070 --analysts 2",
+    )?
+    .arg(port_option(alloc))?
+    .arg(analysts_option(alloc))?;
     let command = Command::new(alloc, "hdesk")
         .about("A verified workbench for questions of reachability on Java heap dumps")
         .after_help(EXAMPLES)
         .no_binary_name(true)
         .subcommand_required(true)
         .subcommand(run)?
-        .subcommand(stat)?;
+        .subcommand(stat)?
+        .subcommand(serve)?;
     Ok(command)
 }
 
@@ -111,6 +156,24 @@ fn mode_of(matches: &ArgMatches<'_>) -> Mode {
     match matches.get_str("phantom") {
         Some("closure") => Mode::Closure,
         _ => Mode::Direct,
+    }
+}
+
+/// The port that the words name; the option's own range sees to it that it is one.
+fn port_of(matches: &ArgMatches<'_>) -> u16 {
+    match matches.get_one::<u32>("port") {
+        Some(port) => u16::try_from(port).unwrap_or(0),
+        None => 0,
+    }
+}
+
+/// The number of analysts that the words name, 1 to 16; the option's own range sees to that.
+fn analysts_of(matches: &ArgMatches<'_>) -> u8
+    ensures { IsAnalysts result }
+{
+    match matches.get_one::<u32>("analysts") {
+        Some(analysts) => u8::try_from(analysts).unwrap_or(1).clamp(1, MOST_ANALYSTS),
+        None => 1,
     }
 }
 
@@ -134,8 +197,21 @@ pub fn read_arguments<'a>(alloc: Global, words: &'a [String]) -> Result<Option<T
         workers: workers_of(matches),
         mode: mode_of(matches),
     };
-    if name == "stat" {
-        return Ok(Some(Task::Stat(opening)));
+    Ok(Some(task_of(name, opening, matches)))
+}
+
+/// The task of a command's name over a file.
+fn task_of<'a>(name: &str, opening: Opening<'a>, matches: &ArgMatches<'_>) -> Task<'a>
+    requires { IsWorkers opening.workers }
+    ensures { TaskWorkers result }
+{
+    match name {
+        "stat" => Task::Stat(opening),
+        "serve" => Task::Serve(Serving {
+            opening,
+            port: port_of(matches),
+            analysts: analysts_of(matches),
+        }),
+        _ => Task::Run(opening),
     }
-    Ok(Some(Task::Run(opening)))
 }

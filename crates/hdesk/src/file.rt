@@ -1,10 +1,15 @@
 //! Reading a file into memory.
+use crate::terminal::StatusLine;
 use hd_records::check_size;
 use hd_terms::ReadFault;
 use std::alloc::{AllocError, Global};
 use std::fs::{self, File};
-use std::io::Read;
+use std::io::{self, Read, Write};
 use std::rt::Files;
+use std::time::Clock;
+
+/// The most bytes that are read at once: 16 MiB.
+const PIECE: usize = 16_777_216;
 
 /// Why a file is not in memory.
 #[derive(Clone, Copy, Debug, PartialEq, Eq)]
@@ -24,11 +29,32 @@ fn zeros(alloc: Global, len: u64) -> Result<Vec<u8>, AllocError> {
     Ok(bytes)
 }
 
-/// The bytes of a file, read at once into exactly as much memory. Its length is checked before memory is taken and
-/// before anything is read. What is no regular file, as a directory or a pipe, isn't opened.
-pub fn read_file<R: Files<File = File> + AllocGlobal>(
+/// Fills a buffer from a file, piece by piece, and shows how far that is.
+fn read_pieces<T: Clock, E: Write>(
+    clock: &T,
+    file: &mut File,
+    bytes: &mut [u8],
+    status: &mut StatusLine,
+    faults: &mut E,
+) -> io::Result<()> {
+    let all = bytes.len() as u64;
+    let mut done = 0u64;
+    for piece in bytes.chunks_mut(PIECE) {
+        status.show_read(clock, faults, done, all);
+        let len = piece.len() as u64;
+        file.read_exact(piece)?;
+        done = done.saturating_add(len);
+    }
+    Ok(())
+}
+
+/// The bytes of a file, read into exactly as much memory. Its length is checked before memory is taken and before anything
+/// is read. What is no regular file, as a directory or a pipe, isn't opened.
+pub fn read_file<R: Files<File = File> + AllocGlobal + Clock, E: Write>(
     rt: &R,
     path: &str,
+    status: &mut StatusLine,
+    faults: &mut E,
 ) -> Result<Vec<u8>, FileFault> {
     let Ok(metadata) = fs::metadata(rt, path) else {
         return Err(FileFault::Unreadable);
@@ -45,7 +71,7 @@ pub fn read_file<R: Files<File = File> + AllocGlobal>(
     let Ok(mut bytes) = zeros(rt.alloc(), metadata.len()) else {
         return Err(FileFault::Memory);
     };
-    match file.read_exact(bytes.as_mut_slice()) {
+    match read_pieces(rt, &mut file, bytes.as_mut_slice(), status, faults) {
         Ok(()) => Ok(bytes),
         Err(_) => Err(FileFault::Unreadable),
     }

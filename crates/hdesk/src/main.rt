@@ -1,4 +1,4 @@
-//! The workbench: a dump is opened, and an analyst's lines are read, run over it, and answered.
+//! The workbench: a dump is opened, and an analyst's lines are read, run over it, and answered, or those of several.
 #![tactic(auto)]
 
 mod arguments;
@@ -6,25 +6,64 @@ mod file;
 mod program;
 #[cfg(test)]
 mod program_tests;
+mod server;
+mod terminal;
+#[cfg(test)]
+mod terminal_tests;
 
 use std::env;
 use std::fs::File;
-use std::io::{self, BufReader, BufWriter, Write};
+use std::io::{self, BufWriter, IsTerminal, Write};
+use std::net::{Net, TcpListener, TcpStream};
 use std::process::ExitCode;
 use std::rt::{Env, Files};
+use std::sync::Wait;
 use std::thread::Threads;
+use std::time::Clock;
+use terminal::Prompting;
 
-/// Binds the program to the words, the standard streams and the memory of the process. Faults are reported on `faults`.
-fn start<R: AllocGlobal + Env + Files<File = File> + Input + Print + Threads + Sync, E: Write>(
+/// What the standard streams are.
+#[derive(Clone, Copy, Debug, PartialEq, Eq)]
+struct Terminals {
+    /// Standard error is a terminal.
+    shows: bool,
+    /// Standard input is a terminal too.
+    asks: bool,
+}
+
+/// Binds the program to the words, the standard streams and the memory of the process. Faults are reported on `faults`, and
+/// prompts are written on `prompts`.
+fn start<R, E: Write, P: Write + Drop>(
     rt: &R,
+    terminals: Terminals,
     faults: &mut E,
-) -> io::Result<u8> {
+    prompts: P,
+) -> io::Result<u8>
+where
+    R: AllocGlobal
+        + Clock
+        + Env
+        + Files<File = File>
+        + Input
+        + Net<Listener = TcpListener, Stream = TcpStream>
+        + Print
+        + Threads
+        + Wait
+        + Sync,
+{
     let mut words = env::args(rt)?;
     let _name = words.next();
     let words: Vec<String> = words.collect(rt.alloc())?;
-    let mut input = BufReader::new(rt.alloc(), rt.reader())?;
+    let mut input = Prompting::new(rt.alloc(), rt.reader(), prompts, terminals.asks)?;
     let mut output = BufWriter::new(rt.alloc(), io::writer(rt))?;
-    let status = program::program(rt, words.as_slice(), &mut input, &mut output, faults);
+    let status = program::program(
+        rt,
+        words.as_slice(),
+        terminals.shows,
+        &mut input,
+        &mut output,
+        faults,
+    );
     Ok(status)
 }
 
@@ -44,7 +83,12 @@ fn not_started(rt: &HostRuntime, kind: io::ErrorKind) -> u8 {
 
 fn main(rt: HostRuntime) -> ExitCode {
     let mut faults = rt.stderr();
-    match start(&rt, &mut faults) {
+    let shows = faults.is_terminal();
+    let terminals = Terminals {
+        shows,
+        asks: shows && rt.stdin().is_terminal(),
+    };
+    match start(&rt, terminals, &mut faults, rt.stderr()) {
         Ok(status) => ExitCode::from(status),
         Err(error) => ExitCode::from(not_started(&rt, error.kind())),
     }

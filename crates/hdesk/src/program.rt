@@ -1,23 +1,31 @@
 //! The whole program, over given streams.
-ghost use Rattle.std.specs.Prelude.{◌≡◌, ◌≢◌, ◌≤◌, [], Result, Err};
+ghost use Rattle.std.specs.Prelude.{◌≡◌, ◌≢◌, ◌≤◌, ◌⊎◌, [], Result, Err};
 ghost use Rattle.std.specs.Io.KnownBytes.{Keeps};
 ghost use Rattle.hd_terms.specs.Workers.{IsWorkers};
 ghost use Rattle.hd_terms.specs.declared.Mode.TheVariants.{Direct};
 ghost use Rattle.hd_protocol.specs.declared.run.RunFault.{RunFault};
 ghost use Rattle.hd_protocol.specs.Running.{RunsDump};
-ghost use Rattle.hdesk.specs.Performing.{status, Performs, RunsWords};
+ghost use Rattle.hdesk.specs.Performing.{server_status, status, Performs, RunsFile, RunsWords, FailsFirst, ServesOrFails};
+ghost use Rattle.hdesk.specs.Tasks.{IsAnalysts};
 ghost use Rattle.hdesk.specs.Tasks.{TaskWorkers};
 
-use crate::arguments::{Task, WORKERS, read_arguments};
+use crate::arguments::{Opening, Serving, Task, WORKERS, read_arguments};
 use crate::file::{FileFault, read_file};
+use crate::server::{ServerFault, serve_bytes};
+use crate::terminal::StatusLine;
 use clap::Error;
 use clap::error::ErrorKind;
-use hd_protocol::{RunFault, SAMPLE, open_bytes, run_bytes, serve, stat_bytes};
+use hd_protocol::{
+    RunFault, SAMPLE, open_alone, open_bytes, run_bytes, serve_alone, stat_bytes,
+};
 use hd_terms::Mode;
 use std::fs::File;
 use std::io::{BufRead, Write};
+use std::net::{Net, TcpListener, TcpStream};
 use std::rt::Files;
+use std::sync::Wait;
 use std::thread::Threads;
+use std::time::Clock;
 
 /// The run ended well.
 pub const DONE: u8 = 0;
@@ -55,6 +63,21 @@ fn report<E: Write>(ended: Result<(), RunFault>, faults: &mut E) -> u8
     }
 }
 
+/// Reports how a server ended, if it failed, and answers the exit status.
+fn report_server<E: Write>(ended: Result<(), ServerFault>, faults: &mut E) -> u8
+    ensures status { result ≡ server_status ended }
+    ensures no_usage { result ≢ USAGE }
+{
+    match ended {
+        Ok(()) => DONE,
+        Err(ServerFault::Open(fault)) => report(Err(fault), faults),
+        Err(fault) => {
+            let _ = writeln!(faults, "hdesk: {fault}");
+            FAILED
+        }
+    }
+}
+
 /// Reports why a file isn't in memory, and answers the exit status.
 fn report_file<E: Write>(fault: FileFault, path: &str, faults: &mut E) -> u8
     ensures no_usage { result ≢ USAGE }
@@ -83,65 +106,157 @@ fn report_usage<E: Write>(error: &Error, faults: &mut E) -> u8
     }
 }
 
-/// Serves one analyst's lines over a file. The file's bytes are given up before the first line.
-fn run_file<T: AllocGlobal + Files<File = File> + Threads + Sync, R: BufRead, W: Write>(
+/// Serves one analyst's lines over the bytes of a file, which are given up before the first line. What is being done is shown
+/// until then.
+fn run_file<T: AllocGlobal + Clock + Threads + Wait + Sync, R: BufRead, W: Write, E: Write>(
     rt: &T,
     bytes: Vec<u8>,
-    workers: u32,
-    mode: Mode,
+    opening: Opening<'_>,
+    status: &mut StatusLine,
     input: &mut R,
     output: &mut W,
+    faults: &mut E,
 ) -> Result<(), RunFault>
-    requires workers { IsWorkers workers }
-    ensures { RunsDump mode bytes.items (R.remaining input.old) (R.remaining input.new) (W.contents output.old) (W.contents output.new) result }
+    requires workers { IsWorkers opening.workers }
+    ensures { RunsDump opening.entry.mode bytes.items (R.remaining input.old) (R.remaining input.new) (W.contents output.old) (W.contents output.new) result }
 {
-    let state = open_bytes(rt, bytes.as_slice(), workers, mode)?;
+    status.show(rt, faults, "finding objects and references");
+    let graph = open_bytes(rt, bytes.as_slice(), opening.workers, opening.mode)?;
     drop(bytes);
-    serve(rt.alloc(), input, output, state)?;
+    let counts = graph.counts();
+    status.show(rt, faults, "finding strengths");
+    let (board, desk) = open_alone(rt.alloc(), graph)?;
+    status.end(rt, faults, counts.objects, counts.edges);
+    serve_alone(rt, rt.alloc(), board, desk, input, output)?;
     Ok(())
 }
 
-/// Does what the words ask for, and answers the exit status.
-fn perform<T: AllocGlobal + Files<File = File> + Threads + Sync, R: BufRead, W: Write, E: Write>(
+/// Serves one analyst's lines over a file, and answers the exit status.
+fn run<T, R: BufRead, W: Write, E: Write>(
     rt: &T,
-    task: Task<'_>,
+    opening: Opening<'_>,
+    status: &mut StatusLine,
     input: &mut R,
     output: &mut W,
     faults: &mut E,
 ) -> u8
+where
+    T: AllocGlobal + Clock + Files<File = File> + Threads + Wait + Sync,
+    requires { IsWorkers opening.workers }
+    ensures no_usage { result ≢ USAGE }
+    ensures runs { RunsFile opening.entry.mode (R.remaining input.old) (R.remaining input.new) (W.contents output.old) (W.contents output.new) result
+        ⊎ FailsFirst (R.remaining input.old) (R.remaining input.new) (W.contents output.old) (W.contents output.new) result }
+{
+    match read_file(rt, opening.file, status, faults) {
+        Ok(bytes) => {
+            let ended = run_file(rt, bytes, opening, status, input, output, faults);
+            status.wipe(faults);
+            report(ended, faults)
+        }
+        Err(fault) => {
+            status.wipe(faults);
+            report_file(fault, opening.file, faults)
+        }
+    }
+}
+
+/// Serves several analysts over a file, and answers the exit status. The port is told on `output`, and the log is written
+/// there at the end.
+fn serve_file<T, W: Write, E: Write>(
+    rt: &T,
+    serving: Serving<'_>,
+    status: &mut StatusLine,
+    output: &mut W,
+    faults: &mut E,
+) -> u8
+where
+    T: AllocGlobal
+        + Clock
+        + Files<File = File>
+        + Net<Listener = TcpListener, Stream = TcpStream>
+        + Threads
+        + Wait
+        + Sync,
+    requires workers { IsWorkers serving.opening.workers }
+    requires analysts { IsAnalysts serving.analysts }
+    ensures no_usage { result ≢ USAGE }
+    ensures serves { ServesOrFails serving.entry.opening.mode (W.contents output.old) (W.contents output.new) result }
+{
+    match read_file(rt, serving.opening.file, status, faults) {
+        Ok(bytes) => {
+            let ended = serve_bytes(rt, bytes, serving, status, output, faults);
+            status.wipe(faults);
+            report_server(ended, faults)
+        }
+        Err(fault) => {
+            status.wipe(faults);
+            report_file(fault, serving.opening.file, faults)
+        }
+    }
+}
+
+/// Does what the words ask for, and answers the exit status. At a terminal it is shown how far the opening of the file is.
+fn perform<T, R: BufRead, W: Write, E: Write>(
+    rt: &T,
+    task: Task<'_>,
+    is_terminal: bool,
+    input: &mut R,
+    output: &mut W,
+    faults: &mut E,
+) -> u8
+where
+    T: AllocGlobal
+        + Clock
+        + Files<File = File>
+        + Net<Listener = TcpListener, Stream = TcpStream>
+        + Threads
+        + Wait
+        + Sync,
     requires { TaskWorkers task }
     ensures no_usage { result ≢ USAGE }
     ensures performs { Performs task.entry (R.remaining input.old) (R.remaining input.new) (W.contents output.old) (W.contents output.new) result }
 {
+    let mut status = StatusLine::begin(rt, is_terminal);
     match task {
-        Task::Run(opening) => match read_file(rt, opening.file) {
-            Ok(bytes) => {
-                let ended = run_file(rt, bytes, opening.workers, opening.mode, input, output);
-                report(ended, faults)
+        Task::Run(opening) => run(rt, opening, &mut status, input, output, faults),
+        Task::Stat(opening) => {
+            let read = read_file(rt, opening.file, &mut status, faults);
+            status.wipe(faults);
+            match read {
+                Ok(bytes) => {
+                    let (workers, mode) = (opening.workers, opening.mode);
+                    let ended = stat_bytes(rt, bytes.as_slice(), workers, mode, output);
+                    report(ended, faults)
+                }
+                Err(fault) => report_file(fault, opening.file, faults),
             }
-            Err(fault) => report_file(fault, opening.file, faults),
-        },
-        Task::Stat(opening) => match read_file(rt, opening.file) {
-            Ok(bytes) => {
-                let (workers, mode) = (opening.workers, opening.mode);
-                let ended = stat_bytes(rt, bytes.as_slice(), workers, mode, output);
-                report(ended, faults)
-            }
-            Err(fault) => report_file(fault, opening.file, faults),
-        },
+        }
+        Task::Serve(serving) => serve_file(rt, serving, &mut status, output, faults),
     }
 }
 
 /// Runs the program with these words after its name, and answers its exit status. Without words the built-in sample is
-/// served on input and output; with words a file is served, or its counts and totals are printed. Faults are reported on
+/// served on input and output; with words a file is served, there or over connections, or its counts and totals are printed.
+/// Faults are reported on
 /// `faults`: a usage fault, or an asked help, with the text that belongs to it, any other in one line. At a usage fault, or
-/// where the file can't be read, no line is read and nothing is written on `output`.
-pub fn program<
-    T: AllocGlobal + Files<File = File> + Threads + Sync,
-    R: BufRead,
-    W: Write,
-    E: Write,
->(rt: &T, words: &[String], input: &mut R, output: &mut W, faults: &mut E) -> u8
+/// where the file can't be read, no line is read and nothing is written on `output`. At a terminal one line on `faults` says how
+/// far the opening of the file is.
+pub fn program<T, R: BufRead, W: Write, E: Write>(
+    rt: &T,
+    words: &[String],
+    is_terminal: bool,
+    input: &mut R,
+    output: &mut W,
+    faults: &mut E,
+) -> u8
+where
+    T: AllocGlobal
+        + Clock
+        + Files<File = File>
+        + Net<Listener = TcpListener, Stream = TcpStream>
+        + Threads
+        + Wait
+        + Sync,
     ensures run { words.now ≡ [] → (ended : Result (Unit {0}) RunFault) × (result ≡ status ended)
         × RunsDump Direct SAMPLE (R.remaining input.old) (R.remaining input.new) (W.contents output.old) (W.contents output.new) ended }
     ensures words { words.now ≢ [] → RunsWords (R.remaining input.old) (R.remaining input.new) (W.contents output.old) (W.contents output.new) result }
@@ -152,11 +267,11 @@ pub fn program<
         return report(ended, faults);
     }
     match read_arguments(rt.alloc(), words) {
-        Ok(Some(task)) => perform(rt, task, input, output, faults),
+        Ok(Some(task)) => perform(rt, task, is_terminal, input, output, faults),
         Ok(None) => {
             let _ = writeln!(
                 faults,
-                "usage: hdesk [run FILE | stat FILE] [--workers N] [--phantom MODE]"
+                "usage: hdesk [run FILE | stat FILE | serve FILE --port P --analysts N] [--workers N] [--phantom MODE]"
             );
             USAGE
         }

@@ -1,14 +1,17 @@
 //! The whole program over words and files, with its exit statuses and texts.
-use crate::arguments::{Opening, Task, read_arguments};
+use crate::arguments::{Opening, Serving, Task, read_arguments};
 use crate::program::{BAD_DUMP, DONE, FAILED, USAGE, program};
 use hd_protocol::SAMPLE;
 use hd_terms::Mode;
 use std::alloc::{AllocError, Global};
 use std::fs::{self, File};
 use std::io::{self, BufRead, Read};
+use std::net::{Net, TcpListener, TcpStream};
 use std::rt::Files;
+use std::sync::Wait;
 use std::test::Fail;
 use std::thread::Threads;
+use std::time::Clock;
 
 /// What `stat` prints of the sample.
 const SAMPLE_STAT: &str = "objects 2\nroots 1\nedges 1\nunresolved 1\nrepeated 0 0 0\nopaque 0\n\
@@ -24,31 +27,60 @@ fn owned(alloc: Global, words: &[&str]) -> Result<Vec<String>, AllocError> {
 }
 
 /// Whether the program ends so over these words and lines: its status, what it writes, and what it reports.
-fn ends<R: AllocGlobal + Files<File = File> + Threads + Sync>(
+fn ends<R>(
     rt: &R,
     words: &[&str],
     status: u8,
     written: &[u8],
     reported: &[u8],
-) -> Result<bool, AllocError> {
+) -> Result<bool, AllocError>
+where
+    R: AllocGlobal
+        + Clock
+        + Files<File = File>
+        + Net<Listener = TcpListener, Stream = TcpStream>
+        + Threads
+        + Wait
+        + Sync,
+{
     let words = owned(rt.alloc(), words)?;
     let mut input: &[u8] = b"strength 0x2\nquit\n";
     let mut output = Vec::new(rt.alloc());
     let mut faults = Vec::new(rt.alloc());
-    let ended = program(rt, words.as_slice(), &mut input, &mut output, &mut faults);
+    let ended = program(
+        rt,
+        words.as_slice(),
+        false,
+        &mut input,
+        &mut output,
+        &mut faults,
+    );
     Ok(ended == status && output.as_slice() == written && faults.as_slice() == reported)
 }
 
 /// What the program reports of words that it doesn't take; nothing where it takes them, or reads or writes.
-fn usage_of<R: AllocGlobal + Files<File = File> + Threads + Sync>(
-    rt: &R,
-    words: &[&str],
-) -> Result<Vec<u8>, AllocError> {
+fn usage_of<R>(rt: &R, words: &[&str]) -> Result<Vec<u8>, AllocError>
+where
+    R: AllocGlobal
+        + Clock
+        + Files<File = File>
+        + Net<Listener = TcpListener, Stream = TcpStream>
+        + Threads
+        + Wait
+        + Sync,
+{
     let words = owned(rt.alloc(), words)?;
     let mut input: &[u8] = b"quit\n";
     let mut output = Vec::new(rt.alloc());
     let mut faults = Vec::new(rt.alloc());
-    let ended = program(rt, words.as_slice(), &mut input, &mut output, &mut faults);
+    let ended = program(
+        rt,
+        words.as_slice(),
+        false,
+        &mut input,
+        &mut output,
+        &mut faults,
+    );
     if ended != USAGE || !output.is_empty() || input.len() != 5 {
         faults.clear();
     }
@@ -75,6 +107,54 @@ fn tasks(rt: HostRuntime) -> Result<(), Fail> {
         };
         let read = read_arguments(rt.alloc(), words.as_slice()).ok();
         assert_eq!(rt; read, Some(Some(Task::Run(wanted))));
+    }
+    Ok(())
+}
+
+#[test]
+fn serve_tasks(rt: HostRuntime) -> Result<(), Fail> {
+    let rows: [(&[&str], u16, u8); 3] = [
+        (&["serve", "x", "--port", "0", "--analysts", "1"], 0, 1),
+        (
+            &["serve", "--analysts", "16", "x", "--port", "65535"],
+            65_535,
+            16,
+        ),
+        (&["serve", "x", "--port=7070", "--analysts=2"], 7_070, 2),
+    ];
+    for (words, port, analysts) in rows {
+        let words = owned(rt.alloc(), words)?;
+        let opening = Opening {
+            file: "x",
+            workers: 4,
+            mode: Mode::Direct,
+        };
+        let wanted = Serving {
+            opening,
+            port,
+            analysts,
+        };
+        let read = read_arguments(rt.alloc(), words.as_slice()).ok();
+        assert_eq!(rt; read, Some(Some(Task::Serve(wanted))));
+    }
+    Ok(())
+}
+
+#[test]
+fn serve_usage_faults(rt: HostRuntime) -> Result<(), Fail> {
+    let rows: [&[&str]; 9] = [
+        &["serve"],
+        &["serve", "x"],
+        &["serve", "x", "--port", "0"],
+        &["serve", "x", "--analysts", "2"],
+        &["serve", "x", "--port", "65536", "--analysts", "2"],
+        &["serve", "x", "--port", "-1", "--analysts", "2"],
+        &["serve", "x", "--port", "0", "--analysts", "0"],
+        &["serve", "x", "--port", "0", "--analysts", "17"],
+        &["run", "x", "--port", "0"],
+    ];
+    for words in rows {
+        assert!(rt; !usage_of(&rt, words)?.is_empty());
     }
     Ok(())
 }
@@ -122,6 +202,15 @@ fn unreadable_files(rt: HostRuntime) -> Result<(), Fail> {
             b"hdesk: cannot read /no/such/file\n"
         )?
     );
+    assert!(rt;
+        ends(
+            &rt,
+            &["serve", "/no/such/file", "--port", "0", "--analysts", "2"],
+            FAILED,
+            b"",
+            b"hdesk: cannot read /no/such/file\n"
+        )?
+    );
     assert!(rt; ends(&rt, &["run", "/"], FAILED, b"", b"hdesk: cannot read /\n")?);
     assert!(rt;
         ends(
@@ -136,13 +225,22 @@ fn unreadable_files(rt: HostRuntime) -> Result<(), Fail> {
 }
 
 /// Writes a file of these bytes, and checks how `run` and `stat` end over it.
-fn over<R: AllocGlobal + Files<File = File> + Threads + Sync>(
+fn over<R>(
     rt: &R,
     path: &str,
     bytes: &[u8],
     run: (u8, &[u8], &[u8]),
     stat: (u8, &[u8], &[u8]),
-) -> io::Result<bool> {
+) -> io::Result<bool>
+where
+    R: AllocGlobal
+        + Clock
+        + Files<File = File>
+        + Net<Listener = TcpListener, Stream = TcpStream>
+        + Threads
+        + Wait
+        + Sync,
+{
     fs::write(rt, path, bytes)?;
     let ran = ends(rt, &["run", path, "--workers", "16"], run.0, run.1, run.2)?;
     let counted = ends(rt, &["stat", path], stat.0, stat.1, stat.2)?;
@@ -200,7 +298,7 @@ fn whole_program(rt: HostRuntime) {
     let mut input: &[u8] = b"strength 0x2\nquit\n";
     let mut output = Vec::new(rt.alloc());
     let mut faults = Vec::new(rt.alloc());
-    let status = program(&rt, &[], &mut input, &mut output, &mut faults);
+    let status = program(&rt, &[], false, &mut input, &mut output, &mut faults);
     assert_eq!(rt; status, DONE);
     assert_eq!(rt; output.as_slice(), b"ok 1\nSTRONG\nok 0\n".as_slice());
     assert_eq!(rt; faults.len(), 0);
@@ -210,7 +308,14 @@ fn whole_program(rt: HostRuntime) {
 fn failed_program(rt: HostRuntime) {
     let mut output = Vec::new(rt.alloc());
     let mut faults = Vec::new(rt.alloc());
-    let status = program(&rt, &[], &mut FailingReader, &mut output, &mut faults);
+    let status = program(
+        &rt,
+        &[],
+        false,
+        &mut FailingReader,
+        &mut output,
+        &mut faults,
+    );
     assert_eq!(rt; status, FAILED);
     assert_eq!(rt;
         faults.as_slice(),

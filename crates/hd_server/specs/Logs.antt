@@ -1,0 +1,16 @@
+-- What a server prints when its connections have ended.
+-- Source: this project.
+use Rattle.std.specs.Prelude.{ℕ, List, Option}
+use Rattle.std.specs.List.{flat_map}
+use Rattle.std.specs.Io.KnownBytes.{Appends}
+use Rattle.hd_terms.specs.declared.Event.{Event}
+use Rattle.hd_terms.specs.Replies.{log_lines, with_newline}
+use Rattle.hd_terms.specs.Schedule.{Board, Closes}
+
+-- a log is printed with which the board closes: the line of each event, and its newline
+pub record PrintsLog (board : Board) (before after : Option (List ℕ)) : Type 0 where
+  pub log : List Event
+  -- of each desk its number and what it has seen
+  pub desks : List (ℕ × List Event)
+  pub closes : Closes board log desks
+  pub appends : Appends before after (flat_map with_newline (log_lines log))

@@ -1,0 +1,148 @@
+//! The server: a desk of one board for each connection, and the log at the end.
+ghost use Rattle.std.specs.Prelude.{◌≡◌, ◌≤◌, ◌≢◌, OnOk, IfErr};
+ghost use Rattle.std.specs.Arc.{arc_value};
+ghost use Rattle.std.specs.Io.KnownBytes.{Appends, Keeps};
+ghost use Rattle.hd_board.specs.Opening.{opened_board};
+ghost use Rattle.hd_server.specs.Logs.{PrintsLog};
+
+use crate::connection::attend;
+use crate::fault::ServeOnFault;
+use hd_board::{Board, Desk, open};
+use hd_graph::Graph;
+use hd_replies::log_text;
+use std::alloc::Global;
+use std::io::Write;
+use std::net::TcpListener;
+use std::sync::{Arc, Wait};
+use std::thread;
+use std::thread::{Scope, Threads};
+
+/// Serves so many analysts, 1 to 16, over a dump's graph. The i-th connection that is accepted is that of analyst i. Each is
+/// served in a thread of its own from the moment on that it is accepted, and what ends it ends no other. Nothing more is
+/// accepted then. When all have ended, the log is written on `output`: the lines of the reply to `events`, without the `ok N`.
+///
+/// # Errors
+///
+/// The system gives no connection; or memory runs out, or no thread can be started: then the connections that have a thread
+/// are served to their ends, and no log is written. Or the log can't be written; or the board can't be closed with its desks.
+pub fn serve_on<R: Threads + Wait + Sync, W: Write>(
+    rt: &R,
+    alloc: Global,
+    graph: Arc<Graph>,
+    listener: TcpListener,
+    n: u8,
+    output: &mut W,
+) -> Result<(), ServeOnFault>
+    requires least { 1 ≤ n }
+    requires most { n ≤ 16 }
+    ensures ok { OnOk result (PrintsLog (opened_board (arc_value graph) n) (W.contents output.old) (W.contents output.new)) }
+    ensures err { IfErr result (λ fault. fault ≢ ServeOnFault.Write → Keeps (W.contents output.old) (W.contents output.new)) }
+{
+    let (board, mut desks) = open(alloc, graph, n)?;
+    attend_all(rt, alloc, listener, &board, desks.as_mut_slice())?;
+    close_and_print(alloc, board, desks.as_slice(), output)
+}
+
+/// Accepts a connection for each desk, and serves each in a thread of its own. Returns when all have ended.
+///
+/// # Errors
+///
+/// The system gives no connection, or no thread can be started. The connections that have a thread are served to their ends.
+fn attend_all<R: Threads + Wait + Sync>(
+    rt: &R,
+    alloc: Global,
+    listener: TcpListener,
+    board: &Board,
+    desks: &mut [Desk],
+) -> Result<(), ServeOnFault>
+    ensures { IfErr result (λ fault. fault ≢ ServeOnFault.Write) }
+{
+    thread::scope(
+        thread::scope_env(),
+        rt,
+        move |scope| -> Result<(), ServeOnFault>
+            ensures { IfErr result (λ fault. fault ≢ ServeOnFault.Write) }
+        { attend_each(scope, rt, alloc, &listener, board, desks) },
+    )
+}
+
+/// Accepts a connection for each desk, and starts its thread.
+///
+/// # Errors
+///
+/// The system gives no connection, or no thread can be started.
+fn attend_each<'s, E, R: Threads + Wait + Sync>(
+    scope: &Scope<'s, E>,
+    rt: &'s R,
+    alloc: Global,
+    listener: &TcpListener,
+    board: &'s Board,
+    desks: &'s mut [Desk],
+) -> Result<(), ServeOnFault>
+    ensures { IfErr result (λ fault. fault ≢ ServeOnFault.Write) }
+{
+    for desk in desks {
+        attend_next(scope, rt, alloc, listener, board, desk)?;
+    }
+    Ok(())
+}
+
+/// Accepts a connection, and serves it in a thread of its own.
+///
+/// # Errors
+///
+/// The system gives no connection, or no thread can be started.
+fn attend_next<'s, E, R: Threads + Wait + Sync>(
+    scope: &Scope<'s, E>,
+    rt: &'s R,
+    alloc: Global,
+    listener: &TcpListener,
+    board: &'s Board,
+    desk: &'s mut Desk,
+) -> Result<(), ServeOnFault>
+    ensures { IfErr result (λ fault. fault ≢ ServeOnFault.Write) }
+{
+    let Ok((stream, _peer)) = listener.accept() else {
+        return Err(ServeOnFault::Accept);
+    };
+    match scope.spawn(move || attend(rt, alloc, stream, board, desk)) {
+        Ok(_thread) => Ok(()),
+        Err(_closure) => Err(ServeOnFault::OutOfMemory),
+    }
+}
+
+/// Closes the board with its desks, and writes its log.
+///
+/// # Errors
+///
+/// The board can't be closed, or memory ran out: nothing is written. Or the log can't be written.
+fn close_and_print<W: Write>(
+    alloc: Global,
+    board: Board,
+    desks: &[Desk],
+    output: &mut W,
+) -> Result<(), ServeOnFault>
+    ensures ok { OnOk result (PrintsLog board (W.contents output.old) (W.contents output.new)) }
+    ensures err { IfErr result (λ fault. fault ≢ ServeOnFault.Write → Keeps (W.contents output.old) (W.contents output.new)) }
+{
+    let Ok(log) = board.close(desks) else {
+        return Err(ServeOnFault::Close);
+    };
+    let text = log_text(alloc, &log)?;
+    print(text.as_bytes(), output)
+}
+
+/// Writes bytes, and hands them on.
+///
+/// # Errors
+///
+/// The writer fails, or takes no byte.
+fn print<W: Write>(bytes: &[u8], output: &mut W) -> Result<(), ServeOnFault>
+    ensures ok { OnOk result (Appends (W.contents output.old) (W.contents output.new) bytes.now) }
+    ensures err { IfErr result (λ fault. fault ≡ ServeOnFault.Write) }
+{
+    if output.write_all(bytes).is_err() || output.flush().is_err() {
+        return Err(ServeOnFault::Write);
+    }
+    Ok(())
+}

@@ -1,0 +1,72 @@
+//! Two analysts' connections over one log, and one that breaks off.
+use crate::clients::{ask, connect, listen, serve_two};
+use std::alloc::Global;
+use std::net::{Net, SocketAddr, TcpListener, TcpStream};
+use std::{io, thread};
+
+/// The first client cuts; then the second connects and asks. What both hear is answered, in the order in which they ask.
+fn cut_and_look<R: Net<Listener = TcpListener, Stream = TcpStream>>(
+    rt: &R,
+    alloc: Global,
+    address: SocketAddr,
+) -> io::Result<String> {
+    let mut heard = String::new(alloc);
+    let mut first = connect(rt, alloc, address)?;
+    ask(&mut first, "cut 0x1 e0\n", 2, &mut heard)?;
+    let mut second = connect(rt, alloc, address)?;
+    ask(&mut second, "strength 0x2\n", 2, &mut heard)?;
+    ask(&mut first, "quit\n", 1, &mut heard)?;
+    ask(&mut second, "quit\n", 1, &mut heard)?;
+    Ok(heard)
+}
+
+#[test]
+fn server_on_loopback(rt: HostRuntime) -> io::Result<()> {
+    let (listener, address) = listen(&rt)?;
+    let alloc = rt.alloc();
+    let (served, heard) = thread::join(
+        &rt,
+        || serve_two(&rt, alloc, listener),
+        || cut_and_look(&rt, alloc, address),
+    );
+    assert_eq!(rt;
+        heard?.as_str(),
+        "ok 1\nevent 0 fell 1 back 0\nok 1\nUNREACHABLE\nok 0\nok 0\n"
+    );
+    let printed = served.expect(&rt, "the dump opens").ok();
+    assert!(rt; printed.is_some_and(|text| text.as_slice() == b"0 0 cut 0x1 e0 live\n".as_slice()));
+    Ok(())
+}
+
+/// Two clients connect. The first cuts, and then closes its connection in the middle of a line; the second asks.
+fn break_off_and_look<R: Net<Listener = TcpListener, Stream = TcpStream>>(
+    rt: &R,
+    alloc: Global,
+    address: SocketAddr,
+) -> io::Result<String> {
+    let mut heard = String::new(alloc);
+    let mut first = connect(rt, alloc, address)?;
+    let mut second = connect(rt, alloc, address)?;
+    ask(&mut first, "cut 0x1 e0\nstre", 2, &mut heard)?;
+    drop(first);
+    ask(&mut second, "strength 0x2\nquit\n", 3, &mut heard)?;
+    Ok(heard)
+}
+
+#[test]
+fn client_breaks_off(rt: HostRuntime) -> io::Result<()> {
+    let (listener, address) = listen(&rt)?;
+    let alloc = rt.alloc();
+    let (served, heard) = thread::join(
+        &rt,
+        || serve_two(&rt, alloc, listener),
+        || break_off_and_look(&rt, alloc, address),
+    );
+    assert_eq!(rt;
+        heard?.as_str(),
+        "ok 1\nevent 0 fell 1 back 0\nok 1\nUNREACHABLE\nok 0\n"
+    );
+    let printed = served.expect(&rt, "the dump opens").ok();
+    assert!(rt; printed.is_some_and(|text| text.as_slice() == b"0 0 cut 0x1 e0 live\n".as_slice()));
+    Ok(())
+}

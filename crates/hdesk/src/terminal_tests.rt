@@ -1,0 +1,92 @@
+//! What is shown at a terminal, and that it doesn't show on standard output.
+use crate::program::{BAD_DUMP, DONE, program};
+use crate::terminal::Prompting;
+use hd_protocol::SAMPLE;
+use std::alloc::{AllocError, Global};
+use std::fs::{self, File};
+use std::io::{self, BufRead};
+use std::net::{Net, TcpListener, TcpStream};
+use std::rt::Files;
+use std::sync::Wait;
+use std::test::Fail;
+use std::thread::Threads;
+use std::time::Clock;
+
+/// How `run` over a file ends at a terminal: its status, what it writes, and what is shown.
+fn shown<R>(rt: &R, path: &str) -> Result<(u8, Vec<u8>, Vec<u8>), AllocError>
+where
+    R: AllocGlobal
+        + Clock
+        + Files<File = File>
+        + Net<Listener = TcpListener, Stream = TcpStream>
+        + Threads
+        + Wait
+        + Sync,
+{
+    let mut words = Vec::new(rt.alloc());
+    words.push(String::from_str(rt.alloc(), "run")?)?;
+    words.push(String::from_str(rt.alloc(), path)?)?;
+    let mut input: &[u8] = b"quit\n";
+    let mut output = Vec::new(rt.alloc());
+    let mut faults = Vec::new(rt.alloc());
+    let ended = program(
+        rt,
+        words.as_slice(),
+        true,
+        &mut input,
+        &mut output,
+        &mut faults,
+    );
+    Ok((ended, output, faults))
+}
+
+#[test]
+fn file_at_a_terminal(rt: HostRuntime) -> io::Result<()> {
+    let path = "terminal-test.hprof";
+    fs::write(&rt, path, &SAMPLE)?;
+    let (ended, written, seen) = shown(&rt, path)?;
+    fs::remove_file(&rt, path)?;
+    assert_eq!(rt; ended, DONE);
+    assert_eq!(rt; written.as_slice(), b"ok 0\n".as_slice());
+    assert!(rt;
+        seen.as_slice().starts_with(
+            b"\r\x1b[Kreading: 0 MB of 0 MB\r\x1b[Kfinding objects and references, "
+        )
+    );
+    assert!(rt; seen.as_slice().ends_with(b" s\n"));
+    Ok(())
+}
+
+#[test]
+fn damaged_file_at_a_terminal(rt: HostRuntime) -> io::Result<()> {
+    let path = "terminal-fault-test.hprof";
+    fs::write(&rt, path, &SAMPLE[..90])?;
+    let (ended, written, seen) = shown(&rt, path)?;
+    fs::remove_file(&rt, path)?;
+    assert_eq!(rt; ended, BAD_DUMP);
+    assert!(rt; written.is_empty());
+    assert!(rt;
+        seen.as_slice()
+            .ends_with(b"\r\x1b[Khdesk: Truncated at 31\n")
+    );
+    Ok(())
+}
+
+/// How many prompts are written while two lines are read.
+fn prompts_of(alloc: Global, is_terminal: bool) -> io::Result<usize> {
+    let lines: &[u8] = b"strength 0x2\nquit\n";
+    let mut prompts = Vec::new(alloc);
+    let mut reader = Prompting::new(alloc, lines, &mut prompts, is_terminal)?;
+    let mut line = String::new(alloc);
+    reader.read_line(&mut line)?;
+    reader.read_line(&mut line)?;
+    drop(reader);
+    Ok(prompts.len())
+}
+
+#[test]
+fn prompts(rt: HostRuntime) -> Result<(), Fail> {
+    assert_eq!(rt; prompts_of(rt.alloc(), true).ok(), Some(7));
+    assert_eq!(rt; prompts_of(rt.alloc(), false).ok(), Some(0));
+    Ok(())
+}
