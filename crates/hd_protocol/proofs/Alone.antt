@@ -47,7 +47,7 @@ module _ (a : Analyst) (t : Turn) where
   found_only (sessions.declined c r is asks says f l) none h = left t.after t.found l none h
   found_only (sessions.rejected c what r is asks refuses says l) none h = left t.after t.found l none h
   found_only (sessions.accepted c what is asks takes done l) none h = only_front a.who t.found (event_by a.who what ∷ []) (left t.after (t.found ++ event_by a.who what ∷ []) l none h)
-  found_only (sessions.behind c what is asks takes says l) none h = only_front a.who t.found (event_by a.who what ∷ []) (left t.after (t.found ++ event_by a.who what ∷ []) l none h)
+  found_only (sessions.unfinished c what is asks takes says l) none h = only_front a.who t.found (event_by a.who what ∷ []) (left t.after (t.found ++ event_by a.who what ∷ []) l none h)
   found_only (sessions.marked is room says f l) none h =
       same_found f (subst (λ (home : Option (List Event)). OnlyBy a.who (home_or home t.before.log)) none (subst (λ (m : Memory). OnlyBy a.who (board_log m)) l h))
   found_only (sessions.gone_private is none_open says f l) none h = same_found f (subst (λ (m : Memory). OnlyBy a.who (board_log m)) l h)
@@ -63,7 +63,7 @@ module _ (a : Analyst) (t : Turn) where
   home_only home (sessions.declined c r is asks says f l) some h = stays t.after t.found home l some h
   home_only home (sessions.rejected c what r is asks refuses says l) some h = stays t.after t.found home l some h
   home_only home (sessions.accepted c what is asks takes done l) some h = stays t.after (t.found ++ event_by a.who what ∷ []) home l some h
-  home_only home (sessions.behind c what is asks takes says l) some h = stays t.after (t.found ++ event_by a.who what ∷ []) home l some h
+  home_only home (sessions.unfinished c what is asks takes says l) some h = stays t.after (t.found ++ event_by a.who what ∷ []) home l some h
   home_only home (sessions.marked is room says f l) some h =
       subst (λ (o : Option (List Event)). OnlyBy a.who (home_or o t.before.log)) some (subst (λ (m : Memory). OnlyBy a.who (board_log m)) l h)
   home_only home (sessions.gone_private is none_open says f l) some h = absurd (some_none home (sym some ∙ none_open))

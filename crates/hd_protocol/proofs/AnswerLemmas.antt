@@ -87,7 +87,7 @@ module _ (old new : Work) (c : Command) (want : Result What Refusal) (asks : ask
 
   behind : (number : ℕ) → AddsBehind old new want number → IsRun old new (Ok c) (edit_reply (Err (not_done.Accepted number)))
   behind number d =
-      adds (edit_reply (Err (not_done.Accepted number))) d.adds (λ line spells. sessions.behind c d.adds.what spells (asks_for d.adds) d.adds.taken
+      adds (edit_reply (Err (not_done.Accepted number))) d.adds (λ line spells. sessions.unfinished c d.adds.what spells (asks_for d.adds) d.adds.taken
       (ap (λ (n : ℕ). edit_reply (Err (not_done.Accepted n))) d.number_is) d.adds.added)
 
   -- it isn't

@@ -1,6 +1,6 @@
 -- Lemmas on how serving stands from one step to the next.
 use Rattle.std.proofs.Common.{◌≡◌, ◌∙◌, ℕ, ◌+◌, ◌<◌, ◌≤◌, inl, inr, true, false, List, [], ◌∷◌, ◌++◌, Option, None, Some, Result, Ok, Err, length, get_or, take, drop, refl, sym, ap, subst, arith, append_assoc, append-nil, take-append-drop, take_all, ne_eqb, ◌⊎◌}
-use Rattle.std.specs.Prelude.{◌==◌, IfSome, OnSome}
+use Rattle.std.specs.Prelude.{◌==◌, OnSome}
 use Rattle.std.specs.Io.KnownBytes.{Keeps, Appends, Consumes, IsAtEnd}
 use Rattle.std.proofs.KnownBytes.{Keeps-refl}
 use Rattle.std.proofs.lemmas.List.{take_more}
@@ -8,16 +8,16 @@ use Rattle.hd_terms.specs.declared.commands.Command.{Command}
 use Rattle.hd_terms.specs.declared.commands.LineFault.{LineFault}
 use Rattle.hd_terms.specs.Lines.{whole_lines, lines_of, run_lines, is_quit, is_quit_command, command_of}
 use Rattle.hd_terms.specs.Memory.{Memory}
-use Rattle.hd_terms.specs.Sessions.{Analyst}
+use Rattle.hd_terms.specs.Sessions.{Analyst, Turn, replies}
 use Rattle.hd_protocol.specs.Work.{Work}
 use Rattle.hd_protocol.specs.declared.serving.ServeFault.{ServeFault}
 use Rattle.hd_protocol.specs.declared.serving.ServeFault.TheVariants as faults
 use Rattle.hd_protocol.specs.declared.serving.Flow.{Flow}
 use Rattle.hd_protocol.specs.declared.serving.Flow.TheVariants as flows
 use Rattle.hd_protocol.specs.Answering.{IsAnswered}
-use Rattle.hd_protocol.specs.Serving.{open_line, kept_of, IsAnsweredSoFar, Midway, midway, IsOpen, OfBytes, ServedFrom, ServedUntilReadFrom, ServedUntilWriteFrom, Stands, RunsBytes, RunsLine, StandsAtEnd, RunsEnd, RunsInput, ServesFrom}
+use Rattle.hd_protocol.specs.Serving.{open_line, kept_of, IsAnsweredSoFar, Midway, midway, IsLeft, IsOpen, OfBytes, ServedFrom, ServedUntilReadFrom, ServedUntilWriteFrom, Stands, RunsBytes, RunsLine, StandsAtEnd, RunsEnd, RunsInput, ServesFrom}
 use Rattle.hd_protocol.proofs.Lines.{whole_lines-newline, open_line-newline, whole_lines-other, open_line-other, lines_of-none, lines_of-some, lines_of-newline, run_lines-all, run_lines-push, run_lines-quit, command_of-kept, kept_of-push, kept_of-none, kept_of-some}
-use Rattle.hd_protocol.proofs.Turns.{answered_none, answered_push, all_push}
+use Rattle.hd_protocol.proofs.Turns.{answered_none, answered_push, all_push, last_turn, memory_with, reply_with, session_with}
 use Rattle.hd_protocol.proofs.Writing.{appends_nil, appends_both, appends_kept, consumes_nil, consumes_both, consumes_kept}
 
 -- lines that were answered, as the lines that are run of an input
@@ -25,10 +25,10 @@ pub served : (a : Analyst) (first : Memory) (input written : List ℕ) (memory :
     → ServedFrom a first memory input written
 served a first input written memory lines are so_far = (so_far.turns, record { session = rw are so_far.session; written_is = so_far.written_is }, so_far.memory_is)
 
--- a front of what was answered
-fault : (a : Analyst) (first : Memory) (seen rest written more : List ℕ) (memory : Memory) (lines answered_lines : List (List ℕ)) → (lines ≡ whole_lines seen) ⊎ ((rest ≡ []) × (lines ≡ lines_of seen))
-    → run_lines lines ≡ answered_lines → IsAnsweredSoFar a first answered_lines (written ++ more) memory → ServedUntilWriteFrom a first memory (seen ++ rest) written
-fault a first seen rest written more memory lines answered_lines read are so_far = (
+-- all lines were answered, and all replies are whole
+fault_between : (a : Analyst) (first : Memory) (seen rest written : List ℕ) (memory : Memory) (lines : List (List ℕ)) → (lines ≡ whole_lines seen) ⊎ ((rest ≡ []) × (lines ≡ lines_of seen)) → run_lines lines ≡ lines
+    → IsAnsweredSoFar a first lines written memory → ServedUntilWriteFrom a first memory (seen ++ rest) written
+fault_between a first seen rest written memory lines read are so_far = (
   so_far.turns,
   record {
     consumed = seen;
@@ -37,11 +37,43 @@ fault a first seen rest written more memory lines answered_lines read are so_far
     lines = lines;
     read = read;
     session = rw are so_far.session;
-    more = more;
-    written_is = so_far.written_is;
+    whole = so_far.turns;
+    broken = [];
+    turns_are = sym (append-nil so_far.turns);
+    one_at_most = omega arith;
+    part = [];
+    more = [];
+    broken_is = refl;
+    written_is = so_far.written_is ∙ sym (append-nil (replies so_far.turns));
   },
   so_far.memory_is,
 )
+
+-- the reply to one more line broke off
+fault_at : (a : Analyst) (first : Memory) (seen rest written : List ℕ) (before lines : List (List ℕ)) (old new : Work) (line reply : List ℕ) (k : ℕ) → (lines ≡ whole_lines seen) ⊎ ((rest ≡ []) × (lines ≡ lines_of seen))
+    → run_lines lines ≡ before ++ line ∷ [] → old.analyst ≡ a → IsAnsweredSoFar a first before written old.memory → IsAnswered old new (command_of line) reply
+    → ServedUntilWriteFrom a first new.memory (seen ++ rest) (written ++ take k reply)
+fault_at a first seen rest written before lines old new line reply k read are is so_far h =
+    let t : Turn = last_turn a first before written old new line reply is so_far h in (
+      so_far.turns ++ t ∷ [],
+      record {
+        consumed = seen;
+        rest = rest;
+        split = refl;
+        lines = lines;
+        read = read;
+        session = rw are (session_with a first before written old new line reply is so_far h);
+        whole = so_far.turns;
+        broken = t ∷ [];
+        turns_are = refl;
+        one_at_most = omega arith;
+        part = take k reply;
+        more = drop k reply;
+        broken_is = reply_with a first before written old new line reply is so_far h ∙ sym (take-append-drop k reply);
+        written_is = ap (λ l. l ++ take k reply) so_far.written_is;
+      },
+      memory_with a first before written old new line reply is so_far h,
+    )
 
 -- a line that is answered leaves the analyst
 pub answered_same : (old new : Work) (reading : Result Command LineFault) (reply : List ℕ) → IsAnswered old new reading reply → new.analyst ≡ old.analyst
@@ -98,17 +130,16 @@ module _ (a : Analyst) (first : Memory) (seen : List ℕ) (m : Midway) (written 
       ∙ run_lines-quit (whole_lines seen) (open_line seen) (lines_of rest) o.none_quits (quit_of_open ∙ quits))
       (answered_open new reply h)
 
-  -- a fault while the reply to the open line was written
-  answered_front : (new : Work) (reply : List ℕ) (k : ℕ) → IsAnswered m.work new (command_of m.kept) reply
-      → IsAnsweredSoFar a first (whole_lines seen ++ open_line seen ∷ []) ((written ++ take k reply) ++ drop k reply) new.memory
-  answered_front new reply k h =
-      rw (append_assoc written (take k reply) (drop k reply), take-append-drop k reply) (answered_open new reply h)
+  -- what was read so far spells this open line
+  open_answered : (new : Work) (reply : List ℕ) → IsAnswered m.work new (command_of m.kept) reply → IsAnswered m.work new (command_of (open_line seen)) reply
+  open_answered new reply h = subst (λ (c : Result Command LineFault). IsAnswered m.work new c reply) (sym same_command) h
 
+  -- a fault while the reply to the open line was written
   after_fault : (new : Work) (reply : List ℕ) (k : ℕ) → IsAnswered m.work new (command_of m.kept) reply → (rest : List ℕ)
       → ServedUntilWriteFrom a first new.memory ((seen ++ 10 ∷ []) ++ rest) (written ++ take k reply)
   after_fault new reply k h rest =
-      fault a first (seen ++ 10 ∷ []) rest (written ++ take k reply) (drop k reply) new.memory (whole_lines seen ++ open_line seen ∷ []) (whole_lines seen ++ open_line seen ∷ [])
-      (inl (sym (whole_lines-newline seen))) (run_lines-push (whole_lines seen) (open_line seen) o.none_quits) (answered_front new reply k h)
+      fault_at a first (seen ++ 10 ∷ []) rest written (whole_lines seen) (whole_lines seen ++ open_line seen ∷ []) m.work new (open_line seen) reply k (inl (sym (whole_lines-newline seen)))
+      (run_lines-push (whole_lines seen) (open_line seen) o.none_quits) o.same_analyst o.so_far (open_answered new reply h)
 
   -- a newline, when the line was run
   newline_ok : (new : Work) (before after : Option (List ℕ)) (flow : Flow) → RunsLine m.work new m.kept before after (Ok flow)
@@ -141,8 +172,8 @@ module _ (a : Analyst) (first : Memory) (seen : List ℕ) (m : Midway) (written 
   end_fault : 0 < length m.kept → (new : Work) (reply : List ℕ) (k : ℕ) → IsAnswered m.work new (command_of m.kept) reply → ServedUntilWriteFrom a first new.memory seen (written ++ take k reply)
   end_fault some new reply k h =
       subst (λ l. ServedUntilWriteFrom a first new.memory l (written ++ take k reply)) (append-nil seen)
-      (fault a first seen [] (written ++ take k reply) (drop k reply) new.memory (whole_lines seen ++ open_line seen ∷ []) (whole_lines seen ++ open_line seen ∷ [])
-      (inr (refl, sym (last some))) (run_lines-push (whole_lines seen) (open_line seen) o.none_quits) (answered_front new reply k h))
+      (fault_at a first seen [] written (whole_lines seen) (whole_lines seen ++ open_line seen ∷ []) m.work new (open_line seen) reply k (inr (refl, sym (last some)))
+      (run_lines-push (whole_lines seen) (open_line seen) o.none_quits) o.same_analyst o.so_far (open_answered new reply h))
 
   end_ok : 0 < length m.kept → (new : Work) (before after : Option (List ℕ)) (flow : Flow) → RunsLine m.work new m.kept before after (Ok flow)
       → (more : List ℕ) × Appends before after more × ServedFrom a first new.memory seen (written ++ more)
@@ -157,8 +188,7 @@ module _ (a : Analyst) (first : Memory) (seen : List ℕ) (m : Midway) (written 
 
   -- a fault between lines
   pub flush_fault : (rest : List ℕ) → ServedUntilWriteFrom a first m.work.memory (seen ++ rest) written
-  flush_fault rest =
-      fault a first seen rest written [] m.work.memory (whole_lines seen) (whole_lines seen) (inl refl) (run_lines-all (whole_lines seen) o.none_quits) (rw (append-nil written) o.so_far)
+  flush_fault rest = fault_between a first seen rest written m.work.memory (whole_lines seen) (inl refl) (run_lines-all (whole_lines seen) o.none_quits) o.so_far
 
   -- the reader failed
   pub read_fault : (rest : List ℕ) → ServedUntilReadFrom a first m.work.memory (seen ++ rest) rest written
@@ -295,14 +325,9 @@ running_none work kept input before none = record {
   is_open = subst (λ (k : List ℕ). IsOpen work.analyst work.memory [] (midway work k) []) (sym none) (open_none work);
 }
 
--- what is left is these bytes, where it is told
-abbrev Left : Option (List ℕ) → List ℕ → Type 0
-Left rest left = IfSome rest (λ all. all ≡ left)
-
 -- what holds of the bytes that were read and of those that are left holds of the input
-at_input : (input rest : Option (List ℕ)) (seen : List ℕ) (P : List ℕ → Type 0) → Consumes input rest seen → ((left : List ℕ) → Left rest left → P (seen ++ left)) → OfBytes input P
-at_input None None seen P c f = (seen ++ [], tt, f [] tt)
-at_input None (Some ys) seen P c f = (seen ++ ys, tt, f ys refl)
+at_input : (input rest : Option (List ℕ)) (seen : List ℕ) (P : List ℕ → Type 0) → Consumes input rest seen → ((left : List ℕ) → IsLeft input rest left → P (seen ++ left)) → OfBytes input P
+at_input None rest seen P c f = (seen ++ [], tt, f [] tt)
 at_input (Some xs) None seen P c f = absurd c
 at_input (Some xs) (Some ys) seen P c f = (seen ++ ys, c, f ys refl)
 
@@ -327,7 +352,7 @@ module _ (old : Work) (input rest before after : Option (List ℕ)) (m : Midway)
   pub read_ends : (rest' after' : Option (List ℕ)) → Keeps after after' → Keeps rest rest' → RunsInput old m.work input rest' before after' (Err faults.Read)
   read_ends rest' after' handed none = record {
     same_analyst = same;
-    serves = at_input input rest' r.seen (λ bytes. OfBytes rest' (λ left. (written : List ℕ) × Appends before after' written × ServedUntilReadFrom old.analyst old.memory m.work.memory bytes left written))
+    serves = at_input input rest' r.seen (λ bytes. (left : List ℕ) × IsLeft input rest' left × ((written : List ℕ) × Appends before after' written × ServedUntilReadFrom old.analyst old.memory m.work.memory bytes left written))
         (consumes_kept input rest rest' r.seen r.consumed none)
         (λ left is. (left, is, (r.written, appends_kept before after after' r.written r.appended handed, read_fault old.analyst old.memory r.seen m r.written r.is_open left)));
   }
@@ -393,7 +418,7 @@ module _ (old : Work) (input rest before after : Option (List ℕ)) (m : Midway)
             (r.written ++ one.0, appended one.0 one.1, one.2)
         at_result (Err faults.OutOfMemory) ran = absurd (ran old.analyst old.memory r.seen r.written r.is_open).2
 
--- all replies are a front of them
+-- the same as at a fault of the writer between two lines
 until_write : (a : Analyst) (first last : Memory) (input written : List ℕ) → ServedFrom a first last input written → ServedUntilWriteFrom a first last input written
 until_write a first last input written (turns, s, is) = (
   turns,
@@ -404,8 +429,14 @@ until_write a first last input written (turns, s, is) = (
     lines = lines_of input;
     read = inr (refl, refl);
     session = s.session;
+    whole = turns;
+    broken = [];
+    turns_are = sym (append-nil turns);
+    one_at_most = omega arith;
+    part = [];
     more = [];
-    written_is = append-nil written ∙ s.written_is;
+    broken_is = refl;
+    written_is = s.written_is ∙ sym (append-nil (replies turns));
   },
   is,
 )

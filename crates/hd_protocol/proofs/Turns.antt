@@ -5,7 +5,7 @@ use Rattle.std.proofs.lemmas.List.{map-append}
 use Rattle.std.proofs.lemmas.List.Concat.{flat_map-append}
 use Rattle.hd_terms.specs.Lines.{command_of}
 use Rattle.hd_terms.specs.Memory.{Memory}
-use Rattle.hd_terms.specs.Sessions.{Analyst, Turn, IsLater, IsRefreshed, IsTurn, IsSession, memory_after, replies}
+use Rattle.hd_terms.specs.Sessions.{Analyst, Turn, IsLater, IsRefreshed, IsTurn, IsSession, IsSessionOver, memory_after, replies}
 use Rattle.hd_protocol.specs.Answering.{IsAnswered, turn_of}
 use Rattle.hd_protocol.specs.Serving.{IsAnsweredSoFar}
 use Rattle.hd_protocol.specs.Work.{Work}
@@ -28,23 +28,39 @@ pub all_push : {X : Type 0} (P : X → Type 0) (xs : List X) (x : X) → AllByRe
 all_push P [] x h p = (p, tt)
 all_push P (y ∷ ys) x h p = (h.0, all_push P ys x h.1 p)
 
--- one more line
-pub answered_push : (a : Analyst) (first : Memory) (lines : List (List ℕ)) (written : List ℕ) (old new : Work) (line reply : List ℕ) → old.analyst ≡ a
-    → IsAnsweredSoFar a first lines written old.memory → IsAnswered old new (command_of line) reply → IsAnsweredSoFar a first (lines ++ line ∷ []) (written ++ reply) new.memory
-answered_push a first lines written old new line reply is so_far h =
-    let between : Work = h.between in
-    let same : between.analyst ≡ a = h.refreshes.same_analyst ∙ is in
-    let t : Turn = turn_of line between.memory h.run.found new.memory reply in
-    let refreshed : IsRefreshed a.who old.memory between.memory = subst (λ (x : Analyst). IsRefreshed x.who old.memory between.memory) is h.refreshes.refreshed in
-    let later : IsLater a.who between.memory.log h.run.found = subst (λ (x : Analyst). IsLater x.who between.memory.log h.run.found) same (h.run.later refreshed.later.lawful) in
-    record {
-      turns = so_far.turns ++ t ∷ [];
-      session = record {
-        session = session_push a first so_far.turns t so_far.session.session (subst (λ (m : Memory). IsRefreshed a.who m between.memory) so_far.memory_is refreshed) later
-            (subst (λ (x : Analyst). IsTurn x t) same (h.run.is_turn line refl));
-        over = map-append (λ (u : Turn). u.line) so_far.turns (t ∷ []) ∙ ap (λ l. l ++ line ∷ []) so_far.session.over;
-      };
-      written_is = ap (λ l. l ++ reply) so_far.written_is ∙ ap (λ l. replies so_far.turns ++ l) (sym (append-nil reply))
-          ∙ sym (flat_map-append (λ (u : Turn). u.reply) so_far.turns (t ∷ []));
-      memory_is = sym (memory_after-push first so_far.turns t);
-    }
+-- the turn of one more line
+module _ (a : Analyst) (first : Memory) (lines : List (List ℕ)) (written : List ℕ) (old new : Work) (line reply : List ℕ) (is : old.analyst ≡ a) (so_far : IsAnsweredSoFar a first lines written old.memory) (h : IsAnswered old new (command_of line) reply) where
+  abbrev pub last_turn : Turn
+  last_turn = turn_of line h.between.memory h.run.found new.memory reply
+
+  same : h.between.analyst ≡ a
+  same = h.refreshes.same_analyst ∙ is
+
+  refreshed : IsRefreshed a.who old.memory h.between.memory
+  refreshed = subst (λ (x : Analyst). IsRefreshed x.who old.memory h.between.memory) is h.refreshes.refreshed
+
+  later : IsLater a.who h.between.memory.log h.run.found
+  later = subst (λ (x : Analyst). IsLater x.who h.between.memory.log h.run.found) same (h.run.later refreshed.later.lawful)
+
+  -- the turns so far with that turn
+  pub session_with : IsSessionOver a first (lines ++ line ∷ []) (so_far.turns ++ last_turn ∷ [])
+  session_with = record {
+    session = session_push a first so_far.turns last_turn so_far.session.session (subst (λ (m : Memory). IsRefreshed a.who m h.between.memory) so_far.memory_is refreshed) later
+        (subst (λ (x : Analyst). IsTurn x last_turn) same (h.run.is_turn line refl));
+    over = map-append (λ (u : Turn). u.line) so_far.turns (last_turn ∷ []) ∙ ap (λ l. l ++ line ∷ []) so_far.session.over;
+  }
+
+  pub memory_with : new.memory ≡ memory_after first (so_far.turns ++ last_turn ∷ [])
+  memory_with = sym (memory_after-push first so_far.turns last_turn)
+
+  pub reply_with : replies (last_turn ∷ []) ≡ reply
+  reply_with = append-nil reply
+
+  pub answered_push : IsAnsweredSoFar a first (lines ++ line ∷ []) (written ++ reply) new.memory
+  answered_push = record {
+    turns = so_far.turns ++ last_turn ∷ [];
+    session = session_with;
+    written_is = ap (λ l. l ++ reply) so_far.written_is ∙ ap (λ l. replies so_far.turns ++ l) (sym (append-nil reply))
+        ∙ sym (flat_map-append (λ (u : Turn). u.reply) so_far.turns (last_turn ∷ []));
+    memory_is = memory_with;
+  }

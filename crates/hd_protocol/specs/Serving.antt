@@ -1,6 +1,6 @@
--- What serving does: to a front of the input, and to all of it.
+-- What serving does: to a beginning of the input, and to all of it.
 -- Source: this project.
-use Rattle.std.specs.Prelude.{◌≡◌, ℕ, true, false, List, [], ◌∷◌, ◌++◌, take, Option, Result, Ok, Err, IfSome}
+use Rattle.std.specs.Prelude.{◌≡◌, ℕ, true, false, List, [], ◌∷◌, ◌++◌, take, Option, Some, Result, Ok, Err, IfSome}
 use Rattle.std.specs.List.{AllByRecursion}
 use Rattle.std.specs.Io.KnownBytes.{Keeps, Appends}
 use Rattle.hd_terms.specs.Lines.{command_of, pieces, whole_lines, is_quit}
@@ -84,7 +84,7 @@ RunsBytes bytes m m' before after result =
     × ((a : Analyst) (first : Memory) (seen written : List ℕ) → IsOpen a first seen m written
     → (more : List ℕ) × Appends before after more × Stands a first (seen ++ bytes) m' (written ++ more) result)
 
--- how a line that has this reply ends: the whole reply is written, or a front of it at a fault of the writer
+-- how a line that has this reply ends: the whole reply is written, or a beginning of it at a fault of the writer
 abbrev pub EndsLine : (line reply : List ℕ) → (before after : Option (List ℕ)) → Result Flow ServeFault → Type 0
 EndsLine line reply before after (Ok flows.GoesOn) = Appends before after reply × (is_quit line ≡ false)
 EndsLine line reply before after (Ok flows.Quits) = Appends before after reply × (is_quit line ≡ true)
@@ -120,12 +120,16 @@ OfBytes told P = (bytes : List ℕ) × IfSome told (λ all. all ≡ bytes) × P 
 abbrev pub ServesAll : Analyst → (first last : Memory) → (input before after : Option (List ℕ)) → Type 0
 ServesAll a first last input before after = OfBytes input (λ bytes. (written : List ℕ) × Appends before after written × ServedFrom a first last bytes written)
 
--- a front of the input was read and its whole lines served, and the replies were written
+-- these bytes are left of a stream that tells its bytes
+abbrev pub IsLeft : (input rest : Option (List ℕ)) → List ℕ → Type 0
+IsLeft input rest left = IfSome input (λ all. rest ≡ Some left)
+
+-- a beginning of the input was read and its whole lines served, and the replies were written
 abbrev pub ServesUntilRead : Analyst → (first last : Memory) → (input rest before after : Option (List ℕ)) → Type 0
 ServesUntilRead a first last input rest before after =
-    OfBytes input (λ bytes. OfBytes rest (λ left. (written : List ℕ) × Appends before after written × ServedUntilReadFrom a first last bytes left written))
+    OfBytes input (λ bytes. (left : List ℕ) × IsLeft input rest left × ((written : List ℕ) × Appends before after written × ServedUntilReadFrom a first last bytes left written))
 
--- lines of a front of the input were served, and a front of the replies was written
+-- lines of a beginning of the input were served, and a beginning of the replies was written
 abbrev pub ServesUntilWrite : Analyst → (first last : Memory) → (input before after : Option (List ℕ)) → Type 0
 ServesUntilWrite a first last input before after =
     OfBytes input (λ bytes. (written : List ℕ) × Appends before after written × ServedUntilWriteFrom a first last bytes written)

@@ -23,7 +23,7 @@ pub record IsStatOf (mode : Mode) (bytes text : List ℕ) : Type 0 where
   pub is_dump : IsDumpOf mode bytes dump
   pub is_stat : stat.IsStat dump text
 
--- how it ends: the whole text is written, or a front of it at a fault of the writer; or the dump has this fault, or
+-- how it ends: the whole text is written, or a beginning of it at a fault of the writer; or the dump has this fault, or
 -- memory ran out, and nothing is written
 abbrev pub StatsDump : Mode → (bytes : List ℕ) → (before after : Option (List ℕ)) → Result (Unit {0}) RunFault → Type 0
 StatsDump mode bytes before after (Ok done) = (text : List ℕ) × IsStatOf mode bytes text × Appends before after text

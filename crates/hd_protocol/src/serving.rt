@@ -246,11 +246,13 @@ fn run_input<R: BufRead, W: Write>(
 
 /// Serves the lines of a reader to a writer: a session of a desk at a board, from what the desk has seen, until the input ends, a
 /// line is `quit`, or a fault. Before each command but `quit` the desk is refreshed. Room for lines, short replies and marks is
-/// taken before anything is read; the writer is flushed before each refill and at the end.
+/// taken before anything is read; the writer is flushed before each refill and at the end. Where the session ends in a private
+/// part, the desk is left as it was when the part began.
 ///
 /// # Errors
 ///
-/// The reader or the writer failed; or memory ran out before anything was read.
+/// The reader or the writer failed, and the desk has seen what the lines that were run have done; or memory ran out before
+/// anything was read, and the desk is untouched.
 pub fn serve<R: BufRead, W: Write>(
     rt: &impl Wait,
     alloc: Global,
@@ -265,6 +267,7 @@ pub fn serve<R: BufRead, W: Write>(
     let line = FixedBuffer::new(alloc)?;
     let reply = FixedBuffer::new(alloc)?;
     let marks = first_marks(alloc, desk)?;
+    // The session owns its desk; another one stands in its place until it comes back.
     let (_board, stand_in) = Board::fork(desk)?;
     let analyst = Analyst::begin(board, mem::replace(desk, stand_in), marks);
     let mut service = Service {

@@ -1,34 +1,9 @@
 //! Streams that fail, hold what they are given, or never end, and the texts of what ended a run.
+use crate::streams::{FailingReader, FailingWriter};
 use hd_protocol::{RunFault, SAMPLE, ServeFault, run_bytes, stat_bytes};
 use hd_terms::{Cause, Mode, ReadFault};
 use std::io::{self, BufRead, Read, Write};
 use std::test::Fail;
-
-/// A reader that gives some bytes and then fails.
-#[derive(Drop)]
-struct FailingReader<'a> {
-    rest: &'a [u8],
-}
-
-impl Read for FailingReader<'_> {
-    fn read(&mut self, _buf: &mut [u8]) -> io::Result<usize> {
-        Err(io::Error::from(io::ErrorKind::Other))
-    }
-}
-
-impl BufRead for FailingReader<'_> {
-    fn fill_buf(&mut self) -> io::Result<&[u8]> {
-        if self.rest.is_empty() {
-            return Err(io::Error::from(io::ErrorKind::Interrupted));
-        }
-        Ok(self.rest)
-    }
-
-    fn consume(&mut self, amount: usize) {
-        let amount = amount.min(self.rest.len());
-        self.rest = &self.rest[amount..];
-    }
-}
 
 #[test]
 fn reader_that_fails(rt: HostRuntime) {
@@ -88,30 +63,6 @@ fn reader_without_end(rt: HostRuntime) {
     assert_eq!(rt; ended, Err(RunFault::Serve(ServeFault::Read)));
     assert_eq!(rt; spaces.given, 16_777_216);
     assert_eq!(rt; written.len(), 0);
-}
-
-/// A writer that takes so many bytes and then fails, or then takes none.
-#[derive(Drop)]
-struct FailingWriter {
-    taken: Vec<u8>,
-    room: usize,
-    fails: bool,
-}
-
-impl Write for FailingWriter {
-    fn write(&mut self, buf: &[u8]) -> io::Result<usize> {
-        let count = buf.len().min(self.room);
-        if count == 0 && self.fails {
-            return Err(io::Error::from(io::ErrorKind::Interrupted));
-        }
-        self.taken.extend_from_slice(&buf[..count])?;
-        self.room -= count;
-        Ok(count)
-    }
-
-    fn flush(&mut self) -> io::Result<()> {
-        Ok(())
-    }
 }
 
 #[test]

@@ -38,3 +38,4 @@ pub mod Listed
 pub mod Stat
 pub mod Workers
 pub mod Examples
+pub mod SessionExamples

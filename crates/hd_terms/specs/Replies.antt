@@ -308,8 +308,8 @@ pub record RepliesDone (dump : Dump) (before after : List Event) (reply : List �
   pub back_is : FellCount dump after before back
   pub reply_is : reply ≡ answered (event_line (length before) fell back ∷ [])
 
--- the reply to an edit or an undo that the log has taken as the event of this number, but to which the analyst's desk couldn't
--- come, since memory ran out
+-- the reply to an edit or an undo that the log has taken as the event of this number, where memory ran out as the analyst's desk
+-- caught up with it
 abbrev pub accepted_reply : ℕ → List ℕ
 accepted_reply event = refused (codes "Accepted " ++ decimal event)
 
@@ -317,8 +317,8 @@ accepted_reply event = refused (codes "Accepted " ++ decimal event)
 abbrev pub out_of_memory_reply : List ℕ
 out_of_memory_reply = refused (log_fault_name faults.OutOfMemory)
 
--- the reply to a command that isn't run: memory ran out; or, as the desk was to be refreshed, on the way to the board's log; or
--- that log is foreign
+-- the reply to a command that comes to nothing: memory ran out; or it ran out as the desk caught up with the board's log; or that
+-- log is foreign
 abbrev pub IsUnserved : List ℕ → Type 0
 IsUnserved reply = (reply ≡ out_of_memory_reply) ⊎ ((reply ≡ refused (refusal_name refusals.Behind)) ⊎ (reply ≡ refused (refusal_name refusals.Foreign)))
 

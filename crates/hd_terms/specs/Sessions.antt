@@ -1,7 +1,7 @@
 -- Sessions: what one analyst's lines are answered, one after another.
 -- Source: this project. A session beside other analysts is the general form; alone, each turn begins with what the last
 -- one left.
-use Rattle.std.specs.Prelude.{◌≡◌, ℕ, ◌<◌, ◌⊎◌, true, false, List, [], ◌∷◌, ◌++◌, length, map, drop, Option, Some, None, Ok, Err}
+use Rattle.std.specs.Prelude.{◌≡◌, ℕ, ◌<◌, ◌≤◌, ◌⊎◌, true, false, List, [], ◌∷◌, ◌++◌, length, map, drop, Option, Some, None, Ok, Err}
 use Rattle.std.specs.List.{flat_map, AllByRecursion}
 use Rattle.hd_terms.specs.declared.Event.{Event}
 use Rattle.hd_terms.specs.Dump.{Dump}
@@ -79,8 +79,8 @@ pub data IsTurn (a : Analyst) (t : Turn) : Type 0 where
   accepted : (c : Command) (what : What) → command_of t.line ≡ Ok c → asked a.dump t.before.log a.who c ≡ Some (Ok what)
       → turn_refusal a t what ≡ None → RepliesDone a.dump t.found (with_event t.found (event_by a.who what)) t.reply
       → LeavesLog t (with_event t.found (event_by a.who what)) → IsTurn a t
-  -- the same, but memory ran out on the way to the event: its number is answered
-  behind : (c : Command) (what : What) → command_of t.line ≡ Ok c → asked a.dump t.before.log a.who c ≡ Some (Ok what)
+  -- the same, but memory ran out as the desk caught up with the event: its number is answered
+  unfinished : (c : Command) (what : What) → command_of t.line ≡ Ok c → asked a.dump t.before.log a.who c ≡ Some (Ok what)
       → turn_refusal a t what ≡ None → t.reply ≡ accepted_reply (length t.found) → LeavesLog t (with_event t.found (event_by a.who what)) → IsTurn a t
   -- a mark is added: it keeps the log, and its number is answered
   marked : command_of t.line ≡ Ok commands.Mark → length t.before.marks < most_marks → t.reply ≡ mark_reply (length t.before.marks)
@@ -91,7 +91,7 @@ pub data IsTurn (a : Analyst) (t : Turn) : Type 0 where
   -- a private part ends: the log is its home again, and how many events came after that is answered
   gone_back : (home : List Event) → command_of t.line ≡ Ok commands.Back → t.before.home ≡ Some home → t.reply ≡ back_reply (length (drop (length home) t.before.log))
       → t.found ≡ t.before.log → t.after ≡ memories.gone_back t.before home → IsTurn a t
-  -- a command that isn't run, since memory ran out or the desk couldn't be refreshed: nothing is added
+  -- a command that comes to nothing, since memory ran out or the board's log is foreign: nothing is added
   unserved : refreshes (command_of t.line) ≡ true → IsUnserved t.reply → t.found ≡ t.before.log → LeavesLog t t.found → IsTurn a t
 
 -- between two turns of an analyst a later log may be found; all else is remembered
@@ -146,7 +146,8 @@ pub record IsServedUntilReadBy (IsOver : List (List ℕ) → List Turn → Type 
   pub no_quit : AllByRecursion (λ line. is_quit line ≡ false) (whole_lines consumed)
   pub written_is : written ≡ replies turns
 
--- the output could be written no further: a front of the replies to the lines of what was read
+-- the output could be written no further: the lines of what was read were run up to the one whose reply broke off, and the replies
+-- to all before it are whole
 pub record IsServedUntilWriteBy (IsOver : List (List ℕ) → List Turn → Type 0) (turns : List Turn) (input written : List ℕ) : Type 0 where
   pub consumed : List ℕ
   pub rest : List ℕ
@@ -154,8 +155,14 @@ pub record IsServedUntilWriteBy (IsOver : List (List ℕ) → List Turn → Type
   pub lines : List (List ℕ)
   pub read : (lines ≡ whole_lines consumed) ⊎ ((rest ≡ []) × (lines ≡ lines_of consumed))
   pub session : IsOver (run_lines lines) turns
+  pub whole : List Turn
+  pub broken : List Turn
+  pub turns_are : turns ≡ whole ++ broken
+  pub one_at_most : length broken ≤ 1
+  pub part : List ℕ
   pub more : List ℕ
-  pub written_is : written ++ more ≡ replies turns
+  pub broken_is : replies broken ≡ part ++ more
+  pub written_is : written ≡ replies whole ++ part
 
 -- the same of the analyst 0, alone from the empty log, by some turns
 abbrev pub IsServed : Dump → (input written : List ℕ) → Type 0

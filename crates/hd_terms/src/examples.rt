@@ -40,6 +40,7 @@ ghost use Rattle.hd_terms.specs.declared.commands.Command.TheVariants as command
 ghost use Rattle.hd_terms.specs.declared.commands.LineFault.TheVariants as line_faults;
 ghost use Rattle.hd_terms.specs.declared.Edit.TheVariants as edits;
 ghost use Rattle.hd_terms.specs.Examples as examples;
+ghost use Rattle.hd_terms.specs.SessionExamples as session_examples;
 
 /// What files are read as, and their faults.
 pub fn file_examples()
@@ -240,13 +241,13 @@ pub fn total_examples()
 
 /// What two analysts are answered who cut one slot, what is answered where memory runs out, and a private part.
 pub fn session_examples()
-    ensures first_analyst { IsSession (examples.at_two_arrays 0) (beginning [] []) examples.turns_of_the_first }
-    ensures second_analyst { IsSession (examples.at_two_arrays 1) (beginning [] []) examples.turns_of_the_second }
-    ensures out_of_memory { IsSession (examples.at_two_arrays 0) (beginning [] []) (examples.turn_without_memory ∷ []) }
-    ensures behind { IsSession (examples.at_two_arrays 0) (beginning [] []) examples.turns_behind }
-    ensures private_part { IsSession (examples.at_two_arrays 0) (beginning [] []) examples.turns_of_a_private_part }
-    ensures private_part_alone { IsAlone (beginning [] []) examples.turns_of_a_private_part }
-    ensures private_part_leaves { board_log (memory_after (beginning [] []) examples.turns_of_a_private_part) ≡ examples.first_cuts 1 }
+    ensures first_analyst { IsSession (session_examples.at_two_arrays 0) (beginning [] []) session_examples.turns_of_the_first }
+    ensures second_analyst { IsSession (session_examples.at_two_arrays 1) (beginning [] []) session_examples.turns_of_the_second }
+    ensures out_of_memory { IsSession (session_examples.at_two_arrays 0) (beginning [] []) (session_examples.turn_without_memory ∷ []) }
+    ensures behind { IsSession (session_examples.at_two_arrays 0) (beginning [] []) session_examples.turns_behind }
+    ensures private_part { IsSession (session_examples.at_two_arrays 0) (beginning [] []) session_examples.turns_of_a_private_part }
+    ensures private_part_alone { IsAlone (beginning [] []) session_examples.turns_of_a_private_part }
+    ensures private_part_leaves { board_log (memory_after (beginning [] []) session_examples.turns_of_a_private_part) ≡ session_examples.first_cuts 1 }
 {}
 
 /// What lines ask for, and why some ask for nothing.

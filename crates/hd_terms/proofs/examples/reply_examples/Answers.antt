@@ -1,4 +1,4 @@
-use Rattle.std.proofs.Common.{◌≡◌, ◌∙◌, ℕ, inr, List, [], ◌∷◌, ◌++◌, codes, lit<, sym, ap, refl}
+use Rattle.std.proofs.Common.{◌≡◌, ◌∙◌, ℕ, inr, List, [], ◌∷◌, ◌++◌, codes, lit<, sym, ap, refl, arith}
 use Rattle.std.specs.Prelude.{decimal, false}
 use Rattle.std.specs.Fmt.{digits}
 use Rattle.std.proofs.lemmas.Fmt.{decimal_digit, hex_one_digit}
@@ -103,7 +103,13 @@ returns-clause-write_failed c = (
     lines = codes "strength 0x2" ∷ [];
     read = inr (refl, refl);
     session = one_turn;
+    whole = [];
+    broken = turn (codes "strength 0x2") ok_strong ∷ [];
+    turns_are = refl;
+    one_at_most = omega arith;
+    part = codes "ok 1" ++ 10 ∷ codes "ST";
     more = codes "RONG" ++ 10 ∷ [];
+    broken_is = refl;
     written_is = refl;
   },
 )

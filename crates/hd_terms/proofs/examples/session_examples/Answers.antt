@@ -16,6 +16,7 @@ use Rattle.hd_terms.specs.Memory.{Memory, beginning, at_log}
 use Rattle.hd_terms.specs.Sessions as sessions
 use Rattle.hd_terms.specs.Log.{IsLawful, own}
 use Rattle.hd_terms.specs.Examples as examples
+use Rattle.hd_terms.specs.SessionExamples as session_examples
 use Rattle.hd_terms.proofs.FellByTest.{fell}
 use Rattle.hd_terms.proofs.LawfulByTest.{is_lawful, lawful}
 use Rattle.hd_terms.proofs.examples.session_examples.Goals as goal
@@ -41,28 +42,28 @@ spelled e f b le lf lb =
     ∙ ap (λ (back : List ℕ). text (49 ∷ []) ((48 + e) ∷ []) ((48 + f) ∷ []) back) (decimal_digit b lb)
 
 -- so many events of the log are a lawful log with the same events of an analyst
-later : (who n m : ℕ) (more : List Event) → examples.first_cuts m ≡ examples.first_cuts n ++ more → own who (examples.first_cuts m) ≡ own who (examples.first_cuts n) → IsLawful (examples.first_cuts m)
-    → IsLater who (examples.first_cuts n) (examples.first_cuts m)
+later : (who n m : ℕ) (more : List Event) → session_examples.first_cuts m ≡ session_examples.first_cuts n ++ more → own who (session_examples.first_cuts m) ≡ own who (session_examples.first_cuts n) → IsLawful (session_examples.first_cuts m)
+    → IsLater who (session_examples.first_cuts n) (session_examples.first_cuts m)
 later who n m more begins same is = record { more = more; begins = begins; same_own = same; lawful = is }
 
-refreshed : (who n m : ℕ) → IsLater who (examples.first_cuts n) (examples.first_cuts m) → IsRefreshed who (at_log (beginning [] []) (examples.first_cuts n)) (at_log (beginning [] []) (examples.first_cuts m))
+refreshed : (who n m : ℕ) → IsLater who (session_examples.first_cuts n) (session_examples.first_cuts m) → IsRefreshed who (at_log (beginning [] []) (session_examples.first_cuts n)) (at_log (beginning [] []) (session_examples.first_cuts m))
 refreshed who n m is = record { later = is; same = refl }
 
 -- nothing came meanwhile
-none : (who n : ℕ) → examples.first_cuts n ≡ examples.first_cuts n ++ [] → IsLawful (examples.first_cuts n) → IsLater who (examples.first_cuts n) (examples.first_cuts n)
+none : (who n : ℕ) → session_examples.first_cuts n ≡ session_examples.first_cuts n ++ [] → IsLawful (session_examples.first_cuts n) → IsLater who (session_examples.first_cuts n) (session_examples.first_cuts n)
 none who n begins is = later who n n [] begins refl is
 
-lawful_0 : IsLawful (examples.first_cuts 0)
-lawful_0 = lawful (examples.first_cuts 0) refl
+lawful_0 : IsLawful (session_examples.first_cuts 0)
+lawful_0 = lawful (session_examples.first_cuts 0) refl
 
-lawful_1 : IsLawful (examples.first_cuts 1)
-lawful_1 = lawful (examples.first_cuts 1) refl
+lawful_1 : IsLawful (session_examples.first_cuts 1)
+lawful_1 = lawful (session_examples.first_cuts 1) refl
 
-lawful_2 : IsLawful (examples.first_cuts 2)
-lawful_2 = lawful (examples.first_cuts 2) refl
+lawful_2 : IsLawful (session_examples.first_cuts 2)
+lawful_2 = lawful (session_examples.first_cuts 2) refl
 
-lawful_3 : IsLawful (examples.first_cuts 3)
-lawful_3 = lawful (examples.first_cuts 3) refl
+lawful_3 : IsLawful (session_examples.first_cuts 3)
+lawful_3 = lawful (session_examples.first_cuts 3) refl
 
 abbrev cut_0 : Event
 cut_0 = examples.does 0 (examples.cut 0)
@@ -71,39 +72,39 @@ abbrev cut_1 : Event
 cut_1 = examples.does 1 (examples.cut 0)
 
 -- what the two cuts and their undos are answered
-first_cut : RepliesDone examples.two_arrays (examples.first_cuts 0) (examples.first_cuts 1) (codes "ok 1" ++ 10 ∷ codes "event 0 fell 1 back 0" ++ 10 ∷ [])
+first_cut : RepliesDone examples.two_arrays (session_examples.first_cuts 0) (session_examples.first_cuts 1) (codes "ok 1" ++ 10 ∷ codes "event 0 fell 1 back 0" ++ 10 ∷ [])
 first_cut = record {
   fell = 1;
   back = 0;
-  fell_is = fell examples.two_arrays (examples.first_cuts 0) (examples.first_cuts 1) both first refl refl;
-  back_is = fell examples.two_arrays (examples.first_cuts 1) (examples.first_cuts 0) first both refl refl;
+  fell_is = fell examples.two_arrays (session_examples.first_cuts 0) (session_examples.first_cuts 1) both first refl refl;
+  back_is = fell examples.two_arrays (session_examples.first_cuts 1) (session_examples.first_cuts 0) first both refl refl;
   reply_is = sym (spelled 0 1 0 (lit< tt) (lit< tt) (lit< tt));
 }
 
-second_cut : RepliesDone examples.two_arrays (examples.first_cuts 1) (examples.first_cuts 2) (codes "ok 1" ++ 10 ∷ codes "event 1 fell 0 back 0" ++ 10 ∷ [])
+second_cut : RepliesDone examples.two_arrays (session_examples.first_cuts 1) (session_examples.first_cuts 2) (codes "ok 1" ++ 10 ∷ codes "event 1 fell 0 back 0" ++ 10 ∷ [])
 second_cut = record {
   fell = 0;
   back = 0;
-  fell_is = fell examples.two_arrays (examples.first_cuts 1) (examples.first_cuts 2) first first refl refl;
-  back_is = fell examples.two_arrays (examples.first_cuts 2) (examples.first_cuts 1) first first refl refl;
+  fell_is = fell examples.two_arrays (session_examples.first_cuts 1) (session_examples.first_cuts 2) first first refl refl;
+  back_is = fell examples.two_arrays (session_examples.first_cuts 2) (session_examples.first_cuts 1) first first refl refl;
   reply_is = sym (spelled 1 0 0 (lit< tt) (lit< tt) (lit< tt));
 }
 
-first_undo : RepliesDone examples.two_arrays (examples.first_cuts 2) (examples.first_cuts 3) (codes "ok 1" ++ 10 ∷ codes "event 2 fell 0 back 0" ++ 10 ∷ [])
+first_undo : RepliesDone examples.two_arrays (session_examples.first_cuts 2) (session_examples.first_cuts 3) (codes "ok 1" ++ 10 ∷ codes "event 2 fell 0 back 0" ++ 10 ∷ [])
 first_undo = record {
   fell = 0;
   back = 0;
-  fell_is = fell examples.two_arrays (examples.first_cuts 2) (examples.first_cuts 3) first first refl refl;
-  back_is = fell examples.two_arrays (examples.first_cuts 3) (examples.first_cuts 2) first first refl refl;
+  fell_is = fell examples.two_arrays (session_examples.first_cuts 2) (session_examples.first_cuts 3) first first refl refl;
+  back_is = fell examples.two_arrays (session_examples.first_cuts 3) (session_examples.first_cuts 2) first first refl refl;
   reply_is = sym (spelled 2 0 0 (lit< tt) (lit< tt) (lit< tt));
 }
 
-second_undo : RepliesDone examples.two_arrays (examples.first_cuts 3) (examples.first_cuts 4) (codes "ok 1" ++ 10 ∷ codes "event 3 fell 0 back 1" ++ 10 ∷ [])
+second_undo : RepliesDone examples.two_arrays (session_examples.first_cuts 3) (session_examples.first_cuts 4) (codes "ok 1" ++ 10 ∷ codes "event 3 fell 0 back 1" ++ 10 ∷ [])
 second_undo = record {
   fell = 0;
   back = 1;
-  fell_is = fell examples.two_arrays (examples.first_cuts 3) (examples.first_cuts 4) first both refl refl;
-  back_is = fell examples.two_arrays (examples.first_cuts 4) (examples.first_cuts 3) both first refl refl;
+  fell_is = fell examples.two_arrays (session_examples.first_cuts 3) (session_examples.first_cuts 4) first both refl refl;
+  back_is = fell examples.two_arrays (session_examples.first_cuts 4) (session_examples.first_cuts 3) both first refl refl;
   reply_is = sym (spelled 3 0 1 (lit< tt) (lit< tt) (lit< tt));
 }
 
@@ -150,7 +151,7 @@ pub returns-clause-behind : goal.returns-clause-behind
 returns-clause-behind c = (
   refreshed 0 0 0 (none 0 0 refl lawful_0),
   none 0 0 refl lawful_0,
-  sessions.behind (commands.Edit (examples.cut 0)) (whats.Do (examples.cut 0)) refl refl refl (sym (ap (λ (digits : List ℕ). with_newline (codes "no Accepted " ++ digits)) (decimal_digit 0 (lit< tt)))) refl,
+  sessions.unfinished (commands.Edit (examples.cut 0)) (whats.Do (examples.cut 0)) refl refl refl (sym (ap (λ (digits : List ℕ). with_newline (codes "no Accepted " ++ digits)) (decimal_digit 0 (lit< tt)))) refl,
   (
     refreshed 0 1 1 (none 0 1 refl lawful_1),
     none 0 1 refl lawful_1,
@@ -195,26 +196,26 @@ returns-clause-private_part c =
     let none_0 = lawful_cut 0 refl in
     let none_1 = lawful_cut 1 refl in
     let none_2 = lawful_cut 2 refl in (
-      kept (examples.at_cut 0) none_0,
+      kept (session_examples.at_cut 0) none_0,
       none_0,
       sessions.accepted (commands.Edit (examples.cut 0)) (whats.Do (examples.cut 0)) refl refl refl cut_done refl,
       (
-        kept (examples.at_cut 1) none_1,
+        kept (session_examples.at_cut 1) none_1,
         none_1,
         sessions.gone_private refl refl (sym (numbered (codes "private "))) refl refl,
         (
-          kept (examples.in_private 1) none_1,
+          kept (session_examples.in_private 1) none_1,
           none_1,
           sessions.answered refl refl refl,
           (
-            kept (examples.in_private 1) none_1,
+            kept (session_examples.in_private 1) none_1,
             none_1,
             sessions.accepted (commands.Undo None) (whats.Undo 0) refl refl refl undo_done refl,
             (
-              kept (examples.in_private 2) none_2,
+              kept (session_examples.in_private 2) none_2,
               none_2,
               sessions.gone_back (take 1 examples.cut_and_undo) refl refl (sym (numbered (codes "back "))) refl refl,
-              (kept (examples.at_cut 1) none_1, none_1, sessions.answered refl refl refl, tt),
+              (kept (session_examples.at_cut 1) none_1, none_1, sessions.answered refl refl refl, tt),
             ),
           ),
         ),

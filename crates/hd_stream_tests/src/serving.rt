@@ -1,0 +1,34 @@
+//! Desks that are served over lines, for the tests.
+use hd_board::{Board, Desk, open};
+use hd_protocol::{SAMPLE, ServeFault, open_bytes, serve};
+use hd_terms::Mode;
+use std::alloc::Global;
+use std::sync::Wait;
+use std::thread::Threads;
+
+/// What serving a desk came to: what was written, and how it ended.
+#[derive(Drop)]
+pub struct Served {
+    pub written: Vec<u8>,
+    pub ended: Result<(), ServeFault>,
+}
+
+/// A board of so many desks over the two arrays, 1 to 16, if it opens.
+pub fn board_of<R: AllocGlobal + Threads + Sync>(rt: &R, n: u8) -> Option<(Board, Vec<Desk>)> {
+    let graph = open_bytes(rt, &SAMPLE, 1, Mode::Direct).ok()?;
+    open(rt.alloc(), graph, n.clamp(1, 16)).ok()
+}
+
+/// Serves the lines of a text to a desk.
+pub fn serve_text<R: Wait>(
+    rt: &R,
+    alloc: Global,
+    board: &Board,
+    desk: &mut Desk,
+    text: &[u8],
+) -> Served {
+    let mut input = text;
+    let mut written = Vec::new(alloc);
+    let ended = serve(rt, alloc, &mut input, &mut written, board, desk);
+    Served { written, ended }
+}
