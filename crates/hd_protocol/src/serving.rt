@@ -252,7 +252,7 @@ fn run_input<R: BufRead, W: Write>(
 /// # Errors
 ///
 /// The reader or the writer failed, and the desk has seen what the lines that were run have done; or memory ran out before
-/// anything was read, and the desk is untouched.
+/// anything was read, and the desk has seen no more than before.
 pub fn serve<R: BufRead, W: Write>(
     rt: &impl Wait,
     alloc: Global,

@@ -100,7 +100,10 @@ fn run_session<R: AllocGlobal + Threads + Wait + Sync>(
 }
 
 /// Writes the counts and totals of the dump.
-fn run_stat<R: AllocGlobal + Threads + Wait + Sync>(rt: &R, case: &mut Case) -> Result<(), CaseFault> {
+fn run_stat<R: AllocGlobal + Threads + Wait + Sync>(
+    rt: &R,
+    case: &mut Case,
+) -> Result<(), CaseFault> {
     let dump = case.dump()?;
     let text = answer_of_all(rt, dump.as_slice(), case.settings(), Question::Stat)?;
     case.put(text.as_slice())?;
@@ -108,7 +111,10 @@ fn run_stat<R: AllocGlobal + Threads + Wait + Sync>(rt: &R, case: &mut Case) -> 
 }
 
 /// Writes how the dump opens.
-fn run_opens<R: AllocGlobal + Threads + Wait + Sync>(rt: &R, case: &mut Case) -> Result<(), CaseFault> {
+fn run_opens<R: AllocGlobal + Threads + Wait + Sync>(
+    rt: &R,
+    case: &mut Case,
+) -> Result<(), CaseFault> {
     let dump = case.dump()?;
     let text = opening(rt, dump.as_slice())?;
     case.put(text.as_slice())?;

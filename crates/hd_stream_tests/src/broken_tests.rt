@@ -5,7 +5,13 @@ use hd_protocol::{ServeFault, serve};
 use std::test::Fail;
 
 /// The lines of a session.
-const LINES: [&str; 5] = ["strength 0x2\n", "cut 0x1 e0\n", "fell 0\n", "undo\n", "quit\n"];
+const LINES: [&str; 5] = [
+    "strength 0x2\n",
+    "cut 0x1 e0\n",
+    "fell 0\n",
+    "undo\n",
+    "quit\n",
+];
 
 /// Their replies.
 const REPLIES: [&str; 5] = [
@@ -41,7 +47,9 @@ fn reader_breaks_at_each_byte(rt: HostRuntime) -> Result<(), Fail> {
     let replies = REPLIES.concat(alloc)?;
     for k in 0..input.len() {
         let (board, mut desks) = board_of(&rt, 1).ok_or("the board opens")?;
-        let mut reader = FailingReader { rest: &input.as_bytes()[..k] };
+        let mut reader = FailingReader {
+            rest: &input.as_bytes()[..k],
+        };
         let mut written = Vec::new(alloc);
         let ended = serve(&rt, alloc, &mut reader, &mut written, &board, &mut desks[0]);
         let (lines, _) = whole_within(&LINES, k);
@@ -61,12 +69,19 @@ fn writer_breaks_at_each_byte(rt: HostRuntime) -> Result<(), Fail> {
     for k in 0..replies.len() {
         let (board, mut desks) = board_of(&rt, 1).ok_or("the board opens")?;
         let mut reader = input.as_bytes();
-        let mut writer = FailingWriter { taken: Vec::new(alloc), room: k, fails: true };
+        let mut writer = FailingWriter {
+            taken: Vec::new(alloc),
+            room: k,
+            fails: true,
+        };
         let ended = serve(&rt, alloc, &mut reader, &mut writer, &board, &mut desks[0]);
         let (lines, _) = whole_within(&REPLIES, k);
         assert_eq!(rt; ended, Err(ServeFault::Write));
         assert_eq!(rt; writer.taken.as_slice(), &replies.as_bytes()[..k]);
-        assert_eq!(rt; Some(&desks[0].seen().len()), EVENTS.get(lines.saturating_add(1)));
+        assert_eq!(rt;
+            Some(&desks[0].seen().len()),
+            EVENTS.get(lines.saturating_add(1))
+        );
     }
     Ok(())
 }

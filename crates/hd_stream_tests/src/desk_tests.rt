@@ -8,7 +8,10 @@ fn desk_sees_what_another_did(rt: HostRuntime) -> Result<(), Fail> {
     let alloc = rt.alloc();
     let first = serve_text(&rt, alloc, &board, &mut desks[0], b"cut 0x1 e0\n");
     assert_eq!(rt; first.ended, Ok(()));
-    assert_eq!(rt; first.written.as_slice(), b"ok 1\nevent 0 fell 1 back 0\n".as_slice());
+    assert_eq!(rt;
+        first.written.as_slice(),
+        b"ok 1\nevent 0 fell 1 back 0\n".as_slice()
+    );
     let input: &[u8] = b"strength 0x2\nundo 0\nquit\nstrength 0x1\n";
     let second = serve_text(&rt, alloc, &board, &mut desks[1], input);
     assert_eq!(rt; second.ended, Ok(()));
@@ -29,11 +32,13 @@ fn session_ends_in_a_private_part(rt: HostRuntime) -> Result<(), Fail> {
     assert_eq!(rt; served.ended, Ok(()));
     assert_eq!(rt;
         served.written.as_slice(),
-        b"ok 1\nevent 0 fell 0 back 0\nok 1\nprivate 1\nok 1\nevent 1 fell 0 back 0\nok 1\nevent 2 fell 1 back 0\n"
-            .as_slice()
+        b"ok 1\nevent 0 fell 0 back 0\nok 1\nprivate 1\nok 1\nevent 1 fell 0 back 0\nok 1\nevent 2 fell 1 back 0\n".as_slice()
     );
     assert_eq!(rt; desks[0].seen().len(), 1);
-    let log = board.close(desks.as_slice()).ok().ok_or("the board closes")?;
+    let log = board
+        .close(desks.as_slice())
+        .ok()
+        .ok_or("the board closes")?;
     assert_eq!(rt; log.len(), 1);
     Ok(())
 }

@@ -1,5 +1,5 @@
 //! Tests of what only code can show of the lines of an analyst: streams that fail, hold what they are given or never end,
-//! desks that are served over one board, and the texts of what ended a run.
+//! desks that are served over one board, prompts, and the texts of what ended a run.
 #![tactic(auto)]
 
 #[cfg(test)]
@@ -12,5 +12,7 @@ mod serving;
 mod stream_tests;
 #[cfg(test)]
 mod streams;
+#[cfg(test)]
+mod terminal_tests;
 #[cfg(test)]
 mod writer_tests;

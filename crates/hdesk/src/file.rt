@@ -1,6 +1,6 @@
 //! Reading a file into memory.
-use crate::terminal::StatusLine;
 use hd_records::check_size;
+use hd_terminal::StatusLine;
 use hd_terms::ReadFault;
 use std::alloc::{AllocError, Global};
 use std::fs::{self, File};

@@ -7,10 +7,10 @@ mod program;
 #[cfg(test)]
 mod program_tests;
 mod server;
-mod terminal;
 #[cfg(test)]
 mod terminal_tests;
 
+use hd_terminal::Prompting;
 use std::env;
 use std::fs::File;
 use std::io::{self, BufWriter, IsTerminal, Write};
@@ -20,7 +20,6 @@ use std::rt::{Env, Files};
 use std::sync::Wait;
 use std::thread::Threads;
 use std::time::Clock;
-use terminal::Prompting;
 
 /// What the standard streams are.
 #[derive(Clone, Copy, Debug, PartialEq, Eq)]

@@ -12,12 +12,10 @@ ghost use Rattle.hdesk.specs.Tasks.{TaskWorkers};
 use crate::arguments::{Opening, Serving, Task, WORKERS, read_arguments};
 use crate::file::{FileFault, read_file};
 use crate::server::{ServerFault, serve_bytes};
-use crate::terminal::StatusLine;
 use clap::Error;
 use clap::error::ErrorKind;
-use hd_protocol::{
-    RunFault, SAMPLE, open_alone, open_bytes, run_bytes, serve_alone, stat_bytes,
-};
+use hd_protocol::{RunFault, SAMPLE, open_alone, open_bytes, run_bytes, serve_alone, stat_bytes};
+use hd_terminal::StatusLine;
 use hd_terms::Mode;
 use std::fs::File;
 use std::io::{BufRead, Write};

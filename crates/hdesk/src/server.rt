@@ -7,10 +7,10 @@ ghost use Rattle.hdesk.specs.Listening.{listening_text, EndsEarly, EndsServer, P
 ghost use Rattle.hdesk.specs.Tasks.{IsAnalysts};
 
 use crate::arguments::Serving;
-use crate::terminal::StatusLine;
 use hd_graph::Graph;
 use hd_protocol::{RunFault, open_bytes};
 use hd_server::{ServeOnFault, serve_on};
+use hd_terminal::StatusLine;
 use std::alloc::{AllocError, Global};
 use std::fmt::Write as _;
 use std::io::Write;
@@ -127,7 +127,12 @@ where
     ensures { EndsServer serving.entry.opening.mode bytes.items serving.entry.analysts (W.contents output.old) (W.contents output.new) result }
 {
     status.show(rt, faults, "finding objects and references");
-    let graph = match open_bytes(rt, bytes.as_slice(), serving.opening.workers, serving.opening.mode) {
+    let graph = match open_bytes(
+        rt,
+        bytes.as_slice(),
+        serving.opening.workers,
+        serving.opening.mode,
+    ) {
         Ok(graph) => graph,
         Err(fault) => return Err(ServerFault::Open(fault)),
     };

@@ -1,14 +1,12 @@
 //! What is shown at a terminal, and that it doesn't show on standard output.
 use crate::program::{BAD_DUMP, DONE, program};
-use crate::terminal::Prompting;
 use hd_protocol::SAMPLE;
-use std::alloc::{AllocError, Global};
+use std::alloc::AllocError;
 use std::fs::{self, File};
-use std::io::{self, BufRead};
+use std::io;
 use std::net::{Net, TcpListener, TcpStream};
 use std::rt::Files;
 use std::sync::Wait;
-use std::test::Fail;
 use std::thread::Threads;
 use std::time::Clock;
 
@@ -69,24 +67,5 @@ fn damaged_file_at_a_terminal(rt: HostRuntime) -> io::Result<()> {
         seen.as_slice()
             .ends_with(b"\r\x1b[Khdesk: Truncated at 31\n")
     );
-    Ok(())
-}
-
-/// How many prompts are written while two lines are read.
-fn prompts_of(alloc: Global, is_terminal: bool) -> io::Result<usize> {
-    let lines: &[u8] = b"strength 0x2\nquit\n";
-    let mut prompts = Vec::new(alloc);
-    let mut reader = Prompting::new(alloc, lines, &mut prompts, is_terminal)?;
-    let mut line = String::new(alloc);
-    reader.read_line(&mut line)?;
-    reader.read_line(&mut line)?;
-    drop(reader);
-    Ok(prompts.len())
-}
-
-#[test]
-fn prompts(rt: HostRuntime) -> Result<(), Fail> {
-    assert_eq!(rt; prompts_of(rt.alloc(), true).ok(), Some(7));
-    assert_eq!(rt; prompts_of(rt.alloc(), false).ok(), Some(0));
     Ok(())
 }

@@ -1,4 +1,6 @@
 //! What a person at a terminal is shown on standard error: one line while a file is opened, and a prompt.
+#![tactic(auto)]
+
 ghost use Rattle.std.specs.Prelude.{Some, length};
 ghost use Rattle.std.specs.Io.Buffered.{reader_buffer, reader_remaining};
 
