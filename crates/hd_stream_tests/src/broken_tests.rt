@@ -1,8 +1,10 @@
 //! One session with a stream that breaks after each number of bytes.
-use crate::serving::board_of;
+use crate::serving::{Served, board_of};
 use crate::streams::{FailingReader, FailingWriter};
 use hd_protocol::{ServeFault, serve};
+use std::sync::Wait;
 use std::test::Fail;
+use std::thread::Threads;
 
 /// The lines of a session.
 const LINES: [&str; 5] = [
@@ -25,63 +27,100 @@ const REPLIES: [&str; 5] = [
 /// How many events the log has after so many lines.
 const EVENTS: [u32; 6] = [0, 0, 1, 1, 2, 2];
 
-/// How many of some texts, one after another, end within so many bytes, and how many bytes those have.
-fn whole_within(texts: &[&str], bytes: usize) -> (usize, usize) {
+/// The first bytes of some, so many.
+fn first(bytes: &[u8], count: usize) -> &[u8] {
+    if count < bytes.len() {
+        &bytes[..count]
+    } else {
+        bytes
+    }
+}
+
+/// How many of some texts, one after another, end within so many bytes.
+fn whole_within(texts: &[&str], bytes: usize) -> usize {
     let mut count = 0usize;
     let mut len = 0usize;
     for text in texts {
-        let next = len.saturating_add(text.len());
-        if next > bytes {
-            break;
+        len = len.saturating_add(text.len());
+        if len <= bytes {
+            count = count.saturating_add(1);
         }
-        count = count.saturating_add(1);
-        len = next;
     }
-    (count, len)
+    count
+}
+
+/// How many bytes the first of some texts have, so many.
+fn len_of_first(texts: &[&str], count: usize) -> usize {
+    let mut len = 0usize;
+    let mut left = count;
+    for text in texts {
+        if left > 0 {
+            len = len.saturating_add(text.len());
+            left -= 1;
+        }
+    }
+    len
+}
+
+/// What a session over a reader that fails after some bytes comes to, and how many events the desk has seen then.
+fn read_some<R: AllocGlobal + Threads + Wait + Sync>(
+    rt: &R,
+    input: &[u8],
+) -> Option<(Served, u32)> {
+    let (board, mut desks) = board_of(rt, 1)?;
+    let mut desk = desks.pop()?;
+    let mut reader = FailingReader { rest: input };
+    let mut written = Vec::new(rt.alloc());
+    let ended = serve(rt, rt.alloc(), &mut reader, &mut written, &board, &mut desk);
+    Some((Served { written, ended }, desk.seen().len()))
+}
+
+/// The same over a writer that fails after so many bytes.
+fn write_some<R: AllocGlobal + Threads + Wait + Sync>(
+    rt: &R,
+    input: &[u8],
+    room: usize,
+) -> Option<(Served, u32)> {
+    let (board, mut desks) = board_of(rt, 1)?;
+    let mut desk = desks.pop()?;
+    let mut reader = input;
+    let mut writer = FailingWriter {
+        taken: Vec::new(rt.alloc()),
+        room,
+        fails: true,
+    };
+    let ended = serve(rt, rt.alloc(), &mut reader, &mut writer, &board, &mut desk);
+    let written = writer.taken;
+    Some((Served { written, ended }, desk.seen().len()))
 }
 
 #[test]
 fn reader_breaks_at_each_byte(rt: HostRuntime) -> Result<(), Fail> {
-    let alloc = rt.alloc();
-    let input = LINES.concat(alloc)?;
-    let replies = REPLIES.concat(alloc)?;
+    let input = LINES.concat(rt.alloc())?;
+    let replies = REPLIES.concat(rt.alloc())?;
     for k in 0..input.len() {
-        let (board, mut desks) = board_of(&rt, 1).ok_or("the board opens")?;
-        let mut reader = FailingReader {
-            rest: &input.as_bytes()[..k],
-        };
-        let mut written = Vec::new(alloc);
-        let ended = serve(&rt, alloc, &mut reader, &mut written, &board, &mut desks[0]);
-        let (lines, _) = whole_within(&LINES, k);
-        let (_, len) = whole_within(&REPLIES[..lines], usize::MAX);
-        assert_eq!(rt; ended, Err(ServeFault::Read));
-        assert_eq!(rt; written.as_slice(), &replies.as_bytes()[..len]);
-        assert_eq!(rt; Some(&desks[0].seen().len()), EVENTS.get(lines));
+        let read = read_some(&rt, first(input.as_bytes(), k));
+        let (served, events) = read.ok_or("the board opens")?;
+        let lines = whole_within(&LINES, k);
+        let wanted = first(replies.as_bytes(), len_of_first(&REPLIES, lines));
+        assert_eq!(rt; served.ended, Err(ServeFault::Read));
+        assert_eq!(rt; served.written.as_slice(), wanted);
+        assert_eq!(rt; Some(&events), EVENTS.get(lines));
     }
     Ok(())
 }
 
 #[test]
 fn writer_breaks_at_each_byte(rt: HostRuntime) -> Result<(), Fail> {
-    let alloc = rt.alloc();
-    let input = LINES.concat(alloc)?;
-    let replies = REPLIES.concat(alloc)?;
+    let input = LINES.concat(rt.alloc())?;
+    let replies = REPLIES.concat(rt.alloc())?;
     for k in 0..replies.len() {
-        let (board, mut desks) = board_of(&rt, 1).ok_or("the board opens")?;
-        let mut reader = input.as_bytes();
-        let mut writer = FailingWriter {
-            taken: Vec::new(alloc),
-            room: k,
-            fails: true,
-        };
-        let ended = serve(&rt, alloc, &mut reader, &mut writer, &board, &mut desks[0]);
-        let (lines, _) = whole_within(&REPLIES, k);
-        assert_eq!(rt; ended, Err(ServeFault::Write));
-        assert_eq!(rt; writer.taken.as_slice(), &replies.as_bytes()[..k]);
-        assert_eq!(rt;
-            Some(&desks[0].seen().len()),
-            EVENTS.get(lines.saturating_add(1))
-        );
+        let wrote = write_some(&rt, input.as_bytes(), k);
+        let (served, events) = wrote.ok_or("the board opens")?;
+        let lines = whole_within(&REPLIES, k).saturating_add(1);
+        assert_eq!(rt; served.ended, Err(ServeFault::Write));
+        assert_eq!(rt; served.written.as_slice(), first(replies.as_bytes(), k));
+        assert_eq!(rt; Some(&events), EVENTS.get(lines));
     }
     Ok(())
 }

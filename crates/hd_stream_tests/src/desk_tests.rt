@@ -5,40 +5,40 @@ use std::test::Fail;
 #[test]
 fn desk_sees_what_another_did(rt: HostRuntime) -> Result<(), Fail> {
     let (board, mut desks) = board_of(&rt, 2).ok_or("the board opens")?;
+    let mut second_desk = desks.pop().ok_or("the second desk")?;
+    let mut first_desk = desks.pop().ok_or("the first desk")?;
     let alloc = rt.alloc();
-    let first = serve_text(&rt, alloc, &board, &mut desks[0], b"cut 0x1 e0\n");
+    let first = serve_text(&rt, alloc, &board, &mut first_desk, b"cut 0x1 e0\n");
     assert_eq!(rt; first.ended, Ok(()));
     assert_eq!(rt;
         first.written.as_slice(),
         b"ok 1\nevent 0 fell 1 back 0\n".as_slice()
     );
     let input: &[u8] = b"strength 0x2\nundo 0\nquit\nstrength 0x1\n";
-    let second = serve_text(&rt, alloc, &board, &mut desks[1], input);
+    let second = serve_text(&rt, alloc, &board, &mut second_desk, input);
     assert_eq!(rt; second.ended, Ok(()));
     assert_eq!(rt;
         second.written.as_slice(),
         b"ok 1\nUNREACHABLE\nno NotYours\nok 0\n".as_slice()
     );
-    assert!(rt; board.close(desks.as_slice()).is_ok());
+    assert!(rt; board.close(&[first_desk, second_desk]).is_ok());
     Ok(())
 }
 
 #[test]
 fn session_ends_in_a_private_part(rt: HostRuntime) -> Result<(), Fail> {
     let (board, mut desks) = board_of(&rt, 1).ok_or("the board opens")?;
+    let mut desk = desks.pop().ok_or("the desk")?;
     let alloc = rt.alloc();
     let input: &[u8] = b"add 0x2\nprivate\ncut 0x1 e0\nundo 0\n";
-    let served = serve_text(&rt, alloc, &board, &mut desks[0], input);
+    let served = serve_text(&rt, alloc, &board, &mut desk, input);
     assert_eq!(rt; served.ended, Ok(()));
     assert_eq!(rt;
         served.written.as_slice(),
         b"ok 1\nevent 0 fell 0 back 0\nok 1\nprivate 1\nok 1\nevent 1 fell 0 back 0\nok 1\nevent 2 fell 1 back 0\n".as_slice()
     );
-    assert_eq!(rt; desks[0].seen().len(), 1);
-    let log = board
-        .close(desks.as_slice())
-        .ok()
-        .ok_or("the board closes")?;
+    assert_eq!(rt; desk.seen().len(), 1);
+    let log = board.close(&[desk]).ok().ok_or("the board closes")?;
     assert_eq!(rt; log.len(), 1);
     Ok(())
 }
@@ -46,12 +46,13 @@ fn session_ends_in_a_private_part(rt: HostRuntime) -> Result<(), Fail> {
 #[test]
 fn desk_of_another_board(rt: HostRuntime) -> Result<(), Fail> {
     let (board, mut desks) = board_of(&rt, 1).ok_or("the board opens")?;
+    let mut desk = desks.pop().ok_or("the desk")?;
     let (other, _desks) = board_of(&rt, 1).ok_or("the other board opens")?;
     let alloc = rt.alloc();
-    let first = serve_text(&rt, alloc, &board, &mut desks[0], b"cut 0x1 e0\n");
+    let first = serve_text(&rt, alloc, &board, &mut desk, b"cut 0x1 e0\n");
     assert_eq!(rt; first.ended, Ok(()));
     let input: &[u8] = b"strength 0x2\nundo\nmark\nstrength\nquit\n";
-    let second = serve_text(&rt, alloc, &other, &mut desks[0], input);
+    let second = serve_text(&rt, alloc, &other, &mut desk, input);
     assert_eq!(rt; second.ended, Ok(()));
     assert_eq!(rt;
         second.written.as_slice(),
@@ -63,10 +64,12 @@ fn desk_of_another_board(rt: HostRuntime) -> Result<(), Fail> {
 #[test]
 fn mark_of_a_late_desk(rt: HostRuntime) -> Result<(), Fail> {
     let (board, mut desks) = board_of(&rt, 2).ok_or("the board opens")?;
+    let mut second_desk = desks.pop().ok_or("the second desk")?;
+    let mut first_desk = desks.pop().ok_or("the first desk")?;
     let alloc = rt.alloc();
-    let first = serve_text(&rt, alloc, &board, &mut desks[0], b"cut 0x1 e0\n");
+    let first = serve_text(&rt, alloc, &board, &mut first_desk, b"cut 0x1 e0\n");
     assert_eq!(rt; first.ended, Ok(()));
-    let second = serve_text(&rt, alloc, &board, &mut desks[1], b"fell 0\n");
+    let second = serve_text(&rt, alloc, &board, &mut second_desk, b"fell 0\n");
     assert_eq!(rt; second.written.as_slice(), b"ok 1\n0x2\n".as_slice());
     Ok(())
 }

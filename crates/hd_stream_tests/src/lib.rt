@@ -7,6 +7,8 @@ mod broken_tests;
 #[cfg(test)]
 mod desk_tests;
 #[cfg(test)]
+mod query_tests;
+#[cfg(test)]
 mod serving;
 #[cfg(test)]
 mod stream_tests;
