@@ -8,13 +8,13 @@ nothing (`no OutOfMemory`, `no Behind`); or, for an edit or an undo, that its ev
 come to it (`no Accepted E`), and then the lines behind it have to be right for a log with that event. Or the run ends with
 the fault OutOfMemory, and nothing is written. There are two sweeps:
 
-- under smaller and smaller limits of the address space, from 8,000 KiB down in steps of one page, to the first limit under
+- under smaller and smaller limits of the address space, from 4,000 KiB down in steps of one page, to the first limit under
   which the system's loader can't start the program;
 - with the N-th allocation alone refused, for N = 1, 2, .. up to the first run in which nothing was left to refuse.
   `refuse.rs`, put before the C library, refuses it.
 
 Prints for each sweep how many runs had each outcome. The status is 1 where a run did anything else, or where the second
-sweep has not met each of the outcomes. Needed are Linux, rustc, the GNU C library and Python 3.8 or later.
+sweep has not met each of the outcomes. Needed are Linux, bash, rustc, the GNU C library and Python 3.8 or later.
 """
 import collections
 import os
@@ -26,7 +26,7 @@ import tempfile
 
 HERE = pathlib.Path(__file__).resolve().parent
 MOST_ALLOCATIONS = 2000
-FIRST_LIMIT = 8000
+FIRST_LIMIT = 4000
 LINES = [
     "strength 0x2", "cut 0x1 e0", "strength 0x2", "slots 0x1", "undo", "strength 0x2", "mark", "chain 0x2", "into 0x2",
     "classes STRONG", "members 0x0 STRONG", "fell 0", "fell 1", "private", "cut 0x1 e0", "strength 0x2", "events", "back",
@@ -133,19 +133,14 @@ def judge(done):
     return "refused at a command" if ran_out else "answered all"
 
 
-def run(program, limit=None, preload=None, refused=None, marks=None):
-    environment = dict(os.environ, LC_ALL="C")
-    if preload:
-        environment.update(LD_PRELOAD=str(preload), REFUSE=str(refused))
-
+def serve(command, limit=None):
+    """Runs a command over the lines, under a limit of the address space in KiB if one is given."""
     def prepare():
         if limit:
             resource.setrlimit(resource.RLIMIT_AS, (limit * 1024, limit * 1024))
-        if marks:
-            os.dup2(marks.fileno(), 3)
 
     text = "".join(line + "\n" for line in LINES).encode()
-    return subprocess.run([program], input=text, capture_output=True, env=environment, preexec_fn=prepare, close_fds=False, check=False)
+    return subprocess.run(command, input=text, capture_output=True, env=dict(os.environ, LC_ALL="C"), preexec_fn=prepare, check=False)
 
 
 def note(counts, outcome, which, done):
@@ -161,7 +156,7 @@ def show(name, counts, end):
 def sweep_limits(program):
     counts = collections.Counter()
     for limit in range(FIRST_LIMIT, 0, -4):
-        done = run(program, limit=limit)
+        done = serve([program], limit)
         outcome = judge(done)
         if outcome == "not loaded" or done.returncode < 0:
             show("limits of the address space", counts, f"not loaded at {limit} KiB")
@@ -172,15 +167,16 @@ def sweep_limits(program):
 
 def sweep_allocations(program, preload):
     counts = collections.Counter()
+    script = 'LD_PRELOAD="$2" REFUSE="$3" exec "$0" 3>"$1"'
     for n in range(1, MOST_ALLOCATIONS + 1):
-        with tempfile.TemporaryFile() as marks:
-            done = run(program, preload=preload, refused=n, marks=marks)
-            outcome = judge(done)
-            note(counts, "anything else" if outcome == "not loaded" else outcome, f"without allocation {n}", done)
-            if marks.seek(0, os.SEEK_END) == 0:
-                show("one allocation refused", counts, f"nothing left to refuse at run {n}")
-                met = ["refused at the opening", "refused elsewhere", "refused at a command", "answered all"]
-                return counts["anything else"] == 0 and outcome == "answered all" and all(counts[name] for name in met)
+        mark = preload.parent / "mark"
+        done = serve(["bash", "-c", script, program, str(mark), str(preload), str(n)])
+        outcome = judge(done)
+        note(counts, "anything else" if outcome == "not loaded" else outcome, f"without allocation {n}", done)
+        if mark.stat().st_size == 0:
+            show("one allocation refused", counts, f"nothing left to refuse at run {n}")
+            met = ["refused at the opening", "refused elsewhere", "refused at a command", "answered all"]
+            return counts["anything else"] == 0 and outcome == "answered all" and all(counts[name] for name in met)
     show("one allocation refused", counts, f"no end after {MOST_ALLOCATIONS} runs")
     return False
 
