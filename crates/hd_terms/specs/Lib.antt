@@ -19,6 +19,8 @@ pub mod Objects
 pub mod ReadFaults
 pub mod Log
 pub mod EditedDump
+pub mod EdgeRows
+pub mod Regions
 pub mod SlotRows
 pub mod RootRows
 pub mod IntoRows
