@@ -1,0 +1,4 @@
+pub mod Offering
+pub mod OffersInside
+pub mod Spreading
+pub mod Marking

@@ -1,0 +1,8 @@
+//! Repairs.
+#![tactic(auto)]
+
+mod change;
+mod offers;
+mod spreading;
+
+pub use change::Change;

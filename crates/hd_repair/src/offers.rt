@@ -1,0 +1,115 @@
+//! Offers of strengths to objects, the greatest first, those of one strength first in, first out.
+ghost use Rattle.std.specs.Prelude.{◌≡◌, [], IfNone, IfSome, OnOk};
+ghost use Rattle.hd_repair.specs.Offering.{AddsOffer, TakesBest};
+ghost use Rattle.hd_repair.specs.OffersInside.{IsFirstOf};
+
+use hd_terms::{NoMemory, Strength, Support};
+use std::alloc::Global;
+use std::collections::VecDeque;
+use std::marker::Model;
+
+/// What a root or an edge would give an object.
+#[derive(Clone, Copy)]
+pub struct Offer {
+    /// The number of the object.
+    pub target: u32,
+    pub strength: Strength,
+    /// The support that gives it.
+    pub support: Support,
+}
+
+/// An offer in the queue of its strength.
+#[derive(Clone, Copy)]
+pub(crate) struct Queued {
+    target: u32,
+    support: Support,
+}
+
+/// Takes out the earliest offer of a strength's queue.
+fn pop_queued(queue: &mut VecDeque<Queued>, strength: Strength) -> Option<Offer>
+    ensures none { IfNone result ((queue.old.items ≡ []) × (queue.new.items ≡ [])) }
+    ensures some { IfSome result (λ offer. IsFirstOf strength offer queue.old.items queue.new.items) }
+{
+    let queued = queue.pop_front()?;
+    Some(Offer {
+        target: queued.target,
+        strength,
+        support: queued.support,
+    })
+}
+
+/// Offers, in a queue for each strength.
+#[derive(Drop)]
+pub(crate) struct Offers {
+    strong: VecDeque<Queued>,
+    soft: VecDeque<Queued>,
+    weak: VecDeque<Queued>,
+    finals: VecDeque<Queued>,
+    phantom: VecDeque<Queued>,
+}
+
+impl Model for Offers {
+    ghost use Rattle.std.specs.Prelude.{List};
+    ghost use Rattle.hd_repair.specs.declared.offers.Offer.{Offer};
+
+    ghost Value = { List Offer };
+
+    ghost use Rattle.hd_repair.specs.OffersInside.{offers_in};
+
+    ghost view = { offers_in };
+}
+
+impl Offers {
+    /// No offer.
+    pub(crate) fn new(alloc: Global) -> Offers
+        ensures { result ≡ [] }
+    {
+        Offers {
+            strong: VecDeque::new(alloc),
+            soft: VecDeque::new(alloc),
+            weak: VecDeque::new(alloc),
+            finals: VecDeque::new(alloc),
+            phantom: VecDeque::new(alloc),
+        }
+    }
+
+    /// Adds an offer. One of no strength is left out.
+    pub(crate) fn push(&mut self, offer: Offer) -> Result<(), NoMemory>
+        ensures { OnOk result (AddsOffer self.old self.new offer) }
+    {
+        let queued = Queued {
+            target: offer.target,
+            support: offer.support,
+        };
+        match offer.strength {
+            Strength::Strong => self.strong.push_back(queued)?,
+            Strength::Soft => self.soft.push_back(queued)?,
+            Strength::Weak => self.weak.push_back(queued)?,
+            Strength::Final => self.finals.push_back(queued)?,
+            Strength::Phantom => self.phantom.push_back(queued)?,
+            Strength::Unreachable => {}
+        }
+        Ok(())
+    }
+
+    /// Takes out the earliest of the offers that give the most.
+    pub(crate) fn pop_best(&mut self) -> Option<Offer>
+        ensures none { IfNone result (self.old ≡ []) }
+        ensures some { IfSome result (λ offer. TakesBest self.old self.new offer) }
+    {
+        if let Some(offer) = pop_queued(&mut self.strong, Strength::Strong) {
+            return Some(offer);
+        }
+        if let Some(offer) = pop_queued(&mut self.soft, Strength::Soft) {
+            return Some(offer);
+        }
+        if let Some(offer) = pop_queued(&mut self.weak, Strength::Weak) {
+            return Some(offer);
+        }
+        if let Some(offer) = pop_queued(&mut self.finals, Strength::Final) {
+            return Some(offer);
+        }
+        let offer = pop_queued(&mut self.phantom, Strength::Phantom)?;
+        Some(offer)
+    }
+}
