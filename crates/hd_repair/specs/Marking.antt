@@ -1,5 +1,5 @@
 -- The region of a loss, marked step by step.
-use Rattle.std.specs.Prelude.{◌≡◌, ◌≢◌, ℕ, ◌+◌, ◌≤◌, List, [], ◌∷◌, ◌++◌, length, map, Contains, sum_by, nat_eq, if◌then◌else◌}
+use Rattle.std.specs.Prelude.{◌≡◌, ◌≢◌, ℕ, ◌+◌, ◌≤◌, List, [], ◌∷◌, ◌++◌, length, map, All, ◌<◌, Contains, sum_by, nat_eq, if◌then◌else◌}
 use Rattle.hd_terms.specs.declared.Slot.{Slot}
 use Rattle.hd_terms.specs.declared.Strength.{Strength}
 use Rattle.hd_terms.specs.declared.Strength.TheVariants as strengths
@@ -7,7 +7,8 @@ use Rattle.hd_terms.specs.declared.Support.{Support}
 use Rattle.hd_terms.specs.declared.Support.TheVariants as supports
 use Rattle.hd_terms.specs.Ranks.{rank}
 use Rattle.hd_terms.specs.Chains.{NoneTwice}
-use Rattle.hd_terms.specs.Settled.{Reached, reached_at}
+use Rattle.hd_terms.specs.Paths.{Standing}
+use Rattle.hd_terms.specs.Settled.{Reached, Settled, reached_at}
 use Rattle.hd_terms.specs.Regions.{Holding, InLossRegion}
 
 -- what is kept of an object that lost its support
@@ -54,3 +55,17 @@ pub record IsNoMark (ks ks' : List Reached) (region region' : List ℕ) (before 
   pub same_kept : ks' ≡ ks
   pub same_region : region' ≡ region
   pub same_before : before' ≡ before
+
+-- the region as far as it is marked: what is kept of so many objects was so before, and has fewer reached objects by those
+-- that are marked, each of which is there with the strength that it had
+pub record IsMarking (n : ℕ) (ks0 ks : List Reached) (lost : List Holding) (region : List ℕ) (before : List Strength) : Type 0 where
+  pub count : length ks ≡ n
+  pub total : reached_of ks + length region ≡ reached_of ks0
+  pub within : All (λ o. o < n) region
+  pub strengths : before ≡ strengths_of ks0 region
+  pub marked : AreMarked ks0 ks lost region
+
+-- what is kept was settled for something that stood
+pub record WasSettled (ks : List Reached) : Type 0 where
+  pub before : Standing
+  pub settled : Settled before ks

@@ -1,7 +1,9 @@
 //! Repairs.
 #![tactic(auto)]
 
+mod best;
 mod change;
+mod marking;
 mod offers;
 mod spreading;
 
