@@ -6,3 +6,5 @@ pub mod SpreadLemmas
 pub mod BestLemmas
 pub mod EachLemmas
 pub mod MarkLemmas
+pub mod LossLemmas
+pub mod GainLemmas

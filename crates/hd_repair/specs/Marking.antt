@@ -9,7 +9,7 @@ use Rattle.hd_terms.specs.Ranks.{rank}
 use Rattle.hd_terms.specs.Chains.{NoneTwice}
 use Rattle.hd_terms.specs.Paths.{Standing}
 use Rattle.hd_terms.specs.Settled.{Reached, Settled, reached_at}
-use Rattle.hd_terms.specs.Regions.{Holding, InLossRegion}
+use Rattle.hd_terms.specs.Regions.{Holding, InLossRegion, StrengthChange, changed_objects}
 
 -- what is kept of an object that lost its support
 abbrev pub without_support : Reached → Reached
@@ -69,3 +69,10 @@ pub record IsMarking (n : ℕ) (ks0 ks : List Reached) (lost : List Holding) (re
 pub record WasSettled (ks : List Reached) : Type 0 where
   pub before : Standing
   pub settled : Settled before ks
+
+-- the changes among some objects: those whose strength differs, each once, with both strengths
+pub record AreChangesAmong (before after : List Reached) (objects : List ℕ) (changes : List StrengthChange) : Type 0 where
+  pub once : NoneTwice (changed_objects changes)
+  pub within : (o : ℕ) → Contains (changed_objects changes) o → Contains objects o
+  pub each : (d : StrengthChange) → Contains changes d → ((reached_at before d.object).strength ≡ d.before) × ((reached_at after d.object).strength ≡ d.after) × (d.before ≢ d.after)
+  pub all : (o : ℕ) → Contains objects o → (reached_at before o).strength ≢ (reached_at after o).strength → Contains (changed_objects changes) o

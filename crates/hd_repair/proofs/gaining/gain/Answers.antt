@@ -1,0 +1,30 @@
+use Rattle.std.proofs.Common.{◌≡◌, ◌∙◌, ◌+◌, ◌<◌, ◌≤◌, ℕ, List, All, Contains, length, get_or, sum_by, subst, sym, ap, arith}
+use Rattle.std.proofs.lemmas.List.Elements.{All-contains, Contains-get_or}
+use Rattle.hd_terms.specs.EdgeRows.{Rows, AreRows}
+use Rattle.hd_terms.specs.Regions.{Holding}
+use Rattle.hd_repair.proofs.GainLemmas.{begin_gain, stamps_up, looks_up}
+use Rattle.hd_repair.proofs.gaining.gain.Goals as goal
+
+pub offer_each-requires-clause-objects : goal.offer_each-requires-clause-objects
+offer_each-requires-clause-objects g c = rw c.deref.ensures.value (λ k d lt.
+    let x = c.in_ok-targets.ensures.only (get_or c.in_ok-targets.targets.items k d) (Contains-get_or c.in_ok-targets.targets.items k d lt) in
+    rw (← x.2) (All-contains (λ (h : Holding). h.target < (g.E.Edges.rows c.args.edges.now).objects) c.args.gained.now x.0 c.requires.targets x.1))
+
+pub offer_each-requires-clause-spreading : goal.offer_each-requires-clause-spreading
+offer_each-requires-clause-spreading g c = rw c.deref.ensures.value (begin_gain c.requires.settled.before (g.E.Edges.rows c.args.edges.now).standing c.args.gained.now c.args.kept.now c.in_ok-targets.targets.items c.requires.settled.without c.requires.settled.settled c.in_ok-targets.ensures.all)
+
+pub spread-requires-clause-targets : goal.spread-requires-clause-targets
+spread-requires-clause-targets g c = rw c.offer_each.ensures.same c.in_ok-offers.ensures.targets
+
+pub returns-clause-looks : goal.returns-clause-looks
+returns-clause-looks g c =
+    let rows = g.E.Edges.rows in
+    let r = rows c.args.edges.now in
+    let first = rw c.deref.ensures.value at c.offer_each.ensures.looks in
+    let second = rw c.offer_each.ensures.same at c.in_ok-changes.ensures.looks in
+    λ region all rising. looks_up c.args.kept.now c.spread.new.kept c.in_ok-changes.changes.items c.in_ok-changes.ensures.changes c.in_ok-targets.targets.items c.in_ok-targets.ensures.once
+    (λ o. length (r.out o)) (λ o. length (r.roots o) + length (r.into o)) _ _ _ first second region
+    (λ o c'. let x = c.in_ok-targets.ensures.only o c' in rw (← x.2) (all x.0 x.1)) rising
+
+pub returns-clause-stamps : goal.returns-clause-stamps
+returns-clause-stamps g c = stamps_up c.args.kept.now c.spread.new.kept c.in_ok-changes.changes.items c.in_ok-changes.ensures.changes (g.E.Edges.rows c.args.edges.now).objects (omega (arith, c.spread.auto.kept, c.requires.count))

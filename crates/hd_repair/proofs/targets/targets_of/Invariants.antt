@@ -1,0 +1,6 @@
+use Rattle.std.proofs.Common.{take}
+use Rattle.hd_repair.proofs.GainLemmas.{AreTargets}
+use Rattle.hd_repair.proofs.targets.targets_of.Given as goal
+
+abbrev pub invariant-loop-item : goal.invariant-loop-item
+invariant-loop-item l = AreTargets l.items (take l.item-index l.items) l.targets.items

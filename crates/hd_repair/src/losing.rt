@@ -1,0 +1,72 @@
+//! The repair after a loss: edges and roots stand no more.
+ghost use Rattle.std.specs.Prelude.{◌≡◌, ◌≢◌, ◌+◌, ◌*◌, ◌^◌, ◌<◌, ◌≤◌, ℕ, List, length, All, Contains, sum_by, IfOk, OnOk};
+ghost use Rattle.hd_terms.specs.declared.Support.TheVariants as supports;
+ghost use Rattle.hd_terms.specs.EdgeRows.{degree};
+ghost use Rattle.hd_terms.specs.Regions.{AreChanges, Holding, InLossRegion, WasSettledWith};
+ghost use Rattle.hd_terms.specs.Settled.{reached_at, Reached, Settled};
+ghost use Rattle.hd_terms.specs.Chains.{NoneTwice};
+ghost use Rattle.hd_repair.specs.Marking.{strengths_of, AreChangesAmong};
+
+use crate::best::offer_each;
+use crate::change::Change;
+use crate::marking::{Region, mark_region};
+use crate::spreading::spread;
+use hd_edges::{Edges, Held};
+use hd_supports::Supports;
+use hd_terms::NoMemory;
+use std::alloc::Global;
+
+/// The changes of the objects of a region, from the strengths that they had to those that are kept.
+fn changes_of(alloc: Global, region: &Region, kept: &Supports) -> Result<Vec<Change>, NoMemory>
+    requires within { All (λ o. o < length kept.now) region.now.objects.items }
+    requires strengths { length region.now.strengths.items ≡ length region.now.objects.items }
+    ensures { IfOk result (λ v. (before : List Reached) → region.now.strengths.items ≡ strengths_of before region.now.objects.items → NoneTwice region.now.objects.items → AreChangesAmong before kept.now region.now.objects.items v.items) }
+{
+    let mut changes = Vec::new(alloc);
+    for i in 0..region.objects.len() {
+        let o = region.objects[i];
+        let before = region.strengths[i];
+        let after = kept.strength(o);
+        if before.rank() != after.rank() {
+            changes.push(Change::new(o, before, after))?;
+        }
+    }
+    Ok(changes)
+}
+
+/// Repairs what is kept after a loss, and tells whose strength has changed.
+///
+/// What is lost stands no more, and while it did the supports were settled. The looks are at most twice the degree of the
+/// objects whose stored chain used what is lost.
+///
+/// # Errors
+///
+/// Memory ran out. What is kept may not be used further.
+pub fn lose<E: Edges>(
+    alloc: Global,
+    edges: &mut E,
+    kept: &mut Supports,
+    lost: &[Held],
+) -> Result<Vec<Change>, NoMemory>
+    requires count { length kept.old ≡ (E.rows edges.old).objects }
+    requires room { (o : ℕ) → (reached_at kept.old o).stamp ≤ 2 ^ 63 }
+    requires targets { All (λ (h : Holding). h.target < (E.rows edges.old).objects) lost.now }
+    requires holders { All (λ (h : Holding). h.holder ≢ supports.Nothing) lost.now }
+    requires settled { WasSettledWith (E.rows edges.old).standing lost.now kept.old }
+    ensures same { E.rows edges.new ≡ E.rows edges.old }
+    ensures count { length kept.new ≡ length kept.old }
+    ensures settled { OnOk result (Settled (E.rows edges.old).standing kept.new) }
+    ensures changes { IfOk result (λ v. AreChanges kept.old kept.new v.items) }
+    ensures outside { OnOk result ((o : ℕ) → (InLossRegion kept.old lost.now o → ⊥) → reached_at kept.new o ≡ reached_at kept.old o) }
+    ensures looks { OnOk result (
+        (region : List ℕ) → ((o : ℕ) → InLossRegion kept.old lost.now o → Contains region o)
+        → E.look_count edges.new ≤ E.look_count edges.old + 2 * sum_by (degree (E.rows edges.old)) region
+        ) }
+    ensures stamps { OnOk result ((m : ℕ) → ((o : ℕ) → (reached_at kept.old o).stamp ≤ m) → (o : ℕ) → (reached_at kept.new o).stamp ≤ m + (E.rows edges.old).objects) }
+{
+    let region = mark_region(alloc, edges, kept, lost)?;
+    let offers = offer_each(alloc, edges, &region.objects, kept)?;
+    let _rises = spread(alloc, edges, kept, offers)?;
+    let changes = changes_of(alloc, &region, kept)?;
+    Ok(changes)
+}
