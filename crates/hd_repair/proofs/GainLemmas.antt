@@ -1,5 +1,10 @@
-use Rattle.std.proofs.Common.{◌≡◌, ◌≢◌, ◌∙◌, ℕ, ◌+◌, ◌<◌, ◌≤◌, ◌⊎◌, inl, inr, List, [], ◌∷◌, ◌++◌, All, Contains, length, sum_by, refl, sym, ap, subst, arith}
-use Rattle.std.proofs.lemmas.Bool.{cases_lt}
+use Rattle.std.proofs.Common.{◌≡◌, ◌∙◌, ℕ, ◌+◌, ◌<◌, ◌≤◌, ◌⊎◌, inl, inr, List, [], ◌∷◌, ◌++◌, Contains, length, sum_by, sym, ap, arith}
+use Rattle.std.specs.Prelude.{nat_eq, not, if◌then◌else◌}
+use Rattle.std.specs.List.{list_any}
+use Rattle.std.proofs.Common.{Bool, true, false, true≢false, eqb-true}
+use Rattle.std.proofs.lemmas.Cmp.{nat_eq_equiv}
+use Rattle.std.proofs.lemmas.Map.Views.{list_any-from_Contains, Contains-from_any}
+use Rattle.std.proofs.lemmas.Bool.{cases_lt, cases_Bool, cond-true, cond-false}
 use Rattle.std.proofs.lemmas.List.{length-map, get_or_past}
 use Rattle.std.proofs.lemmas.List.Elements.{Contains-push, Contains-push_cases, Contains-append_left}
 use Rattle.hd_terms.proofs.Lower.{NoneTwice-push}
@@ -12,10 +17,11 @@ use Rattle.hd_terms.specs.Paths.{Standing}
 use Rattle.hd_terms.specs.Chains.{NoneTwice}
 use Rattle.hd_terms.specs.Settled.{Settled, reached_at, unreached}
 use Rattle.hd_terms.specs.Regions.{StrengthChange, changed_objects}
-use Rattle.hd_terms.specs.Regions.{Holding, edge_holding, root_holding}
-use Rattle.hd_terms.specs.Regions.{IsWithout, InGainRegion, AreChanges, as_target, by_change}
+use Rattle.hd_terms.specs.Regions.{Holding}
+use Rattle.hd_terms.specs.Regions.{IsWithout, InGainRegion, AreChanges, by_change}
 use Rattle.hd_repair.specs.Spreading.{IsSpreading, IsBacked, RootOn, EdgeTo, AreRises, rank_at}
 use Rattle.hd_repair.proofs.SettledLemmas.{exact_support, order_of}
+use Rattle.hd_repair.proofs.MarkLemmas.{in_or_not}
 use Rattle.hd_repair.proofs.LossLemmas.{changed_from, sum_by-part, sum_by-both, length-different}
 
 -- what was settled is spreading, but for what leads to the targets of what is gained
@@ -70,8 +76,32 @@ module _ (ks ks' : List Reached) (changes : List StrengthChange) (changed : AreR
 
   pub looks_up : (targets : List ℕ) → NoneTwice targets → (out others : ℕ → ℕ) (looks0 looks1 looks2 : ℕ) → looks1 ≤ looks0 + sum_by others targets → looks2 ≤ looks1 + sum_by out (changed_objects changes)
       → (region : List ℕ) → ((o : ℕ) → Contains targets o → Contains region o) → ((o : ℕ) → rank_at ks o < rank_at ks' o → Contains region o) → looks2 ≤ looks0 + sum_by (λ o. out o + others o) region
-  looks_up targets once out others looks0 looks1 looks2 a b region first then =
-      omega (arith, sum_by-both out others region, sum_by-part others targets region once first, sum_by-part out (changed_objects changes) region changed.once (λ o c. then o (rises o c)))
+  looks_up targets once out others looks0 looks1 looks2 a b region first rising =
+      omega (arith, sum_by-both out others region, sum_by-part others targets region once first, sum_by-part out (changed_objects changes) region changed.once (λ o c. rising o (rises o c)))
+
+-- what was gained and rises is the region
+module _ (ks ks' : List Reached) (changes : List StrengthChange) (changed : AreRises ks ks' changes) where
+  -- the changes told are all there are
+  pub told : AreChanges ks ks' changes
+  told = record {
+    once = changed.once;
+    each = λ d c. let h = changed.each d c in (h.before, h.after, λ same. let one : rank d.before ≡ rank d.after = ap rank same in omega (arith, h.rises));
+    all = λ o differ. elim (in_or_not (changed_objects changes) o) [
+      | inl is ↦ is
+      | inr out ↦ absurd (differ (ap (λ (k : Reached). k.strength) (sym (changed.others o out))))
+    ];
+  }
+
+  -- outside the region nothing has changed
+  pub outside_gain : (gained : List Holding) (o : ℕ) → (InGainRegion ks ks' gained o → ⊥) → reached_at ks' o ≡ reached_at ks o
+  outside_gain gained o out = changed.others o (λ c. out (by_change (λ same. let one : rank_at ks o ≡ rank_at ks' o = ap rank same in omega (arith, rises ks ks' changes changed o c))))
+
+-- a set of numbers after an insert: a number that was there leaves them as they are, and another goes last
+pub inserted : (k : ℕ) (ks ks' : List ℕ) (is_new : Bool) → is_new ≡ not (list_any (nat_eq k) ks) → ks' ≡ (if list_any (nat_eq k) ks then ks else ks ++ k ∷ []) → ((is_new ≡ true) × (Contains ks k → ⊥) × (ks' ≡ ks ++ k ∷ [])) ⊎ ((is_new ≡ false) × Contains ks k × (ks' ≡ ks))
+inserted k ks ks' is_new added keys = elim (cases_Bool (list_any (nat_eq k) ks)) [
+  | inl there ↦ inr (added ∙ ap not there, Contains-from_any eqb-true k ks there, keys ∙ cond-true (list_any (nat_eq k) ks) ks (ks ++ k ∷ []) there)
+  | inr fresh ↦ inl (added ∙ ap not fresh, (λ c. true≢false (sym (list_any-from_Contains nat_eq_equiv k ks c) ∙ fresh)), keys ∙ cond-false (list_any (nat_eq k) ks) ks (ks ++ k ∷ []) fresh)
+]
 
 -- the targets so far
 pub record AreTargets (items seen : List Holding) (ts : List ℕ) : Type 0 where

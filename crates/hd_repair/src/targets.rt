@@ -17,9 +17,10 @@ pub(crate) fn targets_of(alloc: Global, items: &[Held]) -> Result<Vec<u32>, NoMe
     let mut seen = IndexSet::new(alloc);
     let mut targets = Vec::new(alloc);
     for item in items {
-        let (_, is_new) = seen.insert_full(item.target())?;
+        let target = item.target();
+        let (_, is_new) = seen.insert_full(target)?;
         if is_new {
-            targets.push(item.target())?;
+            targets.push(target)?;
         }
     }
     Ok(targets)

@@ -1,8 +1,10 @@
 use Rattle.std.proofs.Common.{◌≡◌, ◌∙◌, ◌+◌, ◌<◌, ◌≤◌, ℕ, List, All, Contains, length, get_or, sum_by, subst, sym, ap, arith}
 use Rattle.std.proofs.lemmas.List.Elements.{All-contains, Contains-get_or}
 use Rattle.hd_terms.specs.EdgeRows.{Rows, AreRows}
-use Rattle.hd_terms.specs.Regions.{Holding}
-use Rattle.hd_repair.proofs.GainLemmas.{begin_gain, stamps_up, looks_up}
+use Rattle.hd_terms.specs.Regions.{Holding, as_target, by_change}
+use Rattle.hd_terms.specs.Ranks.{rank}
+use Rattle.hd_repair.specs.Spreading.{rank_at}
+use Rattle.hd_repair.proofs.GainLemmas.{begin_gain, stamps_up, looks_up, told, outside_gain}
 use Rattle.hd_repair.proofs.gaining.gain.Goals as goal
 
 pub offer_each-requires-clause-objects : goal.offer_each-requires-clause-objects
@@ -16,15 +18,22 @@ offer_each-requires-clause-spreading g c = rw c.deref.ensures.value (begin_gain 
 pub spread-requires-clause-targets : goal.spread-requires-clause-targets
 spread-requires-clause-targets g c = rw c.offer_each.ensures.same c.in_ok-offers.ensures.targets
 
+pub returns-clause-changes : goal.returns-clause-changes
+returns-clause-changes g c = told c.args.kept.now c.spread.new.kept c.in_ok-changes.changes.items c.in_ok-changes.ensures.changes
+
+pub returns-clause-outside : goal.returns-clause-outside
+returns-clause-outside g c = outside_gain c.args.kept.now c.spread.new.kept c.in_ok-changes.changes.items c.in_ok-changes.ensures.changes c.args.gained.now
+
 pub returns-clause-looks : goal.returns-clause-looks
 returns-clause-looks g c =
     let rows = g.E.Edges.rows in
     let r = rows c.args.edges.now in
-    let first = rw c.deref.ensures.value at c.offer_each.ensures.looks in
+    let first = rw c.deref.ensures.value at c.in_ok-offers.ensures.looks in
     let second = rw c.offer_each.ensures.same at c.in_ok-changes.ensures.looks in
-    λ region all rising. looks_up c.args.kept.now c.spread.new.kept c.in_ok-changes.changes.items c.in_ok-changes.ensures.changes c.in_ok-targets.targets.items c.in_ok-targets.ensures.once
+    λ region all. looks_up c.args.kept.now c.spread.new.kept c.in_ok-changes.changes.items c.in_ok-changes.ensures.changes c.in_ok-targets.targets.items c.in_ok-targets.ensures.once
     (λ o. length (r.out o)) (λ o. length (r.roots o) + length (r.into o)) _ _ _ first second region
-    (λ o c'. let x = c.in_ok-targets.ensures.only o c' in rw (← x.2) (all x.0 x.1)) rising
+    (λ o c'. let x = c.in_ok-targets.ensures.only o c' in rw (← x.2) (all x.0.target (as_target x.0 x.1)))
+    (λ o more. all o (by_change (λ same. let one : rank_at c.args.kept.now o ≡ rank_at c.spread.new.kept o = ap rank same in omega arith)))
 
 pub returns-clause-stamps : goal.returns-clause-stamps
-returns-clause-stamps g c = stamps_up c.args.kept.now c.spread.new.kept c.in_ok-changes.changes.items c.in_ok-changes.ensures.changes (g.E.Edges.rows c.args.edges.now).objects (omega (arith, c.spread.auto.kept, c.requires.count))
+returns-clause-stamps g c = stamps_up c.args.kept.now c.spread.new.kept c.in_ok-changes.changes.items c.in_ok-changes.ensures.changes (g.E.Edges.rows c.args.edges.now).objects (omega (arith, c.spread.ensures.count, c.requires.count))
