@@ -1,6 +1,5 @@
-use Rattle.std.proofs.Common.{◌≡◌, ◌∙◌, ◌+◌, ◌<◌, ◌≤◌, ℕ, List, All, Contains, length, get_or, sum_by, subst, sym, ap, arith}
+use Rattle.std.proofs.Common.{◌≡◌, ◌+◌, ◌<◌, length, get_or, ap, arith}
 use Rattle.std.proofs.lemmas.List.Elements.{All-contains, Contains-get_or}
-use Rattle.hd_terms.specs.EdgeRows.{Rows, AreRows}
 use Rattle.hd_terms.specs.Regions.{Holding, as_target, by_change}
 use Rattle.hd_terms.specs.Ranks.{rank}
 use Rattle.hd_repair.specs.Spreading.{rank_at}

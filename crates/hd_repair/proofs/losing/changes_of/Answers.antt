@@ -26,7 +26,7 @@ loop-i-preserved c before same once =
     let now : (reached_at c.args.kept.now (get_or xs i d)).strength ≡ c.strength-after.result = sym (c.strength-after.ensures ∙ ap (λ (x : ℕ). (reached_at c.args.kept.now x).strength) o) in
     elim c.if-rank.branch [
       | then-rank+in_ok-push w ↦ rw (w.changes-is, w.in_ok-push.ensures.items) (differs before c.args.kept.now xs i d c.loop-i.changes.items once lt h w.new.result
-      (ap (λ (x : StrengthChange). x.object) w.new.ensures ∙ o) (was ∙ ap (λ (x : StrengthChange). x.before) (sym w.new.ensures)) (now ∙ ap (λ (x : StrengthChange). x.after) (sym w.new.ensures)) (λ e. let one : rank c.index-before.result.now ≡ rank c.strength-after.result = ap rank (ap (λ (x : StrengthChange). x.before) (sym w.new.ensures) ∙ e ∙ ap (λ (x : StrengthChange). x.after) w.new.ensures) in omega (arith, w.if-rank.true, c.rank.ensures, c.rank-in-loop-i.ensures)))
+          (ap (λ (x : StrengthChange). x.object) w.new.ensures ∙ o) (was ∙ ap (λ (x : StrengthChange). x.before) (sym w.new.ensures)) (now ∙ ap (λ (x : StrengthChange). x.after) (sym w.new.ensures)) (λ e. let one : rank c.index-before.result.now ≡ rank c.strength-after.result = ap rank (ap (λ (x : StrengthChange). x.before) (sym w.new.ensures) ∙ e ∙ ap (λ (x : StrengthChange). x.after) w.new.ensures) in omega (arith, w.if-rank.true, c.rank.ensures, c.rank-in-loop-i.ensures)))
       | else-rank w ↦ rw w.changes-is (agrees before c.args.kept.now xs i d c.loop-i.changes.items once lt h (was ∙ same_rank c.index-before.result.now c.strength-after.result (omega (arith, w.if-rank.false, c.rank.ensures, c.rank-in-loop-i.ensures)) ∙ sym now))
     ]
 
