@@ -40,7 +40,7 @@ fn mark_if_held(
         return Ok(());
     }
     let stamp = kept.stamp(o);
-    kept.put(alloc, o, Strength::Unreachable, Support::Nothing, stamp)?;
+    kept.put(o, Strength::Unreachable, Support::Nothing, stamp)?;
     region.objects.push(o)?;
     region.strengths.push(strength)?;
     Ok(())

@@ -101,7 +101,7 @@ fn accept_offer<E: Edges>(
         return Ok(());
     }
     let stamp = stamp_by(kept, offer.support);
-    kept.put(alloc, offer.target, offer.strength, offer.support, stamp)?;
+    kept.put(offer.target, offer.strength, offer.support, stamp)?;
     changes.push(Change::new(offer.target, before, offer.strength))?;
     if offer.strength.rank() >= edges.mode().least_passed_on().rank() {
         offer_out(edges, offer.target, kept, offers)?;

@@ -3,7 +3,7 @@ ghost use Rattle.std.specs.Prelude.{◌≡◌, length, count_by};
 ghost use Rattle.std.specs.List.{range_with_len};
 ghost use Rattle.hd_state.specs.Fallen.{falls_to, falls_from};
 
-use hd_strength::Strengths;
+use hd_supports::Strengths;
 use hd_terms::Strength;
 
 /// Whether an object becomes unreachable: it is, and it was not before.

@@ -8,7 +8,7 @@ ghost use Rattle.hd_state.specs.Listed.{is_listed, is_member, AreAllKept, AreIds
 use crate::fallen::falls;
 use crate::solved::Solved;
 use hd_graph::Graph;
-use hd_strength::Strengths;
+use hd_supports::Strengths;
 use hd_terms::{Group, NoMemory, Strength, one_strength, settled_supports_give_strengths};
 use std::alloc::Global;
 

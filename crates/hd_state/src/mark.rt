@@ -6,7 +6,7 @@ ghost use Rattle.hd_state.specs.Kept.{AreKept};
 use crate::solved::Solved;
 use hd_graph::Graph;
 use hd_log::Front;
-use hd_strength::Strengths;
+use hd_supports::Strengths;
 use std::marker::Model;
 use std::sync::Arc;
 

@@ -1,7 +1,7 @@
 //! A graph under a log, with the strengths that the log leaves.
 use hd_graph::Graph;
 use hd_log::Front;
-use hd_strength::Strengths;
+use hd_supports::Strengths;
 
 /// A graph, a log, and the strengths of the graph's objects as the log leaves them.
 #[derive(Clone, Copy)]

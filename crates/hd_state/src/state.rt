@@ -30,7 +30,8 @@ use crate::solved::Solved;
 use crate::totals::{StrengthTotals, count_group, count_totals};
 use hd_graph::Graph;
 use hd_log::Front;
-use hd_strength::{Removed, Strengths, from_removed};
+use hd_strength::{Removed, from_removed};
+use hd_supports::Strengths;
 use hd_terms::{
     ClassRow, Event, Group, IntoRow, NoMemory, RootRow, SlotRow, Strength, one_strength,
     settled_supports_give_strengths,

@@ -8,7 +8,7 @@ ghost use Rattle.hd_state.specs.Totals.{AreCounted, with_object, total_for};
 use crate::listing::is_member;
 use crate::solved::Solved;
 use hd_graph::Graph;
-use hd_strength::Strengths;
+use hd_supports::Strengths;
 use hd_terms::{Group, Strength, one_strength, settled_supports_give_strengths};
 
 /// How many objects, and their recorded bytes.

@@ -17,7 +17,7 @@ use Rattle.hd_terms.specs.EditedDump.{standing}
 use Rattle.hd_terms.specs.Settled.{Reached, reached_at, unreached, IsSupported}
 use Rattle.hd_strength.specs.declared.buckets.Offer.{Offer}
 use Rattle.hd_strength.specs.declared.scratch.Search.{Search}
-use Rattle.hd_strength.specs.PackedReached.{reached_by_root}
+use Rattle.hd_supports.specs.PackedReached.{reached_by_root}
 use Rattle.hd_strength.specs.Buckets.{bucket}
 use Rattle.hd_strength.specs.Rows.{root_at, root_count}
 use Rattle.hd_strength.specs.Growing.{rank_at, AreHeld, IsHeldOrNot, HasComeTo, unreached_count}

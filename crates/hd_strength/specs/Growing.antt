@@ -15,7 +15,7 @@ use Rattle.hd_terms.specs.Settled.{Reached, reached_at, unreached, PassesOn, IsS
 use Rattle.hd_strength.specs.declared.buckets.Offer.{Offer}
 use Rattle.hd_strength.specs.declared.scratch.Gain.{Gain}
 use Rattle.hd_strength.specs.declared.scratch.Search.{Search}
-use Rattle.hd_strength.specs.PackedReached.{reached_by_root}
+use Rattle.hd_supports.specs.PackedReached.{reached_by_root}
 use Rattle.hd_strength.specs.Buckets.{bucket, AddsTo}
 use Rattle.hd_strength.specs.Rows.{edge_at, root_at}
 

@@ -1,5 +1,4 @@
 pub mod Cleared
-pub mod PackedReached
 pub mod Buckets
 pub mod Removed
 pub mod Rows

@@ -12,11 +12,11 @@ ghost use Rattle.hd_strength.specs.Growing.{rank_at, offered_strength};
 ghost use Rattle.hd_strength.specs.Checking.{Explains, GivesNoMore, MakesStrong};
 ghost use Rattle.hd_strength.specs.Removed.{IsRemovedBy};
 
-use crate::Strengths;
 use crate::edited::{Edited, held_object, standing_read};
 use crate::removed::Removed;
 use hd_graph::Graph;
 use hd_log::Front;
+use hd_supports::Strengths;
 use hd_terms::{EdgeKind, NoMemory, Slot, Strength, Support};
 use std::alloc::Global;
 

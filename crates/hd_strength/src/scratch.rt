@@ -18,13 +18,12 @@ ghost use Rattle.hd_strength.specs.Rows.{width, edge_at, root_count};
 ghost use Rattle.hd_strength.specs.Growing.{rank_at, AreHeld, IsBacked, IsSearching, NotQueuedBelow, HasComeTo, HasAccepted, IsGain, Reaches, IsPassedOver, IsAccepted, IsOffered, to_do};
 ghost use Rattle.hd_strength.specs.Removed.{IsRemovedBy};
 
-use crate::Strengths;
 use crate::buckets::{Buckets, Offer};
 use crate::edited::{Edited, added_object, root_object};
-use crate::packed_reached::PackedReached;
 use crate::removed::Removed;
 use hd_graph::Graph;
 use hd_log::Front;
+use hd_supports::{PackedReached, Strengths};
 use hd_terms::{NoMemory, Slot, Strength};
 use std::alloc::Global;
 use std::collections::VecDeque;
@@ -336,7 +335,7 @@ pub fn from_removed(
     let kept = apply_roots(alloc, edited)?;
     let search = begin(alloc, edited, kept)?;
     let kept = spread(edited, search)?;
-    Ok(Strengths { kept })
+    Ok(Strengths::of(kept))
 }
 
 /// Strengths, supports and stamps of the objects of a graph under a log.

@@ -1,0 +1,2 @@
+pub mod PackedReached
+pub mod Packing

@@ -17,7 +17,7 @@ returns-in_ok-offer_out-clause-ok g c =
     c.in_ok-push.ensures.items ∙ ap (λ (d : StrengthChange). c.args.changes.now.items ++ d ∷ []) (c.new.ensures ∙ ap (λ (s : Strength). record { object = f.target; before = s; after = f.strength }) c.strength-before.ensures) in
     inr (
       omega (arith, c.in_ok-offer_out.ensures.looks),
-      is_accepted r.standing (r.out f.target) c.args.kept.now c.put.new.self c.args.offers.now c.offer_out.new.offers c.args.changes.now.items c.push.new.self.items f c.stamp_by-stamp.result lt c.in_ok-put.ensures.ok
+      is_accepted r.standing (r.out f.target) c.args.kept.now c.put.new.self c.args.offers.now c.offer_out.new.offers c.args.changes.now.items c.push.new.self.items f c.stamp_by-stamp.result lt c.in_ok-put.ensures.whole
           (omega (arith, c.if-rank.false, c.rank.ensures, c.rank-2.ensures, ap rank c.strength-before.ensures)) c.stamp_by-stamp.ensures.later c.stamp_by-stamp.ensures.bounded change (λ high. adds)
           (λ low. absurd (low (omega (arith, least, c.if-rank-2.true, c.rank-3.ensures, c.rank-4.ensures)))) (omega (arith, adds.count, c.in_ok-offer_out.ensures.few)),
     )
@@ -32,7 +32,7 @@ returns-else-rank-2-clause-ok g c =
     c.in_ok-push.ensures.items ∙ ap (λ (d : StrengthChange). c.args.changes.now.items ++ d ∷ []) (c.new.ensures ∙ ap (λ (s : Strength). record { object = f.target; before = s; after = f.strength }) c.strength-before.ensures) in
     inr (
       omega arith,
-      is_accepted r.standing (r.out f.target) c.args.kept.now c.put.new.self c.args.offers.now c.args.offers.now c.args.changes.now.items c.push.new.self.items f c.stamp_by-stamp.result lt c.in_ok-put.ensures.ok
+      is_accepted r.standing (r.out f.target) c.args.kept.now c.put.new.self c.args.offers.now c.args.offers.now c.args.changes.now.items c.push.new.self.items f c.stamp_by-stamp.result lt c.in_ok-put.ensures.whole
           (omega (arith, c.if-rank.false, c.rank.ensures, c.rank-2.ensures, ap rank c.strength-before.ensures)) c.stamp_by-stamp.ensures.later c.stamp_by-stamp.ensures.bounded change
           (λ high. absurd (omega (arith, least, c.if-rank-2.false, c.rank-3.ensures, c.rank-4.ensures))) (λ low. refl) (omega arith),
     )

@@ -1,5 +1,5 @@
 use Rattle.std.proofs.Common.{◌≡◌, ◌∙◌, ◌+◌, ◌<◌, length, length-set, sym, subst, arith, ℕ}
-use Rattle.hd_strength.specs.PackedReached.{reached_by_root}
+use Rattle.hd_supports.specs.PackedReached.{reached_by_root}
 use Rattle.hd_strength.specs.Rows.{root_count}
 use Rattle.hd_strength.specs.Growing.{AreHeld}
 use Rattle.hd_strength.proofs.RowLemmas.{root_none, root_some, held_within}

@@ -2,7 +2,7 @@
 ghost use Rattle.std.specs.Prelude.{◌≡◌};
 ghost use Rattle.hd_terms.specs.Settled.{unreached};
 ghost use Rattle.hd_terms.specs.declared.Support.TheVariants as supports;
-ghost use Rattle.hd_strength.specs.PackedReached.{reached_by_root};
+ghost use Rattle.hd_supports.specs.PackedReached.{reached_by_root};
 
 use hd_terms::{Slot, SlotKind, Strength, Support};
 use std::marker::Model;
@@ -17,13 +17,13 @@ enum How {
 }
 
 /// What is kept of one object. The number is that of the root or of the slot.
-#[derive(Drop)]
+#[derive(Clone, Copy)]
 pub struct PackedReached {
     stamp: u64,
     number: u64,
     source: u32,
     how: How,
-    /// The kind of the slot that the edge is from, any kind where there is no edge.
+    /// The kind of the slot that the edge is from, that of a class where there is no edge.
     slot: SlotKind,
     strength: Strength,
 }
@@ -35,55 +35,59 @@ impl Model for PackedReached {
 
     ghost Value = { Reached };
 
-    ghost use Rattle.hd_strength.specs.PackedReached.{support_by, IsSlotNumber};
+    ghost use Rattle.hd_supports.specs.Packing.{reached_of, packed_of, IsPacked};
 
-    ghost view = { λ h. record { strength = h.strength; support = support_by h.how h.source h.slot h.number; stamp = h.stamp } };
+    ghost view = { reached_of };
 
-    ghost invariant = { λ h. IsSlotNumber h.how h.number };
+    ghost invariant = { IsPacked };
+
+    ghost inverse = { packed_of };
+
+    ghost inverse_ok = { λ a h. h.same };
 }
 
 impl PackedReached {
+    /// An object of a strength that it owes to a support. The stamp orders objects of one strength.
+    pub fn new(strength: Strength, support: Support, stamp: u64) -> PackedReached
+        ensures { result ≡ record { strength = strength; support = support; stamp = stamp } }
+    {
+        let (how, source, slot, number) = match support {
+            Support::Nothing => (How::Nothing, 0, SlotKind::OfClass, 0),
+            Support::Root(root) => (How::Root, 0, SlotKind::OfClass, root),
+            Support::Edge { source, slot } => {
+                let (kind, number) = slot.parts();
+                (How::Edge, source, kind, u64::from(number))
+            }
+        };
+        PackedReached {
+            stamp,
+            number,
+            source,
+            how,
+            slot,
+            strength,
+        }
+    }
+
     /// An object that nothing reaches.
     pub fn unreached() -> PackedReached
         ensures { result ≡ unreached }
     {
-        PackedReached {
-            stamp: 0,
-            number: 0,
-            source: 0,
-            how: How::Nothing,
-            slot: SlotKind::OfClass,
-            strength: Strength::Unreachable,
-        }
+        PackedReached::new(Strength::Unreachable, Support::Nothing, 0)
     }
 
     /// An object that a root holds.
     pub fn by_root(root: u64) -> PackedReached
         ensures { result ≡ reached_by_root root }
     {
-        PackedReached {
-            stamp: 0,
-            number: root,
-            source: 0,
-            how: How::Root,
-            slot: SlotKind::OfClass,
-            strength: Strength::Strong,
-        }
+        PackedReached::new(Strength::Strong, Support::Root(root), 0)
     }
 
     /// An object that an edge from a slot of another gives a strength.
     pub fn by_edge(strength: Strength, source: u32, slot: Slot, stamp: u64) -> PackedReached
         ensures { result ≡ record { strength = strength; support = supports.Edge source slot; stamp = stamp } }
     {
-        let (slot, number) = slot.parts();
-        PackedReached {
-            stamp,
-            number: u64::from(number),
-            source,
-            how: How::Edge,
-            slot,
-            strength,
-        }
+        PackedReached::new(strength, Support::Edge { source, slot }, stamp)
     }
 
     /// The strength.

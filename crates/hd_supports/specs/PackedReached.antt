@@ -7,8 +7,8 @@ use Rattle.hd_terms.specs.declared.Support.{Support}
 use Rattle.hd_terms.specs.declared.Support.TheVariants as supports
 use Rattle.hd_terms.specs.Settled.{Reached}
 use Rattle.hd_terms.specs.SlotKinds.{slot_of}
-use Rattle.hd_strength.specs.declared.packed_reached.How.{How}
-use Rattle.hd_strength.specs.declared.packed_reached.How.TheVariants as hows
+use Rattle.hd_supports.specs.declared.packed_reached.How.{How}
+use Rattle.hd_supports.specs.declared.packed_reached.How.TheVariants as hows
 
 -- what an object owes its strength to, by the number of the source, the kind of its slot, and the number of the root or slot
 abbrev pub support_by : How → (source : ℕ) → SlotKind → (number : ℕ) → Support

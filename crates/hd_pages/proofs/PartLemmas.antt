@@ -1,0 +1,163 @@
+-- Lists in parts: where an item is, and what a write to it and a further part change.
+use Rattle.std.proofs.Common.{◌≡◌, ◌∙◌, ℕ, zero, suc, ◌+◌, ◌-◌, ◌*◌, ◌/◌, ◌%◌, ◌<◌, ◌≤◌, ◌⊎◌, inl, inr, List, [], ◌∷◌, ◌++◌, length, map, get_or, set, slice_get, Result, Ok, Err, OnErr, sym, ap, refl, arith, length-append}
+use Rattle.std.proofs.lemmas.List.{append_assoc, append-nil, set-append_left, set-append_right, length-set, length-map, get_or-map, map-set, map_push, set-get_or}
+use Rattle.hd_pages.specs.Parts.{joined, IsFilled}
+
+-- what holds on both sides
+pub either : {P : Type 0} → P ⊎ P → P
+either (inl p) = p
+either (inr p) = p
+
+-- what holds, holds where the answer is an error
+pub on_err : {T E P : Type 0} (r : Result T E) → P → OnErr r P
+on_err (Ok x) p = tt
+on_err (Err e) p = p
+
+-- each part has n items
+abbrev pub AreFull : {X : Type 0} → ℕ → List (List X) → Type 0
+AreFull n [] = Unit {0}
+AreFull n (p ∷ ps) = (length p ≡ n) × AreFull n ps
+
+-- an item of two lists, one after the other
+slice_get-append_left : {X : Type 0} (xs ys : List X) (i : ℕ) → i < length xs → slice_get (xs ++ ys) i ≡ slice_get xs i
+slice_get-append_left [] ys i lt = absurd (omega arith)
+slice_get-append_left (x ∷ xs) ys zero lt = refl
+slice_get-append_left (x ∷ xs) ys (suc i) lt = slice_get-append_left xs ys i (omega arith)
+
+slice_get-append_right : {X : Type 0} (xs ys : List X) (i : ℕ) → slice_get (xs ++ ys) (length xs + i) ≡ slice_get ys i
+slice_get-append_right [] ys i = ap (slice_get ys) (let e : 0 + i ≡ i = omega arith in e)
+slice_get-append_right (x ∷ xs) ys i = let e : suc (length xs) + i ≡ suc (length xs + i) = omega arith in ap (slice_get (x ∷ (xs ++ ys))) e ∙ slice_get-append_right xs ys i
+
+-- a part is not longer than n, and none follows one that is shorter
+full : {X : Type 0} (n : ℕ) (p : List X) (ps : List (List X)) (k j : ℕ) → IsFilled n (p ∷ ps) → suc k * n + j < length (joined (p ∷ ps)) → j < n → length p ≡ n
+full n p [] k j is lt below = absurd (omega (arith, is.0, length-append p []))
+full n p (q ∷ ps) k j is lt below = is.1 (omega arith)
+
+later : {X : Type 0} (n : ℕ) (p : List X) (ps : List (List X)) (k j : ℕ) → length p ≡ n → suc k * n + j < length (joined (p ∷ ps)) → k * n + j < length (joined ps)
+later n p ps k j is lt = omega (arith, length-append p (joined ps))
+
+first : {X : Type 0} (n : ℕ) (p : List X) (ps : List (List X)) (j : ℕ) → IsFilled n (p ∷ ps) → 0 * n + j < length (joined (p ∷ ps)) → j < n → j < length p
+first n p [] j is lt below = omega (arith, length-append p [])
+first n p (q ∷ ps) j is lt below = omega (arith, is.1 (omega arith))
+
+-- the part is one of the parts
+part_within : {X : Type 0} (n : ℕ) (ps : List (List X)) (k j : ℕ) → IsFilled n ps → k * n + j < length (joined ps) → j < n → k < length ps
+part_within n [] k j is lt below = absurd (omega arith)
+part_within n (p ∷ ps) zero j is lt below = omega arith
+part_within n (p ∷ ps) (suc k) j is lt below =
+    let within : k < length ps = part_within n ps k j is.2 (later n p ps k j (full n p ps k j is lt below) lt) below in
+    omega arith
+
+-- the place in it is one of its places
+place_within : {X : Type 0} (n : ℕ) (ps : List (List X)) (k j : ℕ) (d : List X) → IsFilled n ps → k * n + j < length (joined ps) → j < n → j < length (get_or ps k d)
+place_within n [] k j d is lt below = absurd (omega arith)
+place_within n (p ∷ ps) zero j d is lt below = first n p ps j is lt below
+place_within n (p ∷ ps) (suc k) j d is lt below = place_within n ps k j d is.2 (later n p ps k j (full n p ps k j is lt below) lt) below
+
+-- what stands there
+slice_get-joined : {X : Type 0} (n : ℕ) (ps : List (List X)) (k j : ℕ) (d : List X) → IsFilled n ps → k * n + j < length (joined ps) → j < n → slice_get (joined ps) (k * n + j) ≡ slice_get (get_or ps k d) j
+slice_get-joined n [] k j d is lt below = absurd (omega arith)
+slice_get-joined n (p ∷ ps) zero j d is lt below =
+    let e : 0 * n + j ≡ j = omega arith in
+    ap (slice_get (p ++ joined ps)) e ∙ slice_get-append_left p (joined ps) j (first n p ps j is lt below)
+slice_get-joined n (p ∷ ps) (suc k) j d is lt below =
+    let whole : length p ≡ n = full n p ps k j is lt below in
+    let e : suc k * n + j ≡ length p + (k * n + j) = omega arith in
+    ap (slice_get (p ++ joined ps)) e ∙ slice_get-append_right p (joined ps) (k * n + j) ∙ slice_get-joined n ps k j d is.2 (later n p ps k j whole lt) below
+
+-- a write there
+joined-set : {X : Type 0} (n : ℕ) (ps : List (List X)) (k j : ℕ) (d : List X) (x : X) → IsFilled n ps → k * n + j < length (joined ps) → j < n → joined (set ps k (set (get_or ps k d) j x)) ≡ set (joined ps) (k * n + j) x
+joined-set n [] k j d x is lt below = absurd (omega arith)
+joined-set n (p ∷ ps) zero j d x is lt below =
+    let e : 0 * n + j ≡ j = omega arith in
+    sym (ap (λ (i : ℕ). set (p ++ joined ps) i x) e ∙ set-append_left p (joined ps) j x (first n p ps j is lt below))
+joined-set n (p ∷ ps) (suc k) j d x is lt below =
+    let whole : length p ≡ n = full n p ps k j is lt below in
+    let e : suc k * n + j - n ≡ k * n + j = omega arith in
+    ap (λ (xs : List _). p ++ xs) (joined-set n ps k j d x is.2 (later n p ps k j whole lt) below ∙ ap (λ (i : ℕ). set (joined ps) i x) (sym e))
+    ∙ sym (set-append_right p (joined ps) n (suc k * n + j) x whole (omega arith))
+
+-- a part of the same length
+IsFilled-set : {X : Type 0} (n : ℕ) (ps : List (List X)) (k : ℕ) (d q : List X) → IsFilled n ps → length q ≡ length (get_or ps k d) → IsFilled n (set ps k q)
+IsFilled-set n [] k d q is same = tt
+IsFilled-set n (p ∷ ps) zero d q is same = (omega (arith, is.0), λ more. same ∙ is.1 more, is.2)
+IsFilled-set n (p ∷ ps) (suc k) d q is same = (is.0, λ more. is.1 (omega (arith, length-set ps k q)), IsFilled-set n ps k d q is.2 same)
+
+-- one more part
+joined-push : {X : Type 0} (ps : List (List X)) (p : List X) → joined (ps ++ p ∷ []) ≡ joined ps ++ p
+joined-push [] p = append-nil p
+joined-push (q ∷ ps) p = ap (λ (xs : List _). q ++ xs) (joined-push ps p) ∙ sym (append_assoc q (joined ps) p)
+
+AreFull-push : {X : Type 0} (n : ℕ) (ps : List (List X)) (p : List X) → AreFull n ps → length p ≡ n → AreFull n (ps ++ p ∷ [])
+AreFull-push n [] p are is = (is, tt)
+AreFull-push n (q ∷ ps) p are is = (are.0, AreFull-push n ps p are.1 is)
+
+IsFilled-push : {X : Type 0} (n : ℕ) (ps : List (List X)) (p : List X) → AreFull n ps → length p ≤ n → IsFilled n (ps ++ p ∷ [])
+IsFilled-push n [] p are le = (le, λ more. absurd (omega arith), tt)
+IsFilled-push n (q ∷ ps) p are le = (omega (arith, are.0), λ more. are.0, IsFilled-push n ps p are.1 le)
+
+-- The parts as they are kept: f k is the part that k keeps. Item i is item i % n of part i / n.
+module _ {A X : Type 0} (f : A → List X) (n : ℕ) (ks : List A) (i : ℕ) (some : 0 < n) (is : IsFilled n (map f ks)) (lt : i < length (joined (map f ks))) where
+  sum : i ≡ i / n * n + i % n
+  sum = omega arith
+
+  below : i % n < n
+  below = omega arith
+
+  placed : i / n * n + i % n < length (joined (map f ks))
+  placed = omega (arith, sum)
+
+  pub kept_within : i / n < length ks
+  kept_within = omega (arith, part_within n (map f ks) (i / n) (i % n) is placed below, length-map ks f)
+
+  kept_at : (a : A) → get_or (map f ks) (i / n) (f a) ≡ f (get_or ks (i / n) a)
+  kept_at a = get_or-map f ks (i / n) a (f a) kept_within
+
+  pub kept_place_within : (a : A) → i % n < length (f (get_or ks (i / n) a))
+  kept_place_within a = omega (arith, ap length (kept_at a), place_within n (map f ks) (i / n) (i % n) (f a) is placed below)
+
+  -- a read
+  pub kept_read : (a : A) → slice_get (joined (map f ks)) i ≡ slice_get (f (get_or ks (i / n) a)) (i % n)
+  kept_read a =
+      ap (slice_get (joined (map f ks))) sum
+      ∙ slice_get-joined n (map f ks) (i / n) (i % n) (f a) is placed below
+      ∙ ap (λ (p : List X). slice_get p (i % n)) (kept_at a)
+
+  -- a write of what is there
+  pub kept_same : (a b : A) → f b ≡ f (get_or ks (i / n) a) → map f (set ks (i / n) b) ≡ map f ks
+  kept_same a b same = map-set f ks (i / n) b ∙ ap (set (map f ks) (i / n)) (same ∙ sym (kept_at a)) ∙ set-get_or (map f ks) (i / n) (f a)
+
+  -- a write
+  pub kept_put : (a b : A) (x : X) → f b ≡ set (f (get_or ks (i / n) a)) (i % n) x → joined (map f (set ks (i / n) b)) ≡ set (joined (map f ks)) i x
+  kept_put a b x put =
+      ap joined (map-set f ks (i / n) b ∙ ap (set (map f ks) (i / n)) (put ∙ ap (λ (p : List X). set p (i % n) x) (sym (kept_at a))))
+      ∙ joined-set n (map f ks) (i / n) (i % n) (f a) x is placed below
+      ∙ ap (λ (h : ℕ). set (joined (map f ks)) h x) (sym sum)
+
+  pub IsFilled-kept_put : (a b : A) (x : X) → f b ≡ set (f (get_or ks (i / n) a)) (i % n) x → IsFilled n (map f (set ks (i / n) b))
+  IsFilled-kept_put a b x put =
+      let same : length (f b) ≡ length (get_or (map f ks) (i / n) (f a)) = ap length put ∙ length-set (f (get_or ks (i / n) a)) (i % n) x ∙ sym (ap length (kept_at a)) in
+      rw map-set (IsFilled-set n (map f ks) (i / n) (f a) (f b) is same)
+
+-- one more part p, kept by k
+module _ {A X : Type 0} (f : A → List X) (ks vs : List A) (k : A) (p : List X) (is : vs ≡ ks ++ k ∷ []) (keeps : f k ≡ p) where
+  kept_push : map f vs ≡ map f ks ++ p ∷ []
+  kept_push = ap (map f) is ∙ map_push f ks k ∙ ap (λ (q : List X). map f ks ++ q ∷ []) keeps
+
+  -- which is full, with more after it
+  pub held_more : (rest after items : List X) → joined (map f ks) ++ rest ≡ items → p ++ after ≡ rest → joined (map f vs) ++ after ≡ items
+  held_more rest after items held more =
+      ap (λ (xs : List X). xs ++ after) (ap joined kept_push ∙ joined-push (map f ks) p)
+      ∙ append_assoc (joined (map f ks)) p after
+      ∙ ap (λ (xs : List X). joined (map f ks) ++ xs) more
+      ∙ held
+
+  pub AreFull_more : (n : ℕ) → AreFull n (map f ks) → length p ≡ n → AreFull n (map f vs)
+  AreFull_more n are whole = rw kept_push (AreFull-push n (map f ks) p are whole)
+
+  -- which is the last
+  pub held_last : (items : List X) → joined (map f ks) ++ p ≡ items → joined (map f vs) ≡ items
+  held_last items held = ap joined kept_push ∙ joined-push (map f ks) p ∙ held
+
+  pub IsFilled_last : (n : ℕ) → AreFull n (map f ks) → length p ≤ n → IsFilled n (map f vs)
+  IsFilled_last n are le = rw kept_push (IsFilled-push n (map f ks) p are le)

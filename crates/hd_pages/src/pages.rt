@@ -1,0 +1,94 @@
+//! The list itself.
+ghost use Rattle.std.specs.Prelude.{◌≡◌, ◌^◌, ◌<◌, length, slice_get, slice_set, IfOk, OnOk, OnErr, Some};
+
+use crate::group::Group;
+use crate::owners::share_all;
+use crate::page::PAGE;
+use hd_terms::NoMemory;
+use std::alloc::Global;
+use std::marker::Model;
+use std::sync::Arc;
+
+/// How many items a group has at most.
+const GROUP: usize = 256 * PAGE;
+
+/// A list of items kept in pages of 1,024, which versions of the list share. No version changes another.
+#[derive(Drop)]
+pub struct Pages<T> {
+    groups: Vec<Arc<Group<T>>>,
+    len: u32,
+}
+
+impl<T> Model for Pages<T> {
+    ghost use Rattle.std.specs.Prelude.{List, map};
+    ghost use Rattle.std.specs.Coded.{coded_list};
+    ghost use Rattle.std.specs.Arc.{arc_value};
+    ghost use Rattle.hd_pages.specs.Parts.{joined, HasLength};
+
+    ghost Value = { List T };
+
+    ghost coded = { coded_list T.code };
+
+    ghost view = { λ p. joined (map arc_value p.groups.items) };
+
+    ghost invariant = { λ p. HasLength 262144 p.len (map arc_value p.groups.items) };
+}
+
+impl<T: Copy> Pages<T> {
+    /// The list of the items of a `Vec`.
+    pub fn of_vec(alloc: Global, items: Vec<T>) -> Result<Pages<T>, NoMemory>
+        requires { length items.items < 2 ^ 32 }
+        ensures { IfOk result (λ p. p ≡ items.items) }
+    {
+        let mut groups = Vec::with_capacity(alloc, items.len().div_ceil(GROUP).max(1))?;
+        let mut rest: &[T] = &items;
+        while rest.len() > GROUP {
+            let (group, after) = rest.split_at(GROUP);
+            groups.push(Arc::new(alloc, Group::of_slice(alloc, group)?)?)?;
+            rest = after;
+        }
+        groups.push(Arc::new(alloc, Group::of_slice(alloc, rest)?)?)?;
+        let len = items.len() as u32;
+        Ok(Pages { groups, len })
+    }
+
+    /// How many items there are.
+    pub fn len(&self) -> u32
+        ensures { result ≡ length self.now }
+    {
+        self.len
+    }
+
+    /// The item at a place.
+    pub fn get(&self, i: u32) -> T
+        requires { i < length self.now }
+        ensures { slice_get self.now i ≡ Some result }
+    {
+        let i = i as usize;
+        self.groups[i / GROUP].get(i % GROUP)
+    }
+
+    /// Puts an item at a place. What another version shares is copied first: a page, and the group's list of its pages.
+    /// Where memory runs out, the list is as it was.
+    pub fn with(&mut self, i: u32, item: T) -> Result<(), NoMemory>
+        requires { i < length self.old }
+        ensures ok { OnOk result (self.new ≡ slice_set self.old i item) }
+        ensures err { OnErr result (self.new ≡ self.old) }
+    {
+        let i = i as usize;
+        let group = Arc::make_mut(&mut self.groups[i / GROUP])?;
+        group.put(i % GROUP, item)?;
+        Ok(())
+    }
+
+    /// An equal version: a further owner of each group.
+    pub fn share(&self, alloc: Global) -> Result<Pages<T>, NoMemory>
+        ensures { IfOk result (λ p. p ≡ self.now) }
+    {
+        let groups = share_all(alloc, &self.groups)?;
+        Ok(Pages {
+            groups,
+            len: self.len,
+        })
+    }
+}
