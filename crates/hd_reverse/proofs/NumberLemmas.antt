@@ -94,7 +94,7 @@ row_found pairs o start end start_le end_le below upto =
           (λ k d le lt. ne_eqb (get_or pairs k d).object o (λ e. omega (arith, leb-false (get_or pairs k d).object o (upto.1 k d le lt)))));
     }
 
-abbrev number_of : ℕ → ℕ → NumberOn
+abbrev pub number_of : ℕ → ℕ → NumberOn
 number_of r target = record { object = target; number = r }
 
 -- the first roots of a dump that are on objects
@@ -147,19 +147,19 @@ number-case : (b : Bool) (r o : ℕ) (ns : List NumberOn) → map (λ (n : Numbe
 number-case true r o ns = refl
 number-case false r o ns = refl
 
-root-case : (b : Bool) (n : ℕ × Root) (ns : List (ℕ × Root)) → map (λ (m : ℕ × Root). m.0) (cond b (n ∷ ns) ns) ≡ cond b (n.0 ∷ map (λ (m : ℕ × Root). m.0) ns) (map (λ (m : ℕ × Root). m.0) ns)
-root-case true n ns = refl
-root-case false n ns = refl
+pub first_parts : {X : Type 0} (b : Bool) (n : ℕ × X) (ns : List (ℕ × X)) → map (λ (m : ℕ × X). m.0) (cond b (n ∷ ns) ns) ≡ cond b (n.0 ∷ map (λ (m : ℕ × X). m.0) ns) (map (λ (m : ℕ × X). m.0) ns)
+first_parts true n ns = refl
+first_parts false n ns = refl
 
-one-number : (o r : ℕ) (t : Option ℕ) (ns : List NumberOn)
+pub one_number : (o r : ℕ) (t : Option ℕ) (ns : List NumberOn)
     → numbers_on (cons_option (option_map (λ (target : ℕ). number_of r target) t) ns) o
     ≡ cond (option_map_or (λ (target : ℕ). target == o) t false) (r ∷ numbers_on ns o) (numbers_on ns o)
-one-number o r None ns = refl
-one-number o r (Some u) ns = number-case (u == o) r u (filter (λ (n : NumberOn). n.object == o) ns)
+one_number o r None ns = refl
+one_number o r (Some u) ns = number-case (u == o) r u (filter (λ (n : NumberOn). n.object == o) ns)
 
 pub numbers_of_roots : (dump : Dump) (o : ℕ) (ns : List (ℕ × Root)) → numbers_on (filter_map (root_number dump) ns) o ≡ map (λ (n : ℕ × Root). n.0) (filter (is_root_on dump o) ns)
 numbers_of_roots dump o [] = refl
 numbers_of_roots dump o ((r, root) ∷ ns) =
-    one-number o r (index_of dump.objects root.id) (filter_map (root_number dump) ns)
+    one_number o r (index_of dump.objects root.id) (filter_map (root_number dump) ns)
     ∙ ap (λ (rest : List ℕ). cond (is_root_on dump o (r, root)) (r ∷ rest) rest) (numbers_of_roots dump o ns)
-    ∙ sym (root-case (is_root_on dump o (r, root)) (r, root) (filter (is_root_on dump o) ns))
+    ∙ sym (first_parts (is_root_on dump o (r, root)) (r, root) (filter (is_root_on dump o) ns))
