@@ -305,6 +305,15 @@ impl Graph {
         }
     }
 
+    /// The number of the object that the slot at an index of an object refers to, if it refers to one.
+    pub fn target(&self, o: u32, i: u32) -> Option<u32>
+        requires object { o < length self.now.objects }
+        requires index { i < length (object_at self.now o).slots }
+        ensures { (s : SlotEntry) → slice_get (object_at self.now o).slots i ≡ Some s → result ≡ index_of self.now.objects s.id }
+    {
+        self.slot_table.get(o, i).1
+    }
+
     /// The index of a slot among those of an object, if the object has it.
     pub fn slot_index(&self, o: u32, slot: Slot) -> Option<u32>
         requires { o < length self.now.objects }

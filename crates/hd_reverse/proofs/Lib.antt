@@ -1,0 +1,4 @@
+pub mod SlotLemmas
+pub mod SumLemmas
+pub mod FillLemmas
+pub mod NumberLemmas

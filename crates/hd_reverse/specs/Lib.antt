@@ -1,0 +1,5 @@
+pub mod Referrers
+pub mod Numbers
+pub mod Passes
+pub mod Reverse
+pub mod ReverseInside

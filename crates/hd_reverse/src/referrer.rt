@@ -1,0 +1,8 @@
+//! Places of slots.
+
+/// Where an object is referred to: the number of the object that has the slot, and the index of the slot.
+#[derive(Clone, Copy, Debug, PartialEq, Eq)]
+pub struct Referrer {
+    pub source: u32,
+    pub index: u32,
+}

@@ -1,0 +1,6 @@
+pub mod PickLemmas
+pub mod OutLemmas
+pub mod IntoLemmas
+pub mod RootLemmas
+pub mod AddedLemmas
+pub mod StandingLemmas

@@ -1,0 +1,6 @@
+pub mod Added
+pub mod Lawful
+pub mod Viewed
+pub mod Finding
+pub mod RootMarks
+pub mod ViewInside

@@ -1,0 +1,11 @@
+//! A graph as a log leaves it, to be looked at edge by edge.
+#![tactic(auto)]
+
+mod added;
+mod edited;
+mod finding;
+mod view;
+
+pub use added::AddedRoots;
+pub use edited::{Edited, edge_stands, root_stands};
+pub use view::View;
