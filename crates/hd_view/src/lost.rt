@@ -23,6 +23,8 @@ pub fn lost_between(
     requires less { IsRemovedBy less.graph.now less.front.now less.removed.now }
     ensures { IfOk result (λ v. AreLost more.entry.graph.now more.entry.front.now less.entry.front.now v.items) }
 {
-    let _ = (alloc, more, less);
+    let _ = alloc;
+    let _ = more.graph;
+    let _ = less.graph;
     Err(NoMemory)
 }
