@@ -11,4 +11,4 @@ marked_situation a = record { dump = arc_value a.graph; log = a.front }
 
 -- what is kept of the objects is settled for what stands under the log
 abbrev pub IsMark : Inside → Type 0
-IsMark a = AreKept (marked_situation a).dump (marked_situation a).log (arc_value a.strengths)
+IsMark a = AreKept (marked_situation a).dump (marked_situation a).log (arc_value a.supports)

@@ -1,7 +1,11 @@
 -- What a state keeps, and what holds of it.
 -- Source: this project.
 use Rattle.std.specs.Arc.{arc_value}
+use Rattle.std.specs.Prelude.{ℕ, ◌+◌, ◌*◌, ◌≤◌, length}
+use Rattle.hd_terms.specs.Settled.{reached_at}
+use Rattle.hd_reverse.specs.Reverse.{IsReverseOf}
 use Rattle.hd_strength.specs.Removed.{IsRemovedBy}
+use Rattle.hd_view.specs.Added.{IsAddedBy}
 use Rattle.hd_state.specs.declared.state.State.TheInside.{Inside}
 use Rattle.hd_state.specs.Kept.{AreKept}
 use Rattle.hd_state.specs.Situation.{Situation}
@@ -10,8 +14,12 @@ use Rattle.hd_state.specs.Situation.{Situation}
 abbrev pub situation_of : Inside → Situation
 situation_of a = record { dump = arc_value a.graph; log = a.front }
 
--- what is taken away is what the log's live edits take away, and what is kept of the objects is settled for what stands
--- under the log
+-- what is taken away is what the log's live edits take away, the added roots are the log's, the reverse rows are the dump's,
+-- and what is kept of the objects is settled for what stands under the log; each event raises stamps by no more than the
+-- number of objects
 pub record IsState (a : Inside) : Type 0 where
   pub removed : IsRemovedBy (situation_of a).dump (situation_of a).log (arc_value a.removed)
-  pub kept : AreKept (situation_of a).dump (situation_of a).log (arc_value a.strengths)
+  pub added : IsAddedBy (situation_of a).dump (situation_of a).log (arc_value a.added)
+  pub reverse : IsReverseOf (situation_of a).dump (arc_value a.reverse)
+  pub kept : AreKept (situation_of a).dump (situation_of a).log (arc_value a.supports)
+  pub stamps : (o : ℕ) → (reached_at (arc_value a.supports) o).stamp ≤ (length a.front + 1) * length (situation_of a).dump.objects

@@ -3,7 +3,7 @@ ghost use Rattle.std.specs.Prelude.{◌≡◌, length, count_by};
 ghost use Rattle.std.specs.List.{range_with_len};
 ghost use Rattle.hd_state.specs.Fallen.{falls_to, falls_from};
 
-use hd_supports::Strengths;
+use hd_supports::Supports;
 use hd_terms::Strength;
 
 /// Whether an object becomes unreachable: it is, and it was not before.
@@ -14,7 +14,7 @@ pub(crate) fn falls(before: Strength, after: Strength) -> bool
 }
 
 /// How many objects become unreachable.
-pub(crate) fn count_fallen(before: &Strengths, after: &Strengths) -> u64
+pub(crate) fn count_fallen(before: &Supports, after: &Supports) -> u64
     requires { length before.now ≡ length after.now }
     ensures { result ≡ count_by (falls_from before.now after.now) (range_with_len 0 (length after.now)) }
 {

@@ -5,8 +5,8 @@ ghost use Rattle.hd_terms.specs.IntoRows.{into_from, into_rows};
 ghost use Rattle.hd_strength.specs.Removed.{IsRemovedBy};
 ghost use Rattle.hd_state.specs.IntoShown.{into_row_at};
 
-use crate::edited::Edited;
 use hd_terms::{IntoRow, NoMemory, SlotMode};
+use hd_view::Edited;
 use std::alloc::Global;
 
 /// The row of the reference at an index of an object's slots, if it leads to the object of a number.

@@ -3,12 +3,12 @@
 
 mod chain;
 mod classes;
-mod edited;
 mod fallen;
 mod into;
 mod listing;
 mod mark;
 mod refusing;
+mod repairing;
 mod roots;
 mod rows;
 mod solved;
@@ -19,4 +19,4 @@ pub use chain::{Chain, Link};
 pub use mark::Mark;
 pub use refusing::edit_refusal;
 pub use state::{Done, State};
-pub use totals::{StrengthTotals, Total};
+pub use totals::{StrengthTotals, Total, opening_totals};

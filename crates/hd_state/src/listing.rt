@@ -8,7 +8,7 @@ ghost use Rattle.hd_state.specs.Listed.{is_listed, is_member, AreAllKept, AreIds
 use crate::fallen::falls;
 use crate::solved::Solved;
 use hd_graph::Graph;
-use hd_supports::Strengths;
+use hd_supports::Supports;
 use hd_terms::{Group, NoMemory, Strength, one_strength, settled_supports_give_strengths};
 use std::alloc::Global;
 
@@ -16,15 +16,15 @@ use std::alloc::Global;
 #[derive(Clone, Copy)]
 pub(crate) enum Listed<'a> {
     /// Those that become unreachable from the first strengths to the second.
-    Fallen(&'a Strengths, &'a Strengths),
+    Fallen(&'a Supports, &'a Supports),
     /// Those of a group that have a strength.
-    Members(&'a Strengths, Group, Strength),
+    Members(&'a Supports, Group, Strength),
 }
 
 /// Whether an object is of a group and has a strength.
 pub(crate) fn is_member(
     graph: &Graph,
-    strengths: &Strengths,
+    strengths: &Supports,
     group: Group,
     strength: Strength,
     o: u32,

@@ -6,7 +6,7 @@ ghost use Rattle.hd_state.specs.Kept.{AreKept};
 use crate::solved::Solved;
 use hd_graph::Graph;
 use hd_log::Front;
-use hd_supports::Strengths;
+use hd_supports::Supports;
 use std::marker::Model;
 use std::sync::Arc;
 
@@ -16,7 +16,7 @@ use std::sync::Arc;
 pub struct Mark {
     graph: Arc<Graph>,
     front: Front,
-    strengths: Arc<Strengths>,
+    supports: Arc<Supports>,
 }
 
 impl Model for Mark {
@@ -33,14 +33,14 @@ impl Model for Mark {
 
 impl Mark {
     /// The mark of a graph under a log that leaves these strengths.
-    pub(crate) fn new(graph: Arc<Graph>, front: Front, strengths: Arc<Strengths>) -> Mark
-        requires { AreKept (arc_value graph) front (arc_value strengths) }
+    pub(crate) fn new(graph: Arc<Graph>, front: Front, supports: Arc<Supports>) -> Mark
+        requires { AreKept (arc_value graph) front (arc_value supports) }
         ensures { result ≡ record { dump = arc_value graph; log = front } }
     {
         Mark {
             graph,
             front,
-            strengths,
+            supports,
         }
     }
 
@@ -53,7 +53,7 @@ impl Mark {
         Solved {
             graph: &self.graph,
             front: &self.front,
-            strengths: &self.strengths,
+            strengths: &self.supports,
         }
     }
 }

@@ -8,9 +8,9 @@ ghost use Rattle.hd_terms.specs.RootRows as shown;
 ghost use Rattle.hd_strength.specs.Removed.{IsRemovedBy};
 ghost use Rattle.hd_state.specs.RootsShown.{dump_rows, row_by};
 
-use crate::edited::Edited;
 use hd_strength::live_edit;
 use hd_terms::{Edit, NoMemory, RootMode, RootRow};
+use hd_view::Edited;
 use std::alloc::Global;
 
 /// How a root is shown, by whether its ID is an object's and whether a live edit drops it.

@@ -5,9 +5,9 @@ ghost use Rattle.hd_terms.specs.SlotRows.{slot_rows};
 ghost use Rattle.hd_strength.specs.Removed.{IsRemovedBy};
 ghost use Rattle.hd_state.specs.Shown.{shown};
 
-use crate::edited::Edited;
 use hd_graph::SlotRead;
 use hd_terms::{NoMemory, SlotMode, SlotRow};
+use hd_view::Edited;
 use std::alloc::Global;
 
 /// How a slot is shown, by what it refers to and whether a live edit takes its reference away.

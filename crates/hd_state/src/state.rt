@@ -1,14 +1,16 @@
-//! The state of one log over one graph. Each step makes a new state, and computes it from scratch.
-ghost use Rattle.std.specs.Prelude.{◌≡◌, ◌<◌, [], ◌∷◌, ◌++◌, length, IfOk, None};
+//! The state of one log over one graph. Each step makes a new state, and repairs what the event concerns.
+ghost use Rattle.std.specs.Prelude.{◌≡◌, ℕ, ◌+◌, ◌*◌, ◌<◌, ◌≤◌, [], ◌∷◌, ◌++◌, length, IfOk, None};
 ghost use Rattle.std.specs.Arc.{arc_value};
 ghost use Rattle.hd_terms.specs.Log.{log_fault};
 ghost use Rattle.hd_terms.specs.Dump.{object_at};
 ghost use Rattle.hd_terms.specs.EditedDump.{edge_stands, root_stands, standing};
+ghost use Rattle.hd_terms.specs.Settled.{reached_at};
 ghost use Rattle.hd_terms.specs.Strengths.{HasStrength};
 ghost use Rattle.hd_terms.specs.RootRows.{root_rows};
 ghost use Rattle.hd_terms.specs.SlotRows.{slot_rows};
 ghost use Rattle.hd_terms.specs.IntoRows.{into_rows};
 ghost use Rattle.hd_strength.specs.Removed.{IsRemovedBy};
+ghost use Rattle.hd_view.specs.Added.{IsAddedBy};
 ghost use Rattle.hd_state.specs.Done.{IsDone};
 ghost use Rattle.hd_terms.specs.declared.Strength.{Strength};
 ghost use Rattle.hd_terms.specs.Totals.{IsTotal, IsGroupTotal};
@@ -19,35 +21,39 @@ ghost use Rattle.hd_state.specs.Totals.{total_for};
 
 use crate::chain::{Chain, chain_of};
 use crate::classes::class_rows;
-use crate::edited::{Edited, edge_stands, root_stands};
 use crate::fallen::count_fallen;
 use crate::into::into_rows;
 use crate::listing::{fallen_ids, member_ids};
 use crate::mark::Mark;
+use crate::repairing::repaired;
 use crate::roots::root_rows;
 use crate::rows::rows_of;
 use crate::solved::Solved;
 use crate::totals::{StrengthTotals, count_group, count_totals};
 use hd_graph::Graph;
 use hd_log::Front;
+use hd_reverse::ReverseRows;
 use hd_strength::{Removed, from_removed};
-use hd_supports::Strengths;
+use hd_supports::Supports;
 use hd_terms::{
     ClassRow, Event, Group, IntoRow, NoMemory, RootRow, SlotRow, Strength, one_strength,
     settled_supports_give_strengths,
 };
+use hd_view::{AddedRoots, Edited, edge_stands, root_stands};
 use std::alloc::Global;
 use std::marker::Model;
 use std::sync::Arc;
 
-/// What one log makes of a dump: the dump's graph, which all states share, the log, what its live edits take away, and the
-/// strength of each object.
+/// What one log makes of a dump: the dump's graph and its reverse rows, which all states share, the log, what its live edits
+/// take away, the roots that its events add, and the strength of each object with its support, in pages that states share.
 #[derive(Drop)]
 pub struct State {
     graph: Arc<Graph>,
+    reverse: Arc<ReverseRows>,
     front: Front,
     removed: Arc<Removed>,
-    strengths: Arc<Strengths>,
+    added: Arc<AddedRoots>,
+    supports: Arc<Supports>,
 }
 
 /// What an event did.
@@ -85,14 +91,21 @@ impl State {
     {
         let front = Front::empty(alloc)?;
         let removed = Removed::of(alloc, &graph, &front)?;
+        let added = AddedRoots::of(alloc, &graph, &front)?;
         let strengths = from_removed(alloc, &graph, &front, &removed)?;
+        let supports = Supports::of(alloc, strengths)?;
+        let reverse = ReverseRows::of(alloc, &graph)?;
+        let reverse = Arc::new(alloc, reverse)?;
         let removed = Arc::new(alloc, removed)?;
-        let strengths = Arc::new(alloc, strengths)?;
+        let added = Arc::new(alloc, added)?;
+        let supports = Arc::new(alloc, supports)?;
         Ok(State {
             graph,
+            reverse,
             front,
             removed,
-            strengths,
+            added,
+            supports,
         })
     }
 
@@ -113,22 +126,50 @@ impl State {
             return Err(NoMemory);
         };
         let removed = Removed::of(alloc, &self.graph, &front)?;
-        let strengths = from_removed(alloc, &self.graph, &front, &removed)?;
+        let added = AddedRoots::of(alloc, &self.graph, &front)?;
+        let event = self.front.len();
+        let supports = self.repaired(alloc, &front, &removed, &added)?;
         let done = Done {
-            event: self.front.len(),
-            fell: count_fallen(&self.strengths, &strengths),
-            back: count_fallen(&strengths, &self.strengths),
+            event,
+            fell: count_fallen(&self.supports, &supports),
+            back: count_fallen(&supports, &self.supports),
         };
         let removed = Arc::new(alloc, removed)?;
-        let strengths = Arc::new(alloc, strengths)?;
-        let graph = Arc::try_clone(&self.graph)?;
+        let added = Arc::new(alloc, added)?;
+        let supports = Arc::new(alloc, supports)?;
         let state = State {
-            graph,
+            graph: Arc::try_clone(&self.graph)?,
+            reverse: Arc::try_clone(&self.reverse)?,
             front,
             removed,
-            strengths,
+            added,
+            supports,
         };
         Ok((state, done))
+    }
+
+    /// The supports of this state, repaired for a log with one more event.
+    fn repaired(
+        &self,
+        alloc: Global,
+        front: &Front,
+        removed: &Removed,
+        added: &AddedRoots,
+    ) -> Result<Supports, NoMemory>
+        requires removed { IsRemovedBy self.now.dump front.now removed.now }
+        requires added { IsAddedBy self.now.dump front.now added.now }
+        ensures kept { IfOk result (λ s. AreKept self.now.dump front.now s) }
+        ensures stamps { IfOk result (λ s. (o : ℕ) → (reached_at s o).stamp ≤ (length self.now.log + 2) * length self.now.dump.objects) }
+    {
+        self.supports.are_few();
+        let _ = self.front.len();
+        let after = Edited {
+            graph: &self.graph,
+            front,
+            removed,
+        };
+        let supports = repaired(alloc, &self.reverse, self.edited(), after, added, &self.supports)?;
+        Ok(supports)
     }
 
     /// An equal state: a further owner of the graph, of the log and of the strengths. Nothing is copied.
@@ -141,9 +182,11 @@ impl State {
     {
         Ok(State {
             graph: Arc::try_clone(&self.graph)?,
+            reverse: Arc::try_clone(&self.reverse)?,
             front: self.front.share()?,
             removed: Arc::try_clone(&self.removed)?,
-            strengths: Arc::try_clone(&self.strengths)?,
+            added: Arc::try_clone(&self.added)?,
+            supports: Arc::try_clone(&self.supports)?,
         })
     }
 
@@ -167,7 +210,7 @@ impl State {
         ensures { HasStrength (standing self.now.dump self.now.log) o result }
     {
         settled_supports_give_strengths();
-        self.strengths.strength(o)
+        self.supports.strength(o)
     }
 
     /// How many objects have each strength, and their recorded bytes. All objects are gone through.
@@ -189,7 +232,7 @@ impl State {
         Solved {
             graph: &self.graph,
             front: &self.front,
-            strengths: &self.strengths,
+            strengths: &self.supports,
         }
     }
 
@@ -203,8 +246,8 @@ impl State {
     {
         let graph = Arc::try_clone(&self.graph)?;
         let front = self.front.share()?;
-        let strengths = Arc::try_clone(&self.strengths)?;
-        Ok(Mark::new(graph, front, strengths))
+        let supports = Arc::try_clone(&self.supports)?;
+        Ok(Mark::new(graph, front, supports))
     }
 
     /// The IDs of the objects that are unreachable and were not at a mark, ascending. All objects are gone through.

@@ -1,15 +1,18 @@
 //! How many objects have each strength, or are of a group besides, and how many bytes.
-ghost use Rattle.std.specs.Prelude.{◌≡◌, ◌+◌, ◌<◌, ◌≤◌, ◌^◌, length};
+ghost use Rattle.std.specs.Prelude.{◌≡◌, ◌+◌, ◌<◌, ◌≤◌, ◌^◌, [], length, IfOk};
 ghost use Rattle.hd_terms.specs.declared.Strength.{Strength};
-ghost use Rattle.hd_terms.specs.Totals.{IsGroupTotal};
+ghost use Rattle.hd_terms.specs.Totals.{IsGroupTotal, IsTotal};
 ghost use Rattle.hd_state.specs.Kept.{AreKept};
 ghost use Rattle.hd_state.specs.Totals.{AreCounted, with_object, total_for};
 
 use crate::listing::is_member;
 use crate::solved::Solved;
 use hd_graph::Graph;
-use hd_supports::Strengths;
-use hd_terms::{Group, Strength, one_strength, settled_supports_give_strengths};
+use hd_log::Front;
+use hd_strength::from_scratch;
+use hd_supports::Supports;
+use hd_terms::{Group, NoMemory, Strength, one_strength, settled_supports_give_strengths};
+use std::alloc::Global;
 
 /// How many objects, and their recorded bytes.
 #[derive(Clone, Copy, Debug, PartialEq, Eq)]
@@ -96,7 +99,7 @@ impl StrengthTotals {
 }
 
 /// The totals of all objects, in one pass.
-pub(crate) fn count_totals(graph: &Graph, strengths: &Strengths) -> StrengthTotals
+pub(crate) fn count_totals(graph: &Graph, strengths: &Supports) -> StrengthTotals
     requires { length strengths.now ≡ length graph.now.objects }
     ensures { AreCounted graph.now strengths.now (length graph.now.objects) result }
 {
@@ -105,6 +108,23 @@ pub(crate) fn count_totals(graph: &Graph, strengths: &Strengths) -> StrengthTota
         totals.add(strengths.strength(o), graph.bytes_of(o));
     }
     totals
+}
+
+/// How many objects of a graph have each strength with no edit, and their recorded bytes. Nothing is kept for edits.
+///
+/// # Errors
+///
+/// Memory ran out.
+pub fn opening_totals(alloc: Global, graph: &Graph) -> Result<StrengthTotals, NoMemory>
+    ensures { IfOk result (λ t. (s : Strength) → IsTotal graph.now [] s (total_for t s).count (total_for t s).bytes) }
+{
+    settled_supports_give_strengths();
+    one_strength();
+    let front = Front::empty(alloc)?;
+    let strengths = from_scratch(alloc, graph, &front)?;
+    let supports = Supports::of(alloc, strengths)?;
+    let totals = count_totals(graph, &supports);
+    Ok(totals)
 }
 
 /// The total of the objects of a group that have a strength, in one pass.
