@@ -1,0 +1,45 @@
+-- What is lost between two logs, and nothing gained, makes of settled supports what a repair takes.
+use Rattle.std.proofs.Common.{◌≡◌, ◌≢◌, ◌∙◌, ℕ, ◌+◌, ◌*◌, ◌^◌, ◌<◌, ◌≤◌, ◌⊎◌, inl, inr, List, [], ◌∷◌, Contains, length, refl, sym, ap, subst, arith}
+use Rattle.std.proofs.Math.Nat.{mul-le-mul_right}
+use Rattle.hd_terms.specs.declared.Event.{Event}
+use Rattle.hd_terms.specs.Dump.{Dump}
+use Rattle.hd_terms.specs.EditedDump.{standing}
+use Rattle.hd_terms.specs.Paths.{Edge, RootEntry}
+use Rattle.hd_terms.specs.Regions.{Holding, IsWithout, WasSettledWith, WasSettledWithout, edge_holding, root_holding}
+use Rattle.hd_terms.specs.Settled.{Reached, Settled}
+use Rattle.hd_view.specs.Lost.{AreLost}
+
+-- what is in no list
+nothing_there : (items : List Holding) (h : Holding) → items ≡ [] → Contains items h → ⊥
+nothing_there items h none c = let there : Contains [] h = subst (λ (xs : List Holding). Contains xs h) none c in let lt : there.0 < 0 = there.1 in omega arith
+
+-- a list of no items
+pub empty_list : {X : Type 0} (xs : List X) → length xs ≡ 0 → xs ≡ []
+empty_list [] none = refl
+empty_list (x ∷ xs) none = absurd (omega arith)
+
+-- where nothing else is lost the other way, one edited dump is the other without what is lost
+without : (dump : Dump) (more less : List Event) (lost none : List Holding) → AreLost dump more less lost → AreLost dump less more none → none ≡ [] → IsWithout (standing dump less) (standing dump more) lost
+without dump more less lost none h k empty = record {
+  mode = refl;
+  roots_within = λ r c. elim (k.roots r c) [ inl stands ↦ stands | inr there ↦ absurd (nothing_there none (root_holding r) empty there) ];
+  edges_within = λ e c. elim (k.edges e c) [ inl stands ↦ stands | inr there ↦ absurd (nothing_there none (edge_holding e) empty there) ];
+  roots = h.roots;
+  edges = h.edges;
+}
+
+-- supports that were settled before a loss
+pub before_loss : (dump : Dump) (before after : List Event) (lost gained : List Holding) (ks : List Reached) → AreLost dump before after lost → AreLost dump after before gained → gained ≡ [] → Settled (standing dump before) ks → WasSettledWith (standing dump after) lost ks
+before_loss dump before after lost gained ks h k empty settled = record { before = standing dump before; without = without dump before after lost gained h k empty; settled = settled }
+
+-- and before a gain
+pub before_gain : (dump : Dump) (before after : List Event) (lost gained : List Holding) (ks : List Reached) → AreLost dump before after lost → AreLost dump after before gained → lost ≡ [] → Settled (standing dump before) ks → WasSettledWithout (standing dump after) gained ks
+before_gain dump before after lost gained ks h k empty settled = record { before = standing dump before; without = without dump after before gained lost k h empty; settled = settled }
+
+-- each event raises stamps by no more than the number of objects, so all of a lawful log stay small
+pub stamps_small : (events objects : ℕ) → events ≤ 4096 → objects < 2 ^ 32 → (events + 1) * objects ≤ 2 ^ 63
+stamps_small events objects few small = omega (arith, mul-le-mul_right objects (let le : events + 1 ≤ 4097 = omega arith in le))
+
+-- one event more
+pub one_more : (events objects : ℕ) → (events + 1) * objects + objects ≡ (events + 2) * objects
+one_more events objects = grind arith
