@@ -1,5 +1,5 @@
 //! The counts of a dump, and the totals of each strength.
-ghost use Rattle.std.specs.Prelude.{◌≡◌, ◌≤◌, [], ◌∷◌, ◌++◌, string_bytes, decimal, IfErr, IfOk, OnOk};
+ghost use Rattle.std.specs.Prelude.{◌≡◌, ◌≤◌, ◌∷◌, ◌++◌, string_bytes, decimal, IfErr, IfOk, OnOk};
 ghost use Rattle.std.specs.List.{flat_map};
 ghost use Rattle.hd_terms.specs.Workers.{IsWorkers};
 ghost use Rattle.hd_terms.specs.declared.Strength.{Strength as OneStrength};
@@ -11,7 +11,8 @@ ghost use Rattle.hd_protocol.specs.Stating.{IsStatOf, StatsDump, shown_total};
 
 use crate::run::{RunFault, open_bytes};
 use crate::serving::{flush, put_all};
-use hd_state::{State, StrengthTotals, Total};
+use hd_graph::Graph;
+use hd_state::{StrengthTotals, Total, opening_totals};
 use hd_terms::{Counts, Mode, NoMemory, Strength};
 use hd_words::strength_text;
 use std::alloc::{AllocError, Global};
@@ -80,13 +81,13 @@ fn put_totals(text: &mut String, totals: &StrengthTotals) -> Result<(), AllocErr
 }
 
 /// The counts of a dump, and the totals of each strength with no edit.
-fn stat_text(alloc: Global, state: &State) -> Result<String, NoMemory>
-    requires { state.now.log ≡ [] }
-    ensures { IfOk result (λ text. IsStat state.now.dump (string_bytes text)) }
+fn stat_text(alloc: Global, graph: &Graph) -> Result<String, NoMemory>
+    ensures { IfOk result (λ text. IsStat graph.now (string_bytes text)) }
 {
+    let totals = opening_totals(alloc, graph)?;
     let mut text = String::new(alloc);
-    put_counts(&mut text, state.graph().counts())?;
-    put_totals(&mut text, &state.strength_totals())?;
+    put_counts(&mut text, graph.counts())?;
+    put_totals(&mut text, &totals)?;
     Ok(text)
 }
 
@@ -102,8 +103,7 @@ fn stat_of_bytes<T: AllocGlobal + Threads + Sync>(
     ensures err { IfErr result (λ f. IsOpenFault bytes.now f) }
 {
     let graph = open_bytes(rt, bytes, workers, mode)?;
-    let state = State::open(rt.alloc(), graph)?;
-    let text = stat_text(rt.alloc(), &state)?;
+    let text = stat_text(rt.alloc(), &graph)?;
     Ok(text)
 }
 

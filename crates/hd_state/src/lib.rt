@@ -18,5 +18,6 @@ mod totals;
 pub use chain::{Chain, Link};
 pub use mark::Mark;
 pub use refusing::edit_refusal;
+pub use repairing::{Repair, repaired};
 pub use state::{Done, State};
 pub use totals::{StrengthTotals, Total, opening_totals};

@@ -39,7 +39,7 @@ use hd_terms::{
     ClassRow, Event, Group, IntoRow, NoMemory, RootRow, SlotRow, Strength, one_strength,
     settled_supports_give_strengths,
 };
-use hd_view::{AddedRoots, Edited, edge_stands, root_stands};
+use hd_view::{AddedRoots, Edited, View, edge_stands, root_stands};
 use std::alloc::Global;
 use std::marker::Model;
 use std::sync::Arc;
@@ -168,8 +168,8 @@ impl State {
             front,
             removed,
         };
-        let supports = repaired(alloc, &self.reverse, self.edited(), after, added, &self.supports)?;
-        Ok(supports)
+        let repaired = repaired(alloc, &self.reverse, self.edited(), after, added, &self.supports)?;
+        Ok(repaired.supports)
     }
 
     /// An equal state: a further owner of the graph, of the log and of the strengths. Nothing is copied.
@@ -357,6 +357,31 @@ impl State {
         ensures { IfOk result (λ v. v.items ≡ into_rows self.now.dump self.now.log o) }
     {
         into_rows(alloc, self.edited(), o)
+    }
+
+    /// The graph as the log leaves it, to be looked at edge by edge. No look is made yet. It takes no memory.
+    pub fn view(&self) -> View<'_>
+        ensures { result ≡ record { dump = self.now.dump; log = self.now.log; looks = 0 } }
+    {
+        View::new(
+            &self.graph,
+            &self.reverse,
+            &self.front,
+            &self.removed,
+            &self.added,
+        )
+    }
+
+    /// The strengths, supports and stamps of the objects, in pages that are shared with the state's own.
+    ///
+    /// # Errors
+    ///
+    /// Memory ran out.
+    pub fn supports(&self, alloc: Global) -> Result<Supports, NoMemory>
+        ensures { IfOk result (λ s. AreKept self.now.dump self.now.log s) }
+    {
+        let supports = self.supports.share(alloc)?;
+        Ok(supports)
     }
 
     /// Whether the slot at an index of an object is an edge that stands: its ID is an object's, and no live edit takes it

@@ -11,6 +11,8 @@ mod graph_tests;
 #[cfg(test)]
 mod log_tests;
 #[cfg(test)]
+mod repair_tests;
+#[cfg(test)]
 mod settled_tests;
 #[cfg(test)]
 mod state_tests;

@@ -1,9 +1,8 @@
-use Rattle.std.proofs.Common.{◌∙◌, ap}
-use Rattle.hd_terms.specs.Counts.{counts_of}
+use Rattle.std.proofs.Common.{[], refl}
 use Rattle.hd_protocol.proofs.Stating.{is_stat}
 use Rattle.hd_protocol.proofs.stat.stat_text.Goals as goal
 
 pub returns : goal.returns
 returns c =
-    is_stat c.args.state.now.dump c.args.state.now.log c.counts.result c.strength_totals.result _ _ _ c.requires c.new-text.ensures.bytes (c.counts.ensures ∙ ap counts_of c.graph.ensures)
-    c.strength_totals.ensures c.in_ok-put_counts.ensures c.in_ok-put_totals.ensures
+    is_stat c.args.graph.now [] c.counts.result c.in_ok-totals.totals _ _ _ refl c.new-text.ensures.bytes c.counts.ensures
+    c.in_ok-totals.ensures c.in_ok-put_counts.ensures c.in_ok-put_totals.ensures

@@ -12,4 +12,4 @@ returns-clause-stamps c o =
     let most : ℕ = (length log + 1) * length dump.objects in
     let dump_is : c.deref-2.result.now ≡ dump = c.deref-2.ensures ∙ ap (λ (s : Situation). s.dump) c.self.view_is in
     let before : (x : ℕ) → (reached_at c.deref-4.result.now x).stamp ≤ most = λ x. subst (λ (s : Situation). (reached_at c.deref-4.result.now x).stamp ≤ (length s.log + 1) * length s.dump.objects) c.self.view_is (rw c.deref-4.ensures (c.self.invariant.stamps x)) in
-    omega (arith, c.in_ok-supports.ensures.stamps most before o, ap (λ (d : Dump). length d.objects) dump_is, one_more (length log) (length dump.objects))
+    omega (arith, c.in_ok-repaired.ensures.stamps most before o, ap (λ (d : Dump). length d.objects) dump_is, one_more (length log) (length dump.objects))

@@ -1,0 +1,114 @@
+//! Repairs look at what an event concerns, and at nothing else. The bounds are the degrees of the regions, counted by hand.
+use crate::dumps::{CYCLE, graph_of};
+use hd_graph::Graph;
+use hd_log::Front;
+use hd_reverse::ReverseRows;
+use hd_state::repaired;
+use hd_strength::{Removed, from_scratch};
+use hd_supports::Supports;
+use hd_terms::{Edit, Event, NoMemory, Slot, What};
+use hd_view::{AddedRoots, Edited};
+use std::alloc::Global;
+use std::fmt::Write as _;
+use std::test::Fail;
+
+/// An array with two references to another.
+const TWICE: &str = "ids 4\nsegment\nroot 1\narray 1: 2 2\narray 2:\n";
+
+/// A cut of an element of the array 1.
+fn cut(element: u32) -> Event {
+    Event {
+        who: 0,
+        what: What::Do(Edit::Cut(1, Slot::Element(element))),
+    }
+}
+
+/// The undo of the first event.
+const UNDO: Event = Event {
+    who: 0,
+    what: What::Undo(0),
+};
+
+/// How many looks the repair from one log of a graph to another takes.
+fn looks_between(
+    alloc: Global,
+    graph: &Graph,
+    before: &Front,
+    after: &Front,
+) -> Result<u64, NoMemory> {
+    let reverse = ReverseRows::of(alloc, graph)?;
+    let strengths = from_scratch(alloc, graph, before)?;
+    let supports = Supports::of(alloc, strengths)?;
+    supports.are_few();
+    let taken_before = Removed::of(alloc, graph, before)?;
+    let taken_after = Removed::of(alloc, graph, after)?;
+    let added = AddedRoots::of(alloc, graph, after)?;
+    let before = Edited {
+        graph,
+        front: before,
+        removed: &taken_before,
+    };
+    let after = Edited {
+        graph,
+        front: after,
+        removed: &taken_after,
+    };
+    let repair = repaired(alloc, &reverse, before, after, &added, &supports)?;
+    Ok(repair.looks)
+}
+
+/// How many looks a cut of an element of the array 1 takes, and how many its undo.
+fn looks_of_cut(alloc: Global, graph: &Graph, element: u32) -> Option<(u64, u64)> {
+    let empty = Front::empty(alloc).ok()?;
+    let with_cut = empty.extend(alloc, cut(element)).ok()?;
+    let undone = with_cut.extend(alloc, UNDO).ok()?;
+    let lost = looks_between(alloc, graph, &empty, &with_cut).ok()?;
+    let gained = looks_between(alloc, graph, &with_cut, &undone).ok()?;
+    Some((lost, gained))
+}
+
+/// The dump of the cycle, with so many more empty arrays in elements of the first array.
+fn wide_cycle(alloc: Global, more: u32) -> Result<String, NoMemory> {
+    let mut text = String::new(alloc);
+    text.push_str("ids 4\nsegment\nroot 1\narray 1: 2")?;
+    for i in 0..more {
+        write!(text, " {:x}", 4096 + i).map_err(|_| NoMemory)?;
+    }
+    text.push_str("\narray 2: 3\narray 3: 2 4\narray 4: 5\narray 5: 4\n")?;
+    for i in 0..more {
+        writeln!(text, "array {:x}:", 4096 + i).map_err(|_| NoMemory)?;
+    }
+    Ok(text)
+}
+
+#[test]
+fn looks_of_a_repair(rt: HostRuntime) -> Result<(), Fail> {
+    let alloc = rt.alloc();
+    let graph = graph_of(&rt, alloc, CYCLE).ok_or("the dump opens")?;
+    let (lost, gained) = looks_of_cut(alloc, &graph, 0).ok_or("the log takes both")?;
+    assert!(rt; lost > 0 && lost <= 24);
+    assert!(rt; gained > 0 && gained <= 24);
+    Ok(())
+}
+
+#[test]
+fn looks_beside_many_objects(rt: HostRuntime) -> Result<(), Fail> {
+    let alloc = rt.alloc();
+    let text = wide_cycle(alloc, 10_000)?;
+    let graph = graph_of(&rt, alloc, text.as_str()).ok_or("the dump opens")?;
+    let (lost, gained) = looks_of_cut(alloc, &graph, 0).ok_or("the log takes both")?;
+    assert!(rt; lost > 0 && lost <= 24);
+    assert!(rt; gained > 0 && gained <= 24);
+    Ok(())
+}
+
+#[test]
+fn looks_of_parallel_edges(rt: HostRuntime) -> Result<(), Fail> {
+    let alloc = rt.alloc();
+    let graph = graph_of(&rt, alloc, TWICE).ok_or("the dump opens")?;
+    let (support, _) = looks_of_cut(alloc, &graph, 0).ok_or("the log takes both")?;
+    let (other, _) = looks_of_cut(alloc, &graph, 1).ok_or("the log takes both")?;
+    assert!(rt; support > 2 && support <= 6);
+    assert!(rt; other <= 2);
+    Ok(())
+}
