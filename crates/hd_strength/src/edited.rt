@@ -78,6 +78,27 @@ pub(crate) fn held_object(edited: Edited<'_>, live: &[bool], r: u64) -> Option<u
     added_object(edited, live, k as u32)
 }
 
+/// The object that the root of a number holds, where there is such a root and it stands under a log, by what the log's live
+/// edits take away. The flags say which events are live.
+pub fn root_target(
+    graph: &Graph,
+    front: &Front,
+    removed: &Removed,
+    live: &[bool],
+    r: u64,
+) -> Option<u32>
+    requires removed { IsRemovedBy graph.now front.now removed.now }
+    requires flags { live.now ≡ live_flags front.now }
+    ensures { result ≡ option_map (λ (x : RootEntry). x.target) (root_at graph.now front.now r) }
+{
+    let edited = Edited {
+        graph,
+        front,
+        removed,
+    };
+    held_object(edited, live, r)
+}
+
 /// A reference that stands: what it goes through, and the object that it leads to.
 #[derive(Clone, Copy, Debug)]
 pub(crate) struct StandingRead {

@@ -5,6 +5,7 @@ ghost use Rattle.hd_terms.specs.declared.Event.{Event as OneEvent};
 ghost use Rattle.hd_terms.specs.Dump.{SlotEntry, object_at};
 ghost use Rattle.hd_terms.specs.EditedDump.{drops};
 ghost use Rattle.hd_terms.specs.Log.{live_edit, live_flags};
+ghost use Rattle.hd_strength.specs.Cleared.{is_cleared};
 ghost use Rattle.hd_strength.specs.Removed.{has_slot, has_root, is_root_removed, is_removed, slot_key, takes_slot, IsNamedSlot, IsOnlySlot, IsRemovedBy};
 
 use crate::cleared::Cleared;
@@ -137,5 +138,43 @@ impl Removed {
         ensures { result ≡ is_root_removed self.now r }
     {
         self.roots.contains(&r)
+    }
+
+    /// Whether all references of a kind are taken away.
+    pub fn clears(&self, kind: EdgeKind) -> bool
+        ensures { result ≡ is_cleared self.now.cleared kind }
+    {
+        self.cleared.has(kind)
+    }
+
+    /// How many slots lose their references one by one.
+    pub fn slots_len(&self) -> usize
+        ensures { result ≡ length self.now.slots }
+    {
+        self.slots.len()
+    }
+
+    /// One of these slots: the object, and the index of the slot.
+    pub fn slot_at(&self, j: usize) -> (u32, u32)
+        requires { j < length self.now.slots }
+        ensures { slice_get self.now.slots j ≡ Some (slot_key result.0 result.1) }
+    {
+        let key = self.slots.as_slice()[j];
+        ((key / 4_294_967_296) as u32, (key % 4_294_967_296) as u32)
+    }
+
+    /// How many roots are taken away. A number that is no root's can be among them.
+    pub fn roots_len(&self) -> usize
+        ensures { result ≡ length self.now.roots }
+    {
+        self.roots.len()
+    }
+
+    /// The number of one of these roots.
+    pub fn root_at(&self, j: usize) -> u64
+        requires { j < length self.now.roots }
+        ensures { slice_get self.now.roots j ≡ Some result }
+    {
+        self.roots.as_slice()[j]
     }
 }

@@ -4,3 +4,4 @@ pub mod IntoLemmas
 pub mod RootLemmas
 pub mod AddedLemmas
 pub mod StandingLemmas
+pub mod LostLemmas

@@ -1,0 +1,52 @@
+-- Items that are found one after another: edges and roots that stand under one log of a dump and not under another.
+-- Source: this project.
+use Rattle.std.specs.Prelude.{◌≡◌, ℕ, ◌⊎◌, true, List, Contains, Some}
+use Rattle.hd_terms.specs.declared.Event.{Event}
+use Rattle.hd_terms.specs.declared.Slot.{Slot}
+use Rattle.hd_terms.specs.declared.RefKind.{RefKind}
+use Rattle.hd_terms.specs.Dump.{Dump}
+use Rattle.hd_terms.specs.EditedDump.{standing}
+use Rattle.hd_terms.specs.Paths.{Edge, RootEntry}
+use Rattle.hd_terms.specs.Ranks.{kind_of_references}
+use Rattle.hd_terms.specs.Regions.{Holding, edge_holding, root_holding}
+use Rattle.hd_strength.specs.Cleared.{is_cleared}
+use Rattle.hd_strength.specs.Removed.{Removals, has_slot}
+use Rattle.hd_strength.specs.Rows.{edge_at, root_at}
+use Rattle.hd_view.specs.Lost.{IsLostEdge, IsLostRoot}
+
+-- items are added, and each is an edge or a root that is lost
+pub record AddsLost (dump : Dump) (more less : List Event) (old new : List Holding) : Type 0 where
+  pub kept : (h : Holding) → Contains old h → Contains new h
+  pub only : (h : Holding) → Contains new h → Contains old h ⊎ (IsLostEdge dump more less h ⊎ IsLostRoot dump more less h)
+
+-- an edge isn't lost, or is among the items
+abbrev pub HasEdge : Dump → List Event → List Holding → Edge → Type 0
+HasEdge dump less items e = Contains (standing dump less).edges e ⊎ Contains items (edge_holding e)
+
+-- a root isn't lost, or is among the items
+abbrev pub HasRoot : Dump → List Event → List Holding → RootEntry → Type 0
+HasRoot dump less items x = Contains (standing dump less).roots x ⊎ Contains items (root_holding x)
+
+-- the items have the lost edge of an object's slot, by the slot's name
+abbrev pub HasNamed : Dump → (more less : List Event) → ℕ → Slot → List Holding → Type 0
+HasNamed dump more less o slot items = (e : Edge) → Contains (standing dump more).edges e → e.source ≡ o → e.slot ≡ slot → HasEdge dump less items e
+
+-- the items have the lost edge of an object's slot, by the slot's index
+abbrev pub HasIndexed : Dump → (more less : List Event) → ℕ → ℕ → List Holding → Type 0
+HasIndexed dump more less o i items = (e : Edge) → edge_at dump more o i ≡ Some e → HasEdge dump less items e
+
+-- the items have the lost edges of the slots whose references are taken away one by one
+abbrev pub HasSlots : Dump → (more less : List Event) → Removals → List Holding → Type 0
+HasSlots dump more less t items = (o i : ℕ) → has_slot t.slots o i ≡ true → HasIndexed dump more less o i items
+
+-- the items have the lost edges of a kind, if it is cleared
+abbrev pub HasKind : Dump → (more less : List Event) → Removals → RefKind → List Holding → Type 0
+HasKind dump more less t kind items = (e : Edge) → Contains (standing dump more).edges e → e.kind ≡ kind_of_references kind → is_cleared t.cleared e.kind ≡ true → HasEdge dump less items e
+
+-- the items have the lost edges of the kinds that are cleared
+abbrev pub HasKinds : Dump → (more less : List Event) → Removals → List Holding → Type 0
+HasKinds dump more less t items = (e : Edge) → Contains (standing dump more).edges e → is_cleared t.cleared e.kind ≡ true → HasEdge dump less items e
+
+-- the items have the root of a number, if it is lost
+abbrev pub HasNumber : Dump → (more less : List Event) → ℕ → List Holding → Type 0
+HasNumber dump more less r items = (x : RootEntry) → root_at dump more r ≡ Some x → HasRoot dump less items x
