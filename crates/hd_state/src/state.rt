@@ -168,7 +168,14 @@ impl State {
             front,
             removed,
         };
-        let repaired = repaired(alloc, &self.reverse, self.edited(), after, added, &self.supports)?;
+        let repaired = repaired(
+            alloc,
+            &self.reverse,
+            self.edited(),
+            after,
+            added,
+            &self.supports,
+        )?;
         Ok(repaired.supports)
     }
 

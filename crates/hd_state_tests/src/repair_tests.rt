@@ -67,16 +67,16 @@ fn looks_of_cut(alloc: Global, graph: &Graph, element: u32) -> Option<(u64, u64)
     Some((lost, gained))
 }
 
-/// The dump of the cycle, with so many more empty arrays in elements of the first array.
-fn wide_cycle(alloc: Global, more: u32) -> Result<String, NoMemory> {
+/// The dump of the cycle, with more empty arrays in elements of the first array, of IDs from 4,096 to below a last one.
+fn wide_cycle(alloc: Global, last: u32) -> Result<String, NoMemory> {
     let mut text = String::new(alloc);
     text.push_str("ids 4\nsegment\nroot 1\narray 1: 2")?;
-    for i in 0..more {
-        write!(text, " {:x}", 4096 + i).map_err(|_| NoMemory)?;
+    for id in 4096..last {
+        write!(text, " {id:x}").map_err(|_| NoMemory)?;
     }
     text.push_str("\narray 2: 3\narray 3: 2 4\narray 4: 5\narray 5: 4\n")?;
-    for i in 0..more {
-        writeln!(text, "array {:x}:", 4096 + i).map_err(|_| NoMemory)?;
+    for id in 4096..last {
+        writeln!(text, "array {id:x}:").map_err(|_| NoMemory)?;
     }
     Ok(text)
 }
@@ -94,7 +94,7 @@ fn looks_of_a_repair(rt: HostRuntime) -> Result<(), Fail> {
 #[test]
 fn looks_beside_many_objects(rt: HostRuntime) -> Result<(), Fail> {
     let alloc = rt.alloc();
-    let text = wide_cycle(alloc, 10_000)?;
+    let text = wide_cycle(alloc, 14_096)?;
     let graph = graph_of(&rt, alloc, text.as_str()).ok_or("the dump opens")?;
     let (lost, gained) = looks_of_cut(alloc, &graph, 0).ok_or("the log takes both")?;
     assert!(rt; lost > 0 && lost <= 24);
