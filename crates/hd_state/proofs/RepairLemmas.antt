@@ -7,7 +7,7 @@ use Rattle.hd_terms.specs.EditedDump.{standing}
 use Rattle.hd_terms.specs.Paths.{Edge, RootEntry}
 use Rattle.hd_terms.specs.Regions.{Holding, IsWithout, WasSettledWith, WasSettledWithout, edge_holding, root_holding}
 use Rattle.hd_terms.specs.Settled.{Reached, Settled}
-use Rattle.hd_view.specs.Lost.{AreLost}
+use Rattle.hd_terms.specs.Lost.{AreLost}
 
 -- what is in no list
 nothing_there : (items : List Holding) (h : Holding) → items ≡ [] → Contains items h → ⊥

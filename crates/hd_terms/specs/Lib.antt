@@ -21,6 +21,7 @@ pub mod Log
 pub mod EditedDump
 pub mod EdgeRows
 pub mod Regions
+pub mod Lost
 pub mod SlotRows
 pub mod RootRows
 pub mod IntoRows

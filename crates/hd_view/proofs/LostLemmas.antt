@@ -25,7 +25,7 @@ use Rattle.hd_strength.specs.Removed.{Removals, slot_key, has_slot, has_root, is
 use Rattle.hd_strength.specs.Rows.{edge_at, root_at, root_count}
 use Rattle.hd_strength.proofs.Lists.{Contains-nil, Contains-head, Contains-cons_cases, Contains-slice_get, flat_map_contains, flat_map_only, filter_map_contains, filter_map_only, filter_contains, filter_only, enumerate_contains, enumerate_only}
 use Rattle.hd_strength.proofs.RowLemmas.{edge_to, entry_to, not-true, not-false, IsAt, is_at, at_some, at_cut, at_none, at_edge, at_source, edge_stands_at, edge_has_index, held_at, root_none, root_some, root_stands_at, root_has_number, is_entry, dump_held, dump_dropped}
-use Rattle.hd_view.specs.Lost.{IsLostEdge, IsLostRoot, AreLost}
+use Rattle.hd_terms.specs.Lost.{IsLostEdge, IsLostRoot, AreLost}
 use Rattle.hd_view.specs.Losing.{AddsLost, HasEdge, HasRoot, HasNamed, HasIndexed, HasSlots, HasKind, HasKinds, HasNumber}
 
 -- an edge or a root that is lost, by what it holds

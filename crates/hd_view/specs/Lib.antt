@@ -4,5 +4,4 @@ pub mod Viewed
 pub mod Finding
 pub mod RootMarks
 pub mod ViewInside
-pub mod Lost
 pub mod Losing

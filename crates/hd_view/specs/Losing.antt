@@ -12,7 +12,7 @@ use Rattle.hd_terms.specs.Regions.{Holding, edge_holding, root_holding}
 use Rattle.hd_strength.specs.Cleared.{is_cleared}
 use Rattle.hd_strength.specs.Removed.{Removals, has_slot}
 use Rattle.hd_strength.specs.Rows.{edge_at, root_at}
-use Rattle.hd_view.specs.Lost.{IsLostEdge, IsLostRoot}
+use Rattle.hd_terms.specs.Lost.{IsLostEdge, IsLostRoot}
 
 -- items are added, and each is an edge or a root that is lost
 pub record AddsLost (dump : Dump) (more less : List Event) (old new : List Holding) : Type 0 where

@@ -6,7 +6,7 @@ ghost use Rattle.hd_terms.specs.Paths.{RootEntry};
 ghost use Rattle.hd_strength.specs.Removed.{has_root, IsRemovedBy};
 ghost use Rattle.hd_strength.specs.Rows.{root_at};
 ghost use Rattle.hd_view.specs.Losing.{AddsLost, HasIndexed, HasKind, HasKinds, HasNamed, HasNumber, HasSlots};
-ghost use Rattle.hd_view.specs.Lost.{AreLost};
+ghost use Rattle.hd_terms.specs.Lost.{AreLost};
 
 use crate::edited::Edited;
 use hd_edges::Held;

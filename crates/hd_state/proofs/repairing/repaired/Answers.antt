@@ -2,7 +2,7 @@ use Rattle.std.proofs.Common.{◌≡◌, ◌∙◌, ℕ, ◌+◌, ◌≤◌, Lis
 use Rattle.hd_terms.specs.Dump.{Dump}
 use Rattle.hd_terms.specs.EditedDump.{standing}
 use Rattle.hd_terms.specs.Settled.{Settled, Reached, reached_at}
-use Rattle.hd_view.specs.Lost.{AreLost}
+use Rattle.hd_terms.specs.Lost.{AreLost}
 use Rattle.hd_state.proofs.RepairLemmas.{before_loss, before_gain, empty_list}
 use Rattle.hd_state.proofs.repairing.repaired.Goals as goal
 
