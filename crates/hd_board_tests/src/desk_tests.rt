@@ -1,7 +1,8 @@
 //! Two desks in one thread: whose edits they may take back, what they learn of one another, and how a board is closed.
 use crate::boards::{Answer, CUT, closed, edit, strength_at, two_desks, undo};
-use hd_board::{Board, Desk, LearnFault, RefreshFault};
-use hd_terms::{Edit, LogFault, Refusal, Strength};
+use hd_board::{Board, Desk, LearnFault, RefreshFault, open};
+use hd_state_tests::dumps::{graph_of, wide_array};
+use hd_terms::{Edit, LogFault, Refusal, Slot, Strength};
 use std::alloc::Global;
 use std::sync::Wait;
 use std::test::Fail;
@@ -43,6 +44,25 @@ fn two_cuts_of_one_slot(rt: HostRuntime) -> Result<(), Fail> {
     assert!(rt; undo_by(&rt, rt.alloc(), &board, desks, 0, 1) == not_yours);
     assert!(rt; undo_by(&rt, rt.alloc(), &board, desks, 0, 0) == Some(Ok((2, 0, 0))));
     assert!(rt; undo_by(&rt, rt.alloc(), &board, desks, 1, 1) == Some(Ok((3, 0, 1))));
+    Ok(())
+}
+
+/// A board of two desks over the array of 3,000 references.
+fn two_wide_desks<R: Threads + Sync>(rt: &R, alloc: Global) -> Option<(Board, Vec<Desk>)> {
+    let text = wide_array(alloc).ok()?;
+    let graph = graph_of(rt, alloc, text.as_str())?;
+    open(alloc, graph, 2).ok()
+}
+
+#[test]
+fn desks_share_pages(rt: HostRuntime) -> Result<(), Fail> {
+    let (board, mut desks) = two_wide_desks(&rt, rt.alloc()).ok_or("the board opens")?;
+    let (first, second) = desks.as_mut_slice().split_first_mut().ok_or("desks")?;
+    let second = second.first_mut().ok_or("desks")?;
+    let cut = Edit::Cut(1, Slot::Element(2999));
+    assert!(rt; edit(&rt, rt.alloc(), &board, first, cut) == Some(Ok((0, 1, 0))));
+    assert!(rt; strength_at(first, 3001) == Some(Strength::Unreachable));
+    assert!(rt; strength_at(second, 3001) == Some(Strength::Strong));
     Ok(())
 }
 

@@ -5,6 +5,7 @@ use hd_board::{Board, Desk, open};
 use hd_graph::Graph;
 use hd_log::Front;
 use hd_state_tests::dumps::graph_of;
+use hd_state_tests::random::next_random;
 use hd_strength::from_scratch;
 use hd_supports::Strengths;
 use hd_terms::{Edit, Slot};
@@ -19,13 +20,6 @@ use std::thread::Threads;
 const DENSE: &str =
     "ids 4\nsegment\nroot 1\nroot 4\narray 1: 2 3 5\narray 2: 3 1 4\narray 3: 4 4 6\narray 4: 5 2 0\n\
     array 5: 1 6 7\narray 6: 7 3 8\narray 7: 8 8 1\narray 8: 5 2 3\n";
-
-/// The next of a row of random numbers (Marsaglia's xorshift with 64 bits).
-fn next_random(x: u64) -> u64 {
-    let x = x ^ (x << 13);
-    let x = x ^ (x >> 7);
-    x ^ (x << 17)
-}
 
 /// A random edit: a cut more often than a root that is added or dropped.
 fn random_edit(x: u64) -> Edit {

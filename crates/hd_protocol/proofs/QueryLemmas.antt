@@ -13,26 +13,27 @@ use Rattle.hd_terms.specs.Memory.{Memory}
 use Rattle.hd_terms.specs.Replies.{IsUnserved, RepliesChain, RepliesFell, RepliesInto, RepliesSlots, RepliesTo, refreshes}
 use Rattle.hd_terms.specs.Sessions.{IsTurn, answered, unserved}
 use Rattle.hd_state.specs.Situation.{Situation}
+use Rattle.hd_state.specs.Solution.{Solution}
 use Rattle.hd_protocol.specs.Answering.{IsRun, turn_of}
 use Rattle.hd_protocol.specs.Replying.{IsQueryReply, is_query}
 use Rattle.hd_protocol.specs.Work.{Work, logs_of, memory_at}
 
 -- the reply to another command that is the same
-pub answers_as : (state : Situation) (marks : List Situation) (command same : Command) (reply told : List ℕ) → command ≡ same → reply ≡ told
+pub answers_as : (state : Solution) (marks : List Situation) (command same : Command) (reply told : List ℕ) → command ≡ same → reply ≡ told
     → IsQueryReply state marks same told → IsQueryReply state marks command reply
 answers_as state marks command same reply told p q h =
     subst (λ (c : Command). IsQueryReply state marks c reply) (sym p) (subst (IsQueryReply state marks same) (sym q) h)
 
 -- replies about an object that is found
-pub answers_chain : (state : Situation) (marks : List Situation) (id o : ℕ) (reply : List ℕ) → index_of state.dump.objects id ≡ Some o
+pub answers_chain : (state : Solution) (marks : List Situation) (id o : ℕ) (reply : List ℕ) → index_of state.dump.objects id ≡ Some o
     → RepliesChain state.dump state.log (Some o) reply → IsQueryReply state marks (commands.Chain id) reply
 answers_chain state marks id o reply is h home = subst (λ (x : Option ℕ). RepliesChain state.dump state.log x reply) (sym is) h
 
-pub answers_slots : (state : Situation) (marks : List Situation) (id o : ℕ) (reply : List ℕ) → index_of state.dump.objects id ≡ Some o
+pub answers_slots : (state : Solution) (marks : List Situation) (id o : ℕ) (reply : List ℕ) → index_of state.dump.objects id ≡ Some o
     → RepliesSlots state.dump state.log (Some o) reply → IsQueryReply state marks (commands.Slots id) reply
 answers_slots state marks id o reply is h home = subst (λ (x : Option ℕ). RepliesSlots state.dump state.log x reply) (sym is) h
 
-pub answers_into : (state : Situation) (marks : List Situation) (id o : ℕ) (reply : List ℕ) → index_of state.dump.objects id ≡ Some o
+pub answers_into : (state : Solution) (marks : List Situation) (id o : ℕ) (reply : List ℕ) → index_of state.dump.objects id ≡ Some o
     → RepliesInto state.dump state.log (Some o) reply → IsQueryReply state marks (commands.Into id) reply
 answers_into state marks id o reply is h home = subst (λ (x : Option ℕ). RepliesInto state.dump state.log x reply) (sym is) h
 
@@ -41,7 +42,7 @@ log_of : (marks : List Situation) (k : ℕ) (at : Option Situation) → slice_ge
 log_of marks k at is = slice_get-map (λ (mark : Situation). mark.log) marks k ∙ ap (option_map (λ (mark : Situation). mark.log)) is
 
 -- replies about a mark
-pub answers_fell : (state : Situation) (marks : List Situation) (k : ℕ) (at : Option Situation) (reply : List ℕ) → slice_get marks k ≡ at
+pub answers_fell : (state : Solution) (marks : List Situation) (k : ℕ) (at : Option Situation) (reply : List ℕ) → slice_get marks k ≡ at
     → RepliesFell state.dump state.log (option_map (λ (mark : Situation). mark.log) at) reply → IsQueryReply state marks (commands.Fell k) reply
 answers_fell state marks k at reply is h home = subst (λ (x : Option (List Event)). RepliesFell state.dump state.log x reply) (sym (log_of marks k at is)) h
 
@@ -83,7 +84,7 @@ memory_is log marks m p q =
     ap (λ (l : List Event). memory_of l (logs_of marks) m.home) p ∙ ap (λ (ks : List (List Event)). memory_of m.log ks m.home) q
 
 -- a query is answered
-pub query_run : (w : Work) (state : Situation) (marks : List Situation) (c : Command) (reply : List ℕ) → state.dump ≡ w.analyst.dump → state.log ≡ w.front → w.front ≡ w.memory.log
+pub query_run : (w : Work) (state : Solution) (marks : List Situation) (c : Command) (reply : List ℕ) → state.dump ≡ w.analyst.dump → state.log ≡ w.front → w.front ≡ w.memory.log
     → logs_of marks ≡ w.memory.marks → IsQueryReply state marks c reply → IsRun w w (Ok c) reply
 query_run w state marks c reply dump log front logs h =
     leaves w (Ok c) reply (λ line spells.

@@ -6,6 +6,7 @@ use Rattle.hd_terms.specs.declared.commands.Command.{Command}
 use Rattle.hd_terms.specs.declared.commands.Command.TheVariants as commands
 use Rattle.hd_terms.specs.Replies.{RepliesTo, with_newline}
 use Rattle.hd_state.specs.Situation.{Situation}
+use Rattle.hd_state.specs.Solution.{Solution}
 use Rattle.hd_protocol.specs.Work.{memory_at}
 
 -- `ok N`
@@ -31,10 +32,10 @@ is_query commands.Back = false
 is_query commands.Quit = false
 
 -- the reply to a query under a state and marks, in a private part or not
-abbrev pub IsQueryReply : (state : Situation) → (marks : List Situation) → Command → List ℕ → Type 0
+abbrev pub IsQueryReply : (state : Solution) → (marks : List Situation) → Command → List ℕ → Type 0
 IsQueryReply state marks command reply = (home : Option (List Event)) → RepliesTo state.dump (memory_at state.log marks home) (Ok command) reply
 
 -- the reply is given back as a text, or where it is short it is put into a buffer
-abbrev pub IsAnswerIn : (state : Situation) → (marks : List Situation) → Command → (text : Option (List ℕ)) → (buffer : List ℕ) → Type 0
+abbrev pub IsAnswerIn : (state : Solution) → (marks : List Situation) → Command → (text : Option (List ℕ)) → (buffer : List ℕ) → Type 0
 IsAnswerIn state marks command None buffer = IsQueryReply state marks command buffer
 IsAnswerIn state marks command (Some text) buffer = IsQueryReply state marks command text

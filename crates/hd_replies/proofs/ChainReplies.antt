@@ -5,14 +5,15 @@ use Rattle.hd_terms.specs.declared.Event.{Event}
 use Rattle.hd_terms.specs.declared.Strength.TheVariants as strengths
 use Rattle.hd_terms.specs.Paths.{Edge}
 use Rattle.hd_terms.specs.Dump.{Dump}
+use Rattle.hd_terms.specs.Settled.{Reached}
 use Rattle.hd_terms.specs.Replies.{answered, chain_start, chain_lines, RepliesChain}
 use Rattle.hd_state.specs.declared.chain.Chain.{Chain}
 use Rattle.hd_state.specs.ChainFound.{IsChainFound, IsFoundChain, link_of, root_of}
 use Rattle.hd_replies.specs.ChainLines.{lines_of, link_text}
 
-module _ (dump : Dump) (log : List Event) (o : ℕ) (reply : List ℕ) where
+module _ (dump : Dump) (log : List Event) (ks : List Reached) (o : ℕ) (reply : List ℕ) where
   -- nothing leads to it
-  pub unreachable_reply : IsChainFound dump log o None → reply ≡ answered [] → RepliesChain dump log (Some o) reply
+  pub unreachable_reply : IsChainFound dump log ks o None → reply ≡ answered [] → RepliesChain dump log (Some o) reply
   unreachable_reply found is = (strengths.Unreachable, found, inl (refl, is))
 
   -- the lines of the chain are those of its edges
@@ -22,6 +23,6 @@ module _ (dump : Dump) (log : List Event) (o : ℕ) (reply : List ℕ) where
       (ap (map (link_text dump)) links ∙ map-map (link_text dump) link_of es)
 
   -- a chain leads to it
-  pub chain_reply : (chain : Chain) → IsFoundChain dump log o chain → reply ≡ answered (lines_of dump chain) → RepliesChain dump log (Some o) reply
+  pub chain_reply : (chain : Chain) → IsFoundChain dump log ks o chain → reply ≡ answered (lines_of dump chain) → RepliesChain dump log (Some o) reply
   chain_reply chain is reply_is =
       (is.strength, is.has_strength, inr (root_of chain, is.edges, is.is_chain, reply_is ∙ ap answered (same_lines chain is.edges is.links)))

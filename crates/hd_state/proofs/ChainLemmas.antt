@@ -3,10 +3,11 @@ use Rattle.std.proofs.Common.{◌≡◌, ◌∙◌, ℕ, zero, suc, ◌+◌, ◌
 use Rattle.std.specs.Prelude.{All}
 use Rattle.std.specs.List.{AllByRecursion}
 use Rattle.std.proofs.Math.Nat.{mul-le-mul_right}
-use Rattle.std.proofs.lemmas.List.{append-nil, get_or_past, reverse-reverse, reverse-append}
-use Rattle.std.proofs.lemmas.List.Elements.{All-from_recursion}
+use Rattle.std.proofs.lemmas.List.{append-nil, get_or_past, length-map, reverse-reverse, reverse-append}
+use Rattle.std.proofs.lemmas.List.Elements.{All-contains, All-from_recursion}
 use Rattle.hd_terms.specs.declared.EdgeKind.{EdgeKind}
 use Rattle.hd_terms.specs.declared.Slot.{Slot}
+use Rattle.hd_terms.specs.declared.Strength.{Strength}
 use Rattle.hd_terms.specs.declared.Strength.TheVariants as strengths
 use Rattle.hd_terms.specs.declared.Support.{Support}
 use Rattle.hd_terms.specs.declared.Support.TheVariants as supports
@@ -14,11 +15,12 @@ use Rattle.hd_terms.specs.declared.Event.{Event}
 use Rattle.hd_terms.specs.Chains.{IsChain}
 use Rattle.hd_terms.specs.Dump.{SlotEntry, Dump, object_at}
 use Rattle.hd_terms.specs.EditedDump.{same_slot, slot_code, standing}
-use Rattle.hd_terms.specs.Paths.{Edge, RootEntry, Standing, Lead}
+use Rattle.hd_terms.specs.Paths.{Edge, RootEntry, Standing, Lead, objects_on}
 use Rattle.hd_terms.specs.Ranks.{rank}
 use Rattle.hd_terms.specs.Settled.{Reached, Settled, IsBefore, IsStoredChain, IsSupported, reached_at, unreached}
 use Rattle.hd_terms.specs.Strengths.{HasStrength}
 use Rattle.hd_terms.proofs.RankLemmas.{rank-le}
+use Rattle.hd_repair.proofs.LossLemmas.{length-different}
 use Rattle.hd_strength.proofs.RowLemmas.{IsAt, edge_has_index, is_at}
 use Rattle.hd_state.specs.declared.chain.Link.{Link}
 use Rattle.hd_state.specs.declared.chain.Chain.{Chain}
@@ -145,7 +147,7 @@ pub record IsFollowed (dump : Dump) (log : List Event) (ks : List Reached) (o at
   pub behind : List Edge
   pub is_chain : IsChain (standing dump log) root (ahead ++ behind) o (reached_at ks o).strength
   pub from_root : (reached_at ks root.target).support ≡ supports.Root root.number
-  pub stored : AllByRecursion (IsStored ks) ahead
+  pub stored : AllByRecursion (IsStored ks) (ahead ++ behind)
   pub leads : Lead (standing dump log) root.target ahead at
   pub noted : links ≡ reverse (map link_of behind)
   pub within : at < length dump.objects
@@ -154,6 +156,19 @@ pub record IsFollowed (dump : Dump) (log : List Event) (ks : List Reached) (o at
 targets-within : (dump : Dump) (log : List Event) (a b : ℕ) (es : List Edge) → Lead (standing dump log) a es b → AllByRecursion (λ (l : Link). l.target < length dump.objects) (map link_of es)
 targets-within dump log a b [] lead = tt
 targets-within dump log a b (e ∷ es) lead = (target-within dump log e lead.0, targets-within dump log e.target b es lead.2)
+
+-- and so are those objects
+objects-within : (dump : Dump) (log : List Event) (a b : ℕ) (es : List Edge) → Lead (standing dump log) a es b → AllByRecursion (λ (x : ℕ). x < length dump.objects) (map (λ (e : Edge). e.target) es)
+objects-within dump log a b [] lead = tt
+objects-within dump log a b (e ∷ es) lead = (target-within dump log e lead.0, objects-within dump log e.target b es lead.2)
+
+-- a chain has fewer links than there are objects, for its objects differ
+few-links : (dump : Dump) (log : List Event) (r : RootEntry) (es : List Edge) (o : ℕ) (s : Strength) → IsChain (standing dump log) r es o s → r.target < length dump.objects → length es < length dump.objects
+few-links dump log r es o s chain within =
+    let objects = objects_on r es in
+    let small : (x : ℕ) → Contains objects x → x < length dump.objects = λ x c. All-contains (λ (x : ℕ). x < length dump.objects) objects x (All-from_recursion (λ (x : ℕ). x < length dump.objects) objects (within, objects-within dump log r.target o es chain.path.edges)) c in
+    let most : length objects ≤ length dump.objects = length-different (length dump.objects) objects chain.simple small in
+    omega (arith, most, length-map es (λ (e : Edge). e.target))
 
 -- a reachable object's stored chain, before it is followed
 pub begun : (dump : Dump) (log : List Event) (ks : List Reached) (o : ℕ) → o < length dump.objects
@@ -165,7 +180,7 @@ begun dump log ks o within (r, es, chain, stored) = record {
   behind = [];
   is_chain = subst (λ (xs : List Edge). IsChain (standing dump log) r xs o (reached_at ks o).strength) (sym (append-nil es)) chain;
   from_root = stored.root;
-  stored = stored.edges;
+  stored = subst (λ (xs : List Edge). AllByRecursion (IsStored ks) xs) (sym (append-nil es)) stored.edges;
   leads = stored.leads;
   noted = refl;
   within = within;
@@ -191,7 +206,7 @@ module _ (dump : Dump) (log : List Event) (ks : List Reached) (o at : ℕ) (link
   next-of : (e : Edge) (es : List Edge) → h.ahead ≡ e ∷ es → Next
   next-of e es is =
       let l = last-of (standing dump log) h.root.target at e es (subst (λ (xs : List Edge). Lead (standing dump log) h.root.target xs at) is h.leads) in
-      let stored = all-rest (IsStored ks) l.init (l.last ∷ []) (subst (λ (xs : List Edge). AllByRecursion (IsStored ks) xs) (is ∙ l.is) h.stored) in
+      let stored = all-rest (IsStored ks) l.init (l.last ∷ []) (subst (λ (xs : List Edge). AllByRecursion (IsStored ks) xs) (is ∙ l.is) (all-init (IsStored ks) h.ahead h.behind h.stored)) in
       record {
         edge = l.last;
         before = l.init;
@@ -242,7 +257,7 @@ module _ (dump : Dump) (log : List Event) (ks : List Reached) (o at : ℕ) (link
       behind = next.edge ∷ h.behind;
       is_chain = subst (λ (xs : List Edge). IsChain (standing dump log) h.root xs o (reached_at ks o).strength) joined h.is_chain;
       from_root = h.from_root;
-      stored = all-init (IsStored ks) next.before (next.edge ∷ []) (subst (λ (xs : List Edge). AllByRecursion (IsStored ks) xs) next.is h.stored);
+      stored = subst (λ (xs : List Edge). AllByRecursion (IsStored ks) xs) joined h.stored;
       leads = subst (λ (n : ℕ). Lead (standing dump log) h.root.target next.before n) is-next.from_source next.lead;
       noted = pushed ∙ ap (λ (ls : List Link). ls ++ link_of next.edge ∷ []) h.noted ∙ sym (reverse-append (link_of next.edge ∷ []) (map link_of h.behind));
       within = next-within;
@@ -268,7 +283,7 @@ module _ (dump : Dump) (log : List Event) (ks : List Reached) (o at : ℕ) (link
     number = let both : supports.Root h.root.number ≡ supports.Root r = sym (at-root none-ahead) ∙ is in cc
 
     pub whole-chain : ((g : Standing) (ks : List Reached) → Settled g ks → (o : ℕ) → HasStrength g o (reached_at ks o).strength) → Settled (standing dump log) ks
-        → (c : Chain) → c.root ≡ r → c.start ≡ at → c.links.items ≡ reverse links → IsFoundChain dump log o c
+        → (c : Chain) → c.root ≡ r → c.start ≡ at → c.links.items ≡ reverse links → IsFoundChain dump log ks o c
     whole-chain gives settled c root_is start_is links_are =
         let chain : IsChain (standing dump log) h.root h.behind o (reached_at ks o).strength =
         subst (λ (es : List Edge). IsChain (standing dump log) h.root (es ++ h.behind) o (reached_at ks o).strength) none-ahead h.is_chain in
@@ -281,6 +296,12 @@ module _ (dump : Dump) (log : List Event) (ks : List Reached) (o at : ℕ) (link
           edges = h.behind;
           has_strength = gives (standing dump log) ks settled o;
           is_chain = subst (λ (e : RootEntry). IsChain (standing dump log) e h.behind o (reached_at ks o).strength) root chain;
+          stored = subst (λ (e : RootEntry). IsStoredChain (standing dump log) ks e h.behind o) root (record {
+            root = h.from_root;
+            edges = subst (λ (es : List Edge). AllByRecursion (IsStored ks) (es ++ h.behind)) none-ahead h.stored;
+            leads = chain.path.edges;
+          });
+          few = omega (arith, few-links dump log h.root h.behind o (reached_at ks o).strength chain (subst (λ (n : ℕ). n < length dump.objects) (sym start) h.within), ap length links_is, length-map h.behind link_of);
           links = links_is;
           start = subst (λ (n : ℕ). n < length dump.objects) (sym start_is) h.within;
           targets = subst (λ (ls : List Link). All (λ (l : Link). l.target < length dump.objects) ls) (sym links_is) (All-from_recursion (λ (l : Link). l.target < length dump.objects) (map link_of h.behind) (targets-within dump log h.root.target o h.behind chain.path.edges));

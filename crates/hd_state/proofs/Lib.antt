@@ -5,6 +5,7 @@ pub mod IntoLemmas
 pub mod ListedLemmas
 pub mod RefusalLemmas
 pub mod RootLemmas
+pub mod OneWayLemmas
 pub mod RepairLemmas
 pub mod RowLemmas
 pub mod StandingLemmas

@@ -7,7 +7,9 @@ use Rattle.hd_terms.specs.EditedDump.{standing}
 use Rattle.hd_terms.specs.Paths.{Edge, RootEntry}
 use Rattle.hd_terms.specs.Regions.{Holding, IsWithout, WasSettledWith, WasSettledWithout, edge_holding, root_holding}
 use Rattle.hd_terms.specs.Settled.{Reached, Settled}
-use Rattle.hd_terms.specs.Lost.{AreLost}
+use Rattle.hd_terms.specs.Lost.{AreLost, InEventRegion, by_loss, by_gain}
+use Rattle.hd_state.specs.Next.{IsNextLog}
+use Rattle.hd_state.proofs.OneWayLemmas.{never_both}
 
 -- what is in no list
 nothing_there : (items : List Holding) (h : Holding) → items ≡ [] → Contains items h → ⊥
@@ -35,6 +37,16 @@ before_loss dump before after lost gained ks h k empty settled = record { before
 -- and before a gain
 pub before_gain : (dump : Dump) (before after : List Event) (lost gained : List Holding) (ks : List Reached) → AreLost dump before after lost → AreLost dump after before gained → lost ≡ [] → Settled (standing dump before) ks → WasSettledWithout (standing dump after) gained ks
 before_gain dump before after lost gained ks h k empty settled = record { before = standing dump before; without = without dump after before gained lost k h empty; settled = settled }
+
+-- after one event, where something is gained nothing is lost
+pub none_lost : (dump : Dump) (before after : List Event) (lost gained : List Holding) → IsNextLog before after → AreLost dump before after lost → AreLost dump after before gained → (length gained ≡ 0 → ⊥) → lost ≡ []
+none_lost dump before after lost gained next h k some =
+    let lost_are = subst (λ (log : List Event). AreLost dump before log lost) next.is h in
+    let gained_are = subst (λ (log : List Event). AreLost dump log before gained) next.is k in
+    elim (never_both dump before next.event lost gained next.takes lost_are gained_are) [
+      | inl none ↦ empty_list lost none
+      | inr none ↦ absurd (some none)
+    ]
 
 -- each event raises stamps by no more than the number of objects, so all of a lawful log stay small
 pub stamps_small : (events objects : ℕ) → events ≤ 4096 → objects < 2 ^ 32 → (events + 1) * objects ≤ 2 ^ 63

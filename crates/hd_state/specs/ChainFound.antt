@@ -9,6 +9,7 @@ use Rattle.hd_terms.specs.Chains.{IsChain}
 use Rattle.hd_terms.specs.Dump.{Dump}
 use Rattle.hd_terms.specs.EditedDump.{standing}
 use Rattle.hd_terms.specs.Paths.{Edge, RootEntry}
+use Rattle.hd_terms.specs.Settled.{Reached, IsStoredChain}
 use Rattle.hd_terms.specs.Strengths.{HasStrength}
 use Rattle.hd_state.specs.declared.chain.Link.{Link}
 use Rattle.hd_state.specs.declared.chain.Chain.{Chain}
@@ -27,17 +28,20 @@ link_of e = record { slot = e.slot; kind = e.kind; target = e.target }
 abbrev pub root_of : Chain → RootEntry
 root_of chain = record { number = chain.root; target = chain.start }
 
--- the chain is one of an object that has this strength, along these edges, and each of its objects is one of the dump's
-pub record IsFoundChain (dump : Dump) (log : List Event) (o : ℕ) (chain : Chain) : Type 0 where
+-- the chain is one of an object that has this strength, along these edges: the one that is stored, from the object's support to
+-- that of its source and so on back to the root. Each of its objects is one of the dump's, and it has fewer links than these
+pub record IsFoundChain (dump : Dump) (log : List Event) (ks : List Reached) (o : ℕ) (chain : Chain) : Type 0 where
   pub strength : Strength
   pub edges : List Edge
   pub has_strength : HasStrength (standing dump log) o strength
   pub is_chain : IsChain (standing dump log) (root_of chain) edges o strength
+  pub stored : IsStoredChain (standing dump log) ks (root_of chain) edges o
   pub links : chain.links.items ≡ map link_of edges
   pub start : chain.start < length dump.objects
   pub targets : All (λ (link : Link). link.target < length dump.objects) chain.links.items
+  pub few : length chain.links.items < length dump.objects
 
--- the chain of an object under a log, none where the object is unreachable
-abbrev pub IsChainFound : Dump → List Event → ℕ → Option Chain → Type 0
-IsChainFound dump log o None = HasStrength (standing dump log) o strengths.Unreachable
-IsChainFound dump log o (Some chain) = IsFoundChain dump log o chain
+-- the chain of an object under a log, by what is kept of the objects, none where the object is unreachable
+abbrev pub IsChainFound : Dump → List Event → List Reached → ℕ → Option Chain → Type 0
+IsChainFound dump log ks o None = HasStrength (standing dump log) o strengths.Unreachable
+IsChainFound dump log ks o (Some chain) = IsFoundChain dump log ks o chain

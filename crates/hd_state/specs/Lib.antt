@@ -1,9 +1,11 @@
 pub mod Situation
+pub mod Solution
 pub mod Kept
 pub mod StateInside
 pub mod MarkInside
 pub mod Fallen
 pub mod Shown
+pub mod Next
 pub mod Done
 pub mod Totals
 pub mod Listed

@@ -8,18 +8,18 @@ use Rattle.hd_strength.specs.Removed.{IsRemovedBy}
 use Rattle.hd_view.specs.Added.{IsAddedBy}
 use Rattle.hd_state.specs.declared.state.State.TheInside.{Inside}
 use Rattle.hd_state.specs.Kept.{AreKept}
-use Rattle.hd_state.specs.Situation.{Situation}
+use Rattle.hd_state.specs.Solution.{Solution}
 
--- the dump of the graph, under the log that is kept
-abbrev pub situation_of : Inside → Situation
-situation_of a = record { dump = arc_value a.graph; log = a.front }
+-- the dump of the graph, under the log that is kept, with what is kept of the objects
+abbrev pub solution_of : Inside → Solution
+solution_of a = record { dump = arc_value a.graph; log = a.front; kept = arc_value a.supports }
 
 -- what is taken away is what the log's live edits take away, the added roots are the log's, the reverse rows are the dump's,
 -- and what is kept of the objects is settled for what stands under the log; each event raises stamps by no more than the
 -- number of objects
 pub record IsState (a : Inside) : Type 0 where
-  pub removed : IsRemovedBy (situation_of a).dump (situation_of a).log (arc_value a.removed)
-  pub added : IsAddedBy (situation_of a).dump (situation_of a).log (arc_value a.added)
-  pub reverse : IsReverseOf (situation_of a).dump (arc_value a.reverse)
-  pub kept : AreKept (situation_of a).dump (situation_of a).log (arc_value a.supports)
-  pub stamps : (o : ℕ) → (reached_at (arc_value a.supports) o).stamp ≤ (length a.front + 1) * length (situation_of a).dump.objects
+  pub removed : IsRemovedBy (solution_of a).dump (solution_of a).log (arc_value a.removed)
+  pub added : IsAddedBy (solution_of a).dump (solution_of a).log (arc_value a.added)
+  pub reverse : IsReverseOf (solution_of a).dump (arc_value a.reverse)
+  pub kept : AreKept (solution_of a).dump (solution_of a).log (arc_value a.supports)
+  pub stamps : (o : ℕ) → (reached_at (arc_value a.supports) o).stamp ≤ (length a.front + 1) * length (solution_of a).dump.objects

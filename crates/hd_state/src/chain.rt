@@ -52,7 +52,7 @@ fn chain_back(alloc: Global, solved: Solved<'_>, o: u32) -> Result<Chain, NoMemo
     requires kept { AreKept solved.graph.now solved.front.now solved.strengths.now }
     requires object { o < length solved.graph.now.objects }
     requires reachable { (reached_at solved.strengths.now o).strength ≢ strengths.Unreachable }
-    ensures { IfOk result (λ c. IsChainFound solved.entry.graph.now solved.entry.front.now o (Some c)) }
+    ensures { IfOk result (λ c. IsChainFound solved.entry.graph.now solved.entry.front.now solved.entry.strengths.now o (Some c)) }
 {
     settled_supports_give_strengths();
     let mut links = Vec::new(alloc);
@@ -79,7 +79,7 @@ fn chain_back(alloc: Global, solved: Solved<'_>, o: u32) -> Result<Chain, NoMemo
 /// The chain of an object, none where it is unreachable.
 pub(crate) fn chain_of(alloc: Global, solved: Solved<'_>, o: u32) -> Result<Option<Chain>, NoMemory>
     requires { AreKept solved.graph.now solved.front.now solved.strengths.now }
-    ensures { IfOk result (λ c. IsChainFound solved.entry.graph.now solved.entry.front.now o c) }
+    ensures { IfOk result (λ c. IsChainFound solved.entry.graph.now solved.entry.front.now solved.entry.strengths.now o c) }
 {
     settled_supports_give_strengths();
     if o >= solved.strengths.len() || solved.strengths.strength(o) == Strength::Unreachable {

@@ -1,9 +1,11 @@
 //! Counting the objects that become unreachable.
-ghost use Rattle.std.specs.Prelude.{◌≡◌, length, count_by};
+ghost use Rattle.std.specs.Prelude.{◌≡◌, List, length, count_by};
 ghost use Rattle.std.specs.List.{range_with_len};
+ghost use Rattle.hd_terms.specs.Regions.{AreChanges};
+ghost use Rattle.hd_terms.specs.Settled.{Reached};
 ghost use Rattle.hd_state.specs.Fallen.{falls_to, falls_from};
 
-use hd_supports::Supports;
+use hd_repair::Change;
 use hd_terms::Strength;
 
 /// Whether an object becomes unreachable: it is, and it was not before.
@@ -13,14 +15,26 @@ pub(crate) fn falls(before: Strength, after: Strength) -> bool
     after == Strength::Unreachable && before != Strength::Unreachable
 }
 
-/// How many objects become unreachable.
-pub(crate) fn count_fallen(before: &Supports, after: &Supports) -> u64
-    requires { length before.now ≡ length after.now }
-    ensures { result ≡ count_by (falls_from before.now after.now) (range_with_len 0 (length after.now)) }
+/// How many objects become unreachable by changes.
+pub(crate) fn count_fallen(changes: &[Change]) -> u64
+    ensures { (before after : List Reached) → AreChanges before after changes.now → length before ≡ length after → result ≡ count_by (falls_from before after) (range_with_len 0 (length after)) }
 {
     let mut count = 0;
-    for o in 0..after.len() {
-        if falls(before.strength(o), after.strength(o)) {
+    for change in changes {
+        if falls(change.before(), change.after()) {
+            count += 1;
+        }
+    }
+    count
+}
+
+/// How many objects cease to be unreachable by changes.
+pub(crate) fn count_back(changes: &[Change]) -> u64
+    ensures { (before after : List Reached) → AreChanges before after changes.now → length before ≡ length after → result ≡ count_by (falls_from after before) (range_with_len 0 (length after)) }
+{
+    let mut count = 0;
+    for change in changes {
+        if falls(change.after(), change.before()) {
             count += 1;
         }
     }

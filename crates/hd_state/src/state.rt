@@ -4,6 +4,8 @@ ghost use Rattle.std.specs.Arc.{arc_value};
 ghost use Rattle.hd_terms.specs.Log.{log_fault};
 ghost use Rattle.hd_terms.specs.Dump.{object_at};
 ghost use Rattle.hd_terms.specs.EditedDump.{edge_stands, root_stands, standing};
+ghost use Rattle.hd_terms.specs.Lost.{InEventRegion};
+ghost use Rattle.hd_terms.specs.Regions.{AreChanges};
 ghost use Rattle.hd_terms.specs.Settled.{reached_at};
 ghost use Rattle.hd_terms.specs.Strengths.{HasStrength};
 ghost use Rattle.hd_terms.specs.RootRows.{root_rows};
@@ -13,23 +15,23 @@ ghost use Rattle.hd_strength.specs.Removed.{IsRemovedBy};
 ghost use Rattle.hd_view.specs.Added.{IsAddedBy};
 ghost use Rattle.hd_state.specs.Done.{IsDone};
 ghost use Rattle.hd_terms.specs.declared.Strength.{Strength};
-ghost use Rattle.hd_terms.specs.Totals.{IsTotal, IsGroupTotal};
+ghost use Rattle.hd_terms.specs.Totals.{IsGroupTotal};
 ghost use Rattle.hd_terms.specs.Listed.{AreClassRows, AreFallen, AreMembers};
 ghost use Rattle.hd_state.specs.Kept.{AreKept};
+ghost use Rattle.hd_state.specs.Next.{IsNextLog};
 ghost use Rattle.hd_state.specs.ChainFound.{IsChainFound};
-ghost use Rattle.hd_state.specs.Totals.{total_for};
 
 use crate::chain::{Chain, chain_of};
 use crate::classes::class_rows;
-use crate::fallen::count_fallen;
+use crate::fallen::{count_back, count_fallen};
 use crate::into::into_rows;
 use crate::listing::{fallen_ids, member_ids};
 use crate::mark::Mark;
-use crate::repairing::repaired;
+use crate::repairing::{Repair, repaired};
 use crate::roots::root_rows;
 use crate::rows::rows_of;
 use crate::solved::Solved;
-use crate::totals::{StrengthTotals, count_group, count_totals};
+use crate::totals::count_group;
 use hd_graph::Graph;
 use hd_log::Front;
 use hd_reverse::ReverseRows;
@@ -68,13 +70,13 @@ pub struct Done {
 }
 
 impl Model for State {
-    ghost use Rattle.hd_state.specs.Situation.{Situation};
+    ghost use Rattle.hd_state.specs.Solution.{Solution};
 
-    ghost Value = { Situation };
+    ghost Value = { Solution };
 
-    ghost use Rattle.hd_state.specs.StateInside.{situation_of, IsState};
+    ghost use Rattle.hd_state.specs.StateInside.{solution_of, IsState};
 
-    ghost view = { situation_of };
+    ghost view = { solution_of };
 
     ghost invariant = { IsState };
 }
@@ -119,6 +121,7 @@ impl State {
         ensures dump { IfOk result (λ r. r.0.dump ≡ self.now.dump) }
         ensures log { IfOk result (λ r. r.0.log ≡ self.now.log ++ event ∷ []) }
         ensures done { IfOk result (λ r. IsDone self.now.dump self.now.log (self.now.log ++ event ∷ []) r.1) }
+        ensures outside { IfOk result (λ r. (o : ℕ) → (InEventRegion self.now.dump self.now.log (self.now.log ++ event ∷ []) self.now.kept r.0.kept o → ⊥) → reached_at r.0.kept o ≡ reached_at self.now.kept o) }
     {
         settled_supports_give_strengths();
         one_strength();
@@ -128,15 +131,15 @@ impl State {
         let removed = Removed::of(alloc, &self.graph, &front)?;
         let added = AddedRoots::of(alloc, &self.graph, &front)?;
         let event = self.front.len();
-        let supports = self.repaired(alloc, &front, &removed, &added)?;
+        let repair = self.repaired(alloc, &front, &removed, &added)?;
         let done = Done {
             event,
-            fell: count_fallen(&self.supports, &supports),
-            back: count_fallen(&supports, &self.supports),
+            fell: count_fallen(&repair.changes),
+            back: count_back(&repair.changes),
         };
         let removed = Arc::new(alloc, removed)?;
         let added = Arc::new(alloc, added)?;
-        let supports = Arc::new(alloc, supports)?;
+        let supports = Arc::new(alloc, repair.supports)?;
         let state = State {
             graph: Arc::try_clone(&self.graph)?,
             reverse: Arc::try_clone(&self.reverse)?,
@@ -148,18 +151,21 @@ impl State {
         Ok((state, done))
     }
 
-    /// The supports of this state, repaired for a log with one more event.
+    /// The supports of this state, repaired for its log with one more event.
     fn repaired(
         &self,
         alloc: Global,
         front: &Front,
         removed: &Removed,
         added: &AddedRoots,
-    ) -> Result<Supports, NoMemory>
+    ) -> Result<Repair, NoMemory>
+        requires next { IsNextLog self.now.log front.now }
         requires removed { IsRemovedBy self.now.dump front.now removed.now }
         requires added { IsAddedBy self.now.dump front.now added.now }
-        ensures kept { IfOk result (λ s. AreKept self.now.dump front.now s) }
-        ensures stamps { IfOk result (λ s. (o : ℕ) → (reached_at s o).stamp ≤ (length self.now.log + 2) * length self.now.dump.objects) }
+        ensures kept { IfOk result (λ r. AreKept self.now.dump front.now r.supports) }
+        ensures changes { IfOk result (λ r. AreChanges self.now.kept r.supports r.changes.items) }
+        ensures outside { IfOk result (λ r. (o : ℕ) → (InEventRegion self.now.dump self.now.log front.now self.now.kept r.supports o → ⊥) → reached_at r.supports o ≡ reached_at self.now.kept o) }
+        ensures stamps { IfOk result (λ r. (o : ℕ) → (reached_at r.supports o).stamp ≤ (length self.now.log + 2) * length self.now.dump.objects) }
     {
         self.supports.are_few();
         let _ = self.front.len();
@@ -176,7 +182,7 @@ impl State {
             added,
             &self.supports,
         )?;
-        Ok(repaired.supports)
+        Ok(repaired)
     }
 
     /// An equal state: a further owner of the graph, of the log and of the strengths. Nothing is copied.
@@ -220,20 +226,11 @@ impl State {
         self.supports.strength(o)
     }
 
-    /// How many objects have each strength, and their recorded bytes. All objects are gone through.
-    pub fn strength_totals(&self) -> StrengthTotals
-        ensures { (s : Strength) → IsTotal self.now.dump self.now.log s (total_for result s).count (total_for result s).bytes }
-    {
-        settled_supports_give_strengths();
-        one_strength();
-        let solved = self.solved();
-        count_totals(solved.graph, solved.strengths)
-    }
-
     /// The graph under the log, with its strengths.
     fn solved(&self) -> Solved<'_>
         ensures dump { result.graph.now ≡ self.now.dump }
         ensures log { result.front.now ≡ self.now.log }
+        ensures strengths { result.strengths.now ≡ self.now.kept }
         ensures kept { AreKept result.graph.now result.front.now result.strengths.now }
     {
         Solved {
@@ -249,7 +246,8 @@ impl State {
     ///
     /// Memory ran out.
     pub fn mark(&self) -> Result<Mark, NoMemory>
-        ensures { IfOk result (λ m. m ≡ self.now) }
+        ensures dump { IfOk result (λ m. m.dump ≡ self.now.dump) }
+        ensures log { IfOk result (λ m. m.log ≡ self.now.log) }
     {
         let graph = Arc::try_clone(&self.graph)?;
         let front = self.front.share()?;
@@ -305,14 +303,15 @@ impl State {
         class_rows(alloc, self.solved(), strength)
     }
 
-    /// The chain of an object: a root path of the object's strength in which no object occurs twice. There is none where the
+    /// The chain of an object: a root path of the object's strength in which no object occurs twice, by the supports that are
+    /// kept. There is none where the
     /// object is unreachable, or the graph has no object of this number. It has fewer links than the graph has objects.
     ///
     /// # Errors
     ///
     /// Memory ran out.
     pub fn chain(&self, alloc: Global, o: u32) -> Result<Option<Chain>, NoMemory>
-        ensures { IfOk result (λ c. IsChainFound self.now.dump self.now.log o c) }
+        ensures { IfOk result (λ c. IsChainFound self.now.dump self.now.log self.now.kept o c) }
     {
         chain_of(alloc, self.solved(), o)
     }
@@ -385,7 +384,8 @@ impl State {
     ///
     /// Memory ran out.
     pub fn supports(&self, alloc: Global) -> Result<Supports, NoMemory>
-        ensures { IfOk result (λ s. AreKept self.now.dump self.now.log s) }
+        ensures same { IfOk result (λ s. s ≡ self.now.kept) }
+        ensures kept { IfOk result (λ s. AreKept self.now.dump self.now.log s) }
     {
         let supports = self.supports.share(alloc)?;
         Ok(supports)

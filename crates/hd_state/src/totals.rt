@@ -10,7 +10,7 @@ use crate::solved::Solved;
 use hd_graph::Graph;
 use hd_log::Front;
 use hd_strength::from_scratch;
-use hd_supports::Supports;
+use hd_supports::Strengths;
 use hd_terms::{Group, NoMemory, Strength, one_strength, settled_supports_give_strengths};
 use std::alloc::Global;
 
@@ -99,7 +99,7 @@ impl StrengthTotals {
 }
 
 /// The totals of all objects, in one pass.
-pub(crate) fn count_totals(graph: &Graph, strengths: &Supports) -> StrengthTotals
+fn count_totals(graph: &Graph, strengths: &Strengths) -> StrengthTotals
     requires { length strengths.now ≡ length graph.now.objects }
     ensures { AreCounted graph.now strengths.now (length graph.now.objects) result }
 {
@@ -122,8 +122,7 @@ pub fn opening_totals(alloc: Global, graph: &Graph) -> Result<StrengthTotals, No
     one_strength();
     let front = Front::empty(alloc)?;
     let strengths = from_scratch(alloc, graph, &front)?;
-    let supports = Supports::of(alloc, strengths)?;
-    let totals = count_totals(graph, &supports);
+    let totals = count_totals(graph, &strengths);
     Ok(totals)
 }
 

@@ -2,8 +2,9 @@
 use hd_decode::NoGate;
 use hd_graph::{Graph, open_dump};
 use hd_spell::spell;
-use hd_terms::Mode;
+use hd_terms::{Mode, NoMemory};
 use std::alloc::Global;
+use std::fmt::Write as _;
 use std::sync::Arc;
 use std::thread::Threads;
 
@@ -22,8 +23,32 @@ pub const CYCLE: &str =
 pub const GROUPS: &str = "ids 4\nsegment\nroot 1\narray 1 of 99: 2 3\nclass 11:\n\
     instance 2 of 11:\ninstance 3 of 98: 00000005\n";
 
+/// An array of 3,000 references, each to an empty array of its own, of IDs from 2 to 3,001.
+pub fn wide_array(alloc: Global) -> Result<String, NoMemory> {
+    let mut text = String::new(alloc);
+    text.push_str("ids 4\nsegment\nroot 1\narray 1:")?;
+    for id in 2..3002u32 {
+        write!(text, " {id:x}").map_err(|_| NoMemory)?;
+    }
+    for id in 2..3002u32 {
+        write!(text, "\narray {id:x}:").map_err(|_| NoMemory)?;
+    }
+    text.push_str("\n")?;
+    Ok(text)
+}
+
+/// The graph of the dump that a text spells, opened in a mode, if it opens.
+pub fn graph_in<R: Threads + Sync>(
+    rt: &R,
+    alloc: Global,
+    text: &str,
+    mode: Mode,
+) -> Option<Arc<Graph>> {
+    let bytes = spell(alloc, text).ok()?;
+    open_dump(rt, alloc, bytes.as_slice(), 1, mode, &NoGate).ok()
+}
+
 /// The graph of the dump that a text spells, if it opens.
 pub fn graph_of<R: Threads + Sync>(rt: &R, alloc: Global, text: &str) -> Option<Arc<Graph>> {
-    let bytes = spell(alloc, text).ok()?;
-    open_dump(rt, alloc, bytes.as_slice(), 1, Mode::Direct, &NoGate).ok()
+    graph_in(rt, alloc, text, Mode::Direct)
 }

@@ -29,20 +29,16 @@ const UNDO: Event = Event {
     what: What::Undo(0),
 };
 
-/// How many looks the repair from one log of a graph to another takes.
-fn looks_between(
-    alloc: Global,
-    graph: &Graph,
-    before: &Front,
-    after: &Front,
-) -> Result<u64, NoMemory> {
-    let reverse = ReverseRows::of(alloc, graph)?;
-    let strengths = from_scratch(alloc, graph, before)?;
-    let supports = Supports::of(alloc, strengths)?;
+/// How many looks the repair for one more event of a log takes.
+fn looks_of_event(alloc: Global, graph: &Graph, before: &Front, event: Event) -> Option<u64> {
+    let after = before.extend(alloc, event).ok()?;
+    let reverse = ReverseRows::of(alloc, graph).ok()?;
+    let strengths = from_scratch(alloc, graph, before).ok()?;
+    let supports = Supports::of(alloc, strengths).ok()?;
     supports.are_few();
-    let taken_before = Removed::of(alloc, graph, before)?;
-    let taken_after = Removed::of(alloc, graph, after)?;
-    let added = AddedRoots::of(alloc, graph, after)?;
+    let taken_before = Removed::of(alloc, graph, before).ok()?;
+    let taken_after = Removed::of(alloc, graph, &after).ok()?;
+    let added = AddedRoots::of(alloc, graph, &after).ok()?;
     let before = Edited {
         graph,
         front: before,
@@ -50,20 +46,19 @@ fn looks_between(
     };
     let after = Edited {
         graph,
-        front: after,
+        front: &after,
         removed: &taken_after,
     };
-    let repair = repaired(alloc, &reverse, before, after, &added, &supports)?;
-    Ok(repair.looks)
+    let repair = repaired(alloc, &reverse, before, after, &added, &supports).ok()?;
+    Some(repair.looks)
 }
 
 /// How many looks a cut of an element of the array 1 takes, and how many its undo.
 fn looks_of_cut(alloc: Global, graph: &Graph, element: u32) -> Option<(u64, u64)> {
     let empty = Front::empty(alloc).ok()?;
     let with_cut = empty.extend(alloc, cut(element)).ok()?;
-    let undone = with_cut.extend(alloc, UNDO).ok()?;
-    let lost = looks_between(alloc, graph, &empty, &with_cut).ok()?;
-    let gained = looks_between(alloc, graph, &with_cut, &undone).ok()?;
+    let lost = looks_of_event(alloc, graph, &empty, cut(element))?;
+    let gained = looks_of_event(alloc, graph, &with_cut, UNDO)?;
     Some((lost, gained))
 }
 

@@ -1,7 +1,7 @@
 //! States: a step answers a new one and keeps the old one, and their slots. A state that is let go is long to prove, so each
 //! function holds one at most, and answers what is seen of it.
 use crate::dumps::{GROUPS, TWO_ARRAYS, graph_of};
-use hd_state::{Done, State};
+use hd_state::{Done, State, opening_totals};
 use hd_terms::{
     EdgeKind, Edit, Event, Group, LogFault, RootMode, RootRow, Slot, SlotMode, SlotRow, Strength,
     What,
@@ -71,7 +71,8 @@ fn steps_keep_old_states(rt: HostRuntime) -> Result<(), Fail> {
     assert!(rt; last == (2, Some(Strength::Strong), Some(LogFault::NotLive)));
     assert!(rt; next == (1, Some(Strength::Unreachable), None));
     assert!(rt; seen(&state) == (0, Some(Strength::Strong), Some(LogFault::NoSuchEvent)));
-    assert_eq!(rt; state.strength_totals().of(Strength::Strong).bytes, 12);
+    let totals = opening_totals(rt.alloc(), state.graph())?;
+    assert_eq!(rt; totals.of(Strength::Strong).bytes, 12);
     Ok(())
 }
 

@@ -1,6 +1,6 @@
 use Rattle.std.proofs.Common.{◌≡◌, ◌∙◌, List, [], ◌∷◌, ◌++◌, ap, sym}
 use Rattle.hd_terms.specs.declared.Event.{Event}
-use Rattle.hd_state.specs.Situation.{Situation}
+use Rattle.hd_state.specs.Solution.{Solution}
 use Rattle.hd_board.specs.Replicas.{Replica}
 use Rattle.hd_board.specs.Opening.{desk_at, opened_desk, opened_desks}
 use Rattle.hd_board.proofs.Opened.{one_more_desk}
@@ -13,7 +13,7 @@ loop-who-preserved c =
     let desk : Replica = c.in_ok-begin.field-0 in
     let begun : desk ≡ opened_desk dump who =
     c.in_ok-begin.ensures
-    ∙ (ap (λ (s : Situation). desk_at s.dump s.log who) c.in_ok-share.ensures ∙ ap (λ (log : List Event). desk_at dump log who) c.requires) in
+    ∙ (ap (λ (s : Solution). desk_at s.dump s.log who) c.in_ok-share.ensures ∙ ap (λ (log : List Event). desk_at dump log who) c.requires) in
     c.in_ok-push.ensures.items
     ∙ (ap (λ (ds : List Replica). ds ++ desk ∷ []) c.loop-who.invariant
     ∙ (ap (λ (d : Replica). opened_desks dump who ++ d ∷ []) begun ∙ sym (one_more_desk dump who)))

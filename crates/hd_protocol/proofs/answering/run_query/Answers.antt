@@ -3,6 +3,7 @@ use Rattle.std.specs.String.{string_bytes}
 use Rattle.std.specs.Option.{option_map}
 use Rattle.hd_terms.specs.declared.commands.Command.{Command}
 use Rattle.hd_state.specs.Situation.{Situation}
+use Rattle.hd_state.specs.Solution.{Solution}
 use Rattle.hd_protocol.specs.Answering.{IsRun}
 use Rattle.hd_protocol.specs.Replying.{IsAnswerIn}
 use Rattle.hd_protocol.specs.Work.{Work, logs_of}
@@ -10,7 +11,7 @@ use Rattle.hd_protocol.proofs.QueryLemmas.{query_run, query_unserved}
 use Rattle.hd_protocol.proofs.answering.run_query.Goals as goal
 
 -- the reply is given back, or put
-given : (w : Work) (state : Situation) (marks : List Situation) (c : Command) (text : Option (String Global)) (out : List ℕ) → state.dump ≡ w.analyst.dump → state.log ≡ w.front → w.front ≡ w.memory.log
+given : (w : Work) (state : Solution) (marks : List Situation) (c : Command) (text : Option (String Global)) (out : List ℕ) → state.dump ≡ w.analyst.dump → state.log ≡ w.front → w.front ≡ w.memory.log
     → logs_of marks ≡ w.memory.marks → IsAnswerIn state marks c (option_map string_bytes text) out → MatchOption text (IsRun w w (Ok c) out) (λ t. IsRun w w (Ok c) (string_bytes t))
 given w state marks c None out dump log front logs h = query_run w state marks c out dump log front logs h
 given w state marks c (Some t) out dump log front logs h = query_run w state marks c (string_bytes t) dump log front logs h

@@ -8,12 +8,12 @@ use Rattle.hd_replies.proofs.texts.chain_text.Goals as goal
 
 pub returns-in_ok-text-in-Some : goal.returns-in_ok-text-in-Some
 returns-in_ok-text-in-Some c =
-    chain_reply c.args.state.now.dump c.args.state.now.log c.args.object _ c.in-Some.chain
-    (subst (IsChainFound c.args.state.now.dump c.args.state.now.log c.args.object) c.in-Some.is c.in_ok-chain.ensures)
+    chain_reply c.args.state.now.dump c.args.state.now.log c.args.state.now.kept c.args.object _ c.in-Some.chain
+    (subst (IsChainFound c.args.state.now.dump c.args.state.now.log c.args.state.now.kept c.args.object) c.in-Some.is c.in_ok-chain.ensures)
     (c.in_ok-text-in-Some.ensures ∙ ap (λ (dump : Dump). answered (lines_of dump c.in-Some.chain)) c.graph.ensures)
 
 pub returns-in_ok-text-in-None : goal.returns-in_ok-text-in-None
 returns-in_ok-text-in-None c =
-    unreachable_reply c.args.state.now.dump c.args.state.now.log c.args.object _
-    (subst (IsChainFound c.args.state.now.dump c.args.state.now.log c.args.object) c.in-None.is c.in_ok-chain.ensures)
+    unreachable_reply c.args.state.now.dump c.args.state.now.log c.args.state.now.kept c.args.object _
+    (subst (IsChainFound c.args.state.now.dump c.args.state.now.log c.args.state.now.kept c.args.object) c.in-None.is c.in_ok-chain.ensures)
     c.in_ok-text-in-None.ensures
