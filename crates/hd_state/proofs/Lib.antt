@@ -3,6 +3,7 @@ pub mod ClassLemmas
 pub mod FallenLemmas
 pub mod IntoLemmas
 pub mod ListedLemmas
+pub mod OneWayLemmas
 pub mod RefusalLemmas
 pub mod RootLemmas
 pub mod OneWayLemmas

@@ -353,7 +353,7 @@ impl State {
     }
 
     /// All references of the dump to an object, in the order of the objects that they are from and of their slots, as the log
-    /// leaves them: those that stand, and those that a live edit takes away. All slots are gone through.
+    /// leaves them: those that stand, and those that a live edit takes away. It takes time by the references to the object.
     ///
     /// # Errors
     ///
@@ -362,7 +362,7 @@ impl State {
         requires { o < length self.now.dump.objects }
         ensures { IfOk result (λ v. v.items ≡ into_rows self.now.dump self.now.log o) }
     {
-        into_rows(alloc, self.edited(), o)
+        into_rows(alloc, self.edited(), &self.reverse, o)
     }
 
     /// The graph as the log leaves it, to be looked at edge by edge. No look is made yet. It takes no memory.

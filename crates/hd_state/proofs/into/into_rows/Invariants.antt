@@ -1,7 +1,7 @@
 use Rattle.std.proofs.Common.{◌≡◌}
-use Rattle.hd_state.proofs.IntoLemmas.{rows_of_objects}
+use Rattle.hd_state.specs.IntoShown.{rows_before}
 use Rattle.hd_state.proofs.into.into_rows.Given as goal
 
--- the rows of the first objects are there
-abbrev pub invariant-loop-source : goal.invariant-loop-source
-invariant-loop-source l = l.rows.items ≡ rows_of_objects l.edited.graph.now l.edited.front.now l.o l.source
+-- the rows of the first references are there
+abbrev pub invariant-loop-i : goal.invariant-loop-i
+invariant-loop-i l = l.rows.items ≡ rows_before l.edited.graph.now l.edited.front.now l.o l.i
