@@ -6,7 +6,6 @@ pub mod ListedLemmas
 pub mod OneWayLemmas
 pub mod RefusalLemmas
 pub mod RootLemmas
-pub mod OneWayLemmas
 pub mod RepairLemmas
 pub mod RowLemmas
 pub mod StandingLemmas
