@@ -5,8 +5,8 @@
 
 A dump has arrays that refer to each other at random, with cycles, doubly linked lists and a dense part, and reference
 objects of all kinds. Edits of all kinds and undos follow. After each, what the event made unreachable and brought back,
-and the strength of each object, have to be those of the definition. The definition is computed here, by paths and by
-nothing else. Ends with status 1 at the first answer that isn't right. HDESK names another program than ./hdesk.
+the strength of each object, and the totals of groups at each strength, have to be those of the definition. The definition
+is computed here, by paths and by nothing else. Ends with status 1 at the first answer that isn't right. HDESK names another program than ./hdesk.
 """
 import os
 import random
@@ -77,6 +77,19 @@ class Heap:
             body += b"\x21" + u4(r, 0, CLASSES[kind], 4, self.referents[r])
         return out + record(0x1C, body) + record(0x2C, b"")
 
+    def group(self, o):
+        """The group of an object: where it stands among groups, its line's first word, and its name."""
+        if o in self.elements:
+            return 0, "0x0", "?"
+        if o in self.references:
+            c = CLASSES[self.references[o]]
+            return c, f"{c:#x}", TEXTS[0x102 + c - REFERENCE]
+        return 1 << 65, "c", "classes"
+
+    def size(self, o):
+        """The recorded bytes of an object."""
+        return 4 * len(self.elements[o]) if o in self.elements else 4 if o in self.references else 0
+
     def edges(self):
         """All edges: (source, slot, kind, target)."""
         known = set(self.objects)
@@ -140,6 +153,17 @@ def random_edit(rng, heap, events):
     return f"add {o:#x}", ("add", o)
 
 
+def totals(heap, rank, strength):
+    """The lines of the groups that have objects of a rank."""
+    rows = {}
+    for o in heap.objects:
+        if rank[o] == strength:
+            count, size = rows.get(heap.group(o), (0, 0))
+            rows[heap.group(o)] = count + 1, size + heap.size(o)
+    lines = [f"{word} {rows[key][0]} {rows[key][1]} {name}" for key in sorted(rows) for _, word, name in [key]]
+    return [f"ok {len(lines)}"] + lines
+
+
 def check_dump(rng, hdesk, edits, path):
     heap = Heap(rng)
     mode = rng.choice(["direct", "closure"])
@@ -166,6 +190,9 @@ def check_dump(rng, hdesk, edits, path):
         for o in heap.objects:
             lines.append(f"strength {o:#x}")
             wanted += ["ok 1", NAMES[after[o]]]
+        for rank, name in enumerate(NAMES):
+            lines.append(f"classes {name}")
+            wanted += totals(heap, after, rank)
         before = after
     said = subprocess.run(
         [hdesk, "run", path, "--phantom", mode], input="\n".join(lines) + "\n", capture_output=True, text=True
