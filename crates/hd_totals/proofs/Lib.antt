@@ -1,0 +1,2 @@
+pub mod SumLemmas
+pub mod FallenLemmas

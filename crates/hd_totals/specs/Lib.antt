@@ -1,0 +1,6 @@
+pub mod Fallen
+pub mod Members
+pub mod Totals
+pub mod Keys
+pub mod Running
+pub mod Rows

@@ -1,0 +1,9 @@
+//! Running totals of groups and strengths, kept as what is kept of objects changes.
+#![tactic(auto)]
+
+mod fallen;
+mod keys;
+mod total;
+
+pub use fallen::{count_back, count_fallen};
+pub use total::{StrengthTotals, Total};
