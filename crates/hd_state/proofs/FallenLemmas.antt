@@ -15,7 +15,7 @@ use Rattle.hd_terms.specs.Strengths.{HasStrength}
 use Rattle.hd_terms.specs.Settled.{Reached, Settled, reached_at}
 use Rattle.hd_terms.specs.Totals.{Decides}
 use Rattle.hd_terms.specs.Fell.{FellCount, Falls, IsUnreachable}
-use Rattle.hd_state.specs.Fallen.{is_unreachable, falls_from}
+use Rattle.hd_totals.specs.Fallen.{is_unreachable, falls_from}
 
 pub unreachable-true : (s : Strength) → is_unreachable s ≡ true → s ≡ strengths.Unreachable
 unreachable-true strengths.Unreachable e = refl

@@ -3,7 +3,6 @@ pub mod Solution
 pub mod Kept
 pub mod StateInside
 pub mod MarkInside
-pub mod Fallen
 pub mod Shown
 pub mod Next
 pub mod Done

@@ -8,7 +8,7 @@ use Rattle.hd_terms.specs.Dump.{Dump, object_at}
 use Rattle.hd_terms.specs.Settled.{Reached}
 use Rattle.hd_state.specs.declared.listing.Listed.{Listed}
 use Rattle.hd_state.specs.declared.listing.Listed.TheVariants as listed
-use Rattle.hd_state.specs.Fallen.{falls_from}
+use Rattle.hd_totals.specs.Fallen.{falls_from}
 use Rattle.hd_state.specs.Totals.{has_kept}
 
 -- a group as a number of its kind and its own number

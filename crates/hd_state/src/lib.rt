@@ -3,7 +3,6 @@
 
 mod chain;
 mod classes;
-mod fallen;
 mod into;
 mod listing;
 mod mark;

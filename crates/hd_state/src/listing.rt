@@ -5,11 +5,11 @@ ghost use Rattle.hd_state.specs.Kept.{AreKept};
 ghost use Rattle.std.specs.List.Sorted.{IsStrictlyIncreasing};
 ghost use Rattle.hd_state.specs.Listed.{is_listed, is_member, AreAllKept, AreIdsBefore};
 
-use crate::fallen::falls;
 use crate::solved::Solved;
 use hd_graph::Graph;
 use hd_supports::Supports;
 use hd_terms::{Group, NoMemory, Strength, one_strength, settled_supports_give_strengths};
+use hd_totals::falls;
 use std::alloc::Global;
 
 /// The objects that a list is of.

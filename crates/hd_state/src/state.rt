@@ -23,7 +23,6 @@ ghost use Rattle.hd_state.specs.ChainFound.{IsChainFound};
 
 use crate::chain::{Chain, chain_of};
 use crate::classes::class_rows;
-use crate::fallen::{count_back, count_fallen};
 use crate::into::into_rows;
 use crate::listing::{fallen_ids, member_ids};
 use crate::mark::Mark;
@@ -41,6 +40,7 @@ use hd_terms::{
     ClassRow, Event, Group, IntoRow, NoMemory, RootRow, SlotRow, Strength, one_strength,
     settled_supports_give_strengths,
 };
+use hd_totals::{count_back, count_fallen};
 use hd_view::{AddedRoots, Edited, View, edge_stands, root_stands};
 use std::alloc::Global;
 use std::marker::Model;

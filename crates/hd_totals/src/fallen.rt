@@ -9,7 +9,7 @@ use hd_repair::Change;
 use hd_terms::Strength;
 
 /// Whether an object becomes unreachable: it is, and it was not before.
-fn falls(before: Strength, after: Strength) -> bool
+pub fn falls(before: Strength, after: Strength) -> bool
     ensures { result ≡ falls_to before after }
 {
     after == Strength::Unreachable && before != Strength::Unreachable

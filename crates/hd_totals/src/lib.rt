@@ -5,5 +5,5 @@ mod fallen;
 mod keys;
 mod total;
 
-pub use fallen::{count_back, count_fallen};
+pub use fallen::{count_back, count_fallen, falls};
 pub use total::{StrengthTotals, Total};

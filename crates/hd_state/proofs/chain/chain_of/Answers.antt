@@ -4,7 +4,7 @@ use Rattle.hd_terms.specs.declared.Strength.{Strength}
 use Rattle.hd_terms.specs.declared.Strength.TheVariants as strengths
 use Rattle.hd_terms.specs.EditedDump.{standing}
 use Rattle.hd_terms.specs.Strengths.{HasStrength}
-use Rattle.hd_state.specs.Fallen.{is_unreachable}
+use Rattle.hd_totals.specs.Fallen.{is_unreachable}
 use Rattle.hd_state.proofs.ChainLemmas.{past-unreachable}
 use Rattle.hd_state.proofs.FallenLemmas.{unreachable-true}
 use Rattle.hd_state.proofs.chain.chain_of.Goals as goal

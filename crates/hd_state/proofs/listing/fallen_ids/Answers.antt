@@ -3,7 +3,7 @@ use Rattle.hd_terms.specs.Dump.{Dump}
 use Rattle.hd_terms.specs.EditedDump.{standing}
 use Rattle.hd_terms.specs.Fell.{Falls}
 use Rattle.hd_terms.specs.Settled.{Settled}
-use Rattle.hd_state.specs.Fallen.{falls_from}
+use Rattle.hd_totals.specs.Fallen.{falls_from}
 use Rattle.hd_state.proofs.FallenLemmas.{decides-falls}
 use Rattle.hd_state.proofs.ListedLemmas.{all-ids}
 use Rattle.hd_state.proofs.listing.fallen_ids.Goals as goal

@@ -10,7 +10,7 @@ use Rattle.hd_state.specs.Kept.{AreKept}
 use Rattle.std.proofs.lemmas.List.{length_push}
 use Rattle.std.specs.Prelude.{count_by}
 use Rattle.std.specs.List.{range_with_len}
-use Rattle.hd_state.specs.Fallen.{falls_from}
+use Rattle.hd_totals.specs.Fallen.{falls_from}
 use Rattle.hd_state.specs.Solution.{Solution}
 use Rattle.hd_state.proofs.FallenLemmas.{fell-count}
 use Rattle.hd_state.proofs.state.State.step.Goals as goal
