@@ -1,2 +1,7 @@
 pub mod SumLemmas
 pub mod FallenLemmas
+pub mod RowLemmas
+pub mod TotalLemmas
+pub mod GroupLemmas
+pub mod RunningLemmas
+pub mod ChangeLemmas

@@ -68,6 +68,19 @@ count_suc p n = sum_suc (λ o. one_if (p o)) n
 pub count-at : (p q : ℕ → Bool) (x n : ℕ) → x < n → ((o : ℕ) → o ≢ x → p o ≡ q o) → count_by p (range_with_len 0 n) + one_if (q x) ≡ count_by q (range_with_len 0 n) + one_if (p x)
 count-at p q x n lt same = sum-at (λ o. one_if (p o)) (λ o. one_if (q o)) x n lt (λ o e. ap one_if (same o e))
 
+pub count-same : (p q : ℕ → Bool) (n : ℕ) → ((o : ℕ) → o < n → p o ≡ q o) → count_by p (range_with_len 0 n) ≡ count_by q (range_with_len 0 n)
+count-same p q n same = sum-same (λ o. one_if (p o)) (λ o. one_if (q o)) n (λ o lt. ap one_if (same o lt))
+
+pub count-term : (p : ℕ → Bool) (x n : ℕ) → x < n → p x ≡ true → 1 ≤ count_by p (range_with_len 0 n)
+count-term p x n lt e = subst (λ (m : ℕ). m ≤ count_by p (range_with_len 0 n)) (ap one_if e) (sum-term (λ o. one_if (p o)) x n lt)
+
+pub count-le : (p : ℕ → Bool) (n : ℕ) → count_by p (range_with_len 0 n) ≤ n
+count-le p n = subst (λ (m : ℕ). count_by p (range_with_len 0 n) ≤ m) (omega arith) (sum-le (λ o. one_if (p o)) 1 n (λ o lt. at-most (p o)))
+  where
+    at-most : (b : Bool) → one_if b ≤ 1
+    at-most true = omega arith
+    at-most false = omega arith
+
 -- what a list contains is its first element or a later one
 pub no-element : (x : ℕ) → Contains [] x → ⊥
 no-element x (k, lt, is) = omega arith
@@ -91,15 +104,15 @@ count-none p (suc n) none =
     let below : count_by p (range_with_len 0 n) ≡ 0 = count-none p n (λ o lt. none o (omega arith)) in
     omega (arith, count_suc p n)
 
-not-true : (b : Bool) → (b ≡ true → ⊥) → b ≡ false
+pub not-true : (b : Bool) → (b ≡ true → ⊥) → b ≡ false
 not-true true other = absurd (other refl)
 not-true false other = refl
 
-and-false : (b : Bool) → (b && false) ≡ false
+pub and-false : (b : Bool) → (b && false) ≡ false
 and-false true = refl
 and-false false = refl
 
-and-true : (b : Bool) → (b && true) ≡ b
+pub and-true : (b : Bool) → (b && true) ≡ b
 and-true true = refl
 and-true false = refl
 

@@ -53,9 +53,17 @@ pub record Totals : Type 0 where
   pub keys : List ℕ
   pub rows : List StrengthTotals
 
--- the total of a group and a strength: nothing, where the group isn't there
+-- where the totals of a key are: past the last, where the key isn't there
+abbrev pub place_of : Totals → ℕ → ℕ
+place_of t key = position_or_len (nat_eq key) t.keys
+
+-- the totals of a key: nothing, where the key isn't there
+abbrev pub row_at : Totals → ℕ → StrengthTotals
+row_at t key = slice_index_or t.rows (place_of t key) no_totals
+
+-- the total of a group and a strength
 abbrev pub total_in : Totals → Group → Strength → Total
-total_in t group s = total_for (slice_index_or t.rows (position_or_len (nat_eq (group_key group)) t.keys) no_totals) s
+total_in t group s = total_for (row_at t (group_key group)) s
 
 -- the totals of the objects of a dump, by what is kept of them
 pub record AreTotals (dump : Dump) (ks : List Reached) (t : Totals) : Type 0 where

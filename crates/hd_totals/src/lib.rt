@@ -2,8 +2,10 @@
 #![tactic(auto)]
 
 mod fallen;
+mod group_totals;
 mod keys;
 mod total;
 
 pub use fallen::{count_back, count_fallen, falls};
+pub use group_totals::GroupTotals;
 pub use total::{StrengthTotals, Total};

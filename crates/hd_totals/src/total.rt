@@ -1,5 +1,6 @@
 //! How many objects there are, and their bytes; and that of each strength.
 ghost use Rattle.std.specs.Prelude.{◌≡◌, ◌+◌, ◌<◌, ◌≤◌, ◌^◌};
+ghost use Rattle.hd_totals.specs.Running.{plus_one, less_one};
 ghost use Rattle.hd_totals.specs.Totals.{no_total, no_totals, total_for, plus_object, less_object, with_total};
 
 use hd_terms::Strength;
@@ -102,7 +103,7 @@ impl StrengthTotals {
     pub fn add(&mut self, strength: Strength, bytes: u64)
         requires count { (total_for self.old strength).count + 1 < 2 ^ 64 }
         requires bytes { (total_for self.old strength).bytes + bytes < 2 ^ 64 }
-        ensures { self.new ≡ with_total self.old strength (plus_object (total_for self.old strength) bytes) }
+        ensures { self.new ≡ plus_one self.old strength bytes }
     {
         let total = self.of(strength).plus(bytes);
         self.put(strength, total);
@@ -112,7 +113,7 @@ impl StrengthTotals {
     pub fn take(&mut self, strength: Strength, bytes: u64)
         requires count { 1 ≤ (total_for self.old strength).count }
         requires bytes { bytes ≤ (total_for self.old strength).bytes }
-        ensures { self.new ≡ with_total self.old strength (less_object (total_for self.old strength) bytes) }
+        ensures { self.new ≡ less_one self.old strength bytes }
     {
         let total = self.of(strength).less(bytes);
         self.put(strength, total);

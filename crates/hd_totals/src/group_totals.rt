@@ -1,0 +1,183 @@
+//! The totals of the groups of a dump.
+ghost use Rattle.std.specs.Prelude.{◌≡◌, ◌+◌, ◌<◌, ◌≤◌, ◌^◌, List, length, Contains, MatchOption, IfOk, OnOk};
+ghost use Rattle.hd_terms.specs.Listed.{group_key};
+ghost use Rattle.hd_terms.specs.Settled.{Reached};
+ghost use Rattle.hd_totals.specs.Keys.{AreKeys};
+ghost use Rattle.hd_totals.specs.Members.{InRange};
+ghost use Rattle.hd_totals.specs.Running.{plus_one, less_one, IsPlaced, IsRowPut};
+ghost use Rattle.hd_totals.specs.Totals.{place_of, row_at, total_for, total_in, AreTotals, AreTotalsBefore, CanChange};
+
+use crate::keys::{GroupKeys, key_of};
+use crate::total::{StrengthTotals, Total};
+use hd_graph::Graph;
+use hd_pages::Pages;
+use hd_repair::Change;
+use hd_supports::Supports;
+use hd_terms::{Group, NoMemory, Strength};
+use std::alloc::Global;
+use std::marker::Model;
+use std::sync::Arc;
+
+/// How many objects of each group have each strength, and their recorded bytes. Versions share the keys of the groups,
+/// which never change, and the pages of totals that are equal.
+#[derive(Drop)]
+pub struct GroupTotals {
+    keys: Arc<GroupKeys>,
+    rows: Pages<StrengthTotals>,
+}
+
+impl Model for GroupTotals {
+    ghost use Rattle.std.specs.Prelude.{◌≡◌, length};
+    ghost use Rattle.std.specs.Arc.{arc_value};
+    ghost use Rattle.hd_totals.specs.Totals.{Totals};
+
+    ghost Value = { Totals };
+
+    ghost view = { λ t. record { keys = arc_value t.keys; rows = t.rows } };
+
+    ghost invariant = { λ t. length t.rows ≡ length (arc_value t.keys) };
+}
+
+/// The place of a key, which may be new. The totals are in the order of the keys.
+fn place_for(
+    keys: &mut GroupKeys,
+    rows: &mut Vec<StrengthTotals>,
+    key: u128,
+) -> Result<usize, NoMemory>
+    requires whole { length rows.old.items ≡ length keys.old }
+    requires small { key ≤ 18446744073709551872 }
+    ensures { IfOk result (λ i. IsPlaced (record { keys = keys.old; rows = rows.old.items }) (record { keys = keys.new; rows = rows.new.items }) key i) }
+{
+    let index = keys.add(key)?;
+    if index == rows.len() {
+        rows.push(StrengthTotals::none())?;
+    }
+    Ok(index)
+}
+
+/// Counts an object in the totals of its group's key, which may be new.
+fn count_object(
+    keys: &mut GroupKeys,
+    rows: &mut Vec<StrengthTotals>,
+    key: u128,
+    strength: Strength,
+    bytes: u64,
+) -> Result<(), NoMemory>
+    requires whole { length rows.old.items ≡ length keys.old }
+    requires small { key ≤ 18446744073709551872 }
+    requires count { (total_for (row_at (record { keys = keys.old; rows = rows.old.items }) key) strength).count + 1 < 2 ^ 64 }
+    requires bytes { (total_for (row_at (record { keys = keys.old; rows = rows.old.items }) key) strength).bytes + bytes < 2 ^ 64 }
+    ensures { OnOk result (
+        IsRowPut (record { keys = keys.old; rows = rows.old.items }) (record { keys = keys.new; rows = rows.new.items }) key
+        (plus_one (row_at (record { keys = keys.old; rows = rows.old.items }) key) strength bytes)
+        ) }
+{
+    let place = place_for(keys, rows, key)?;
+    rows[place].add(strength, bytes);
+    Ok(())
+}
+
+impl GroupTotals {
+    /// The totals of all objects, in one pass.
+    ///
+    /// # Errors
+    ///
+    /// Memory ran out.
+    pub fn of(alloc: Global, graph: &Graph, supports: &Supports) -> Result<GroupTotals, NoMemory>
+        requires { length supports.now ≡ length graph.now.objects }
+        ensures { IfOk result (λ t. AreTotals graph.now supports.now t) }
+    {
+        let mut keys = GroupKeys::new(alloc);
+        let mut rows = Vec::new(alloc);
+        for o in 0..graph.objects() {
+            let key = key_of(graph.group_of(o));
+            let strength = supports.strength(o);
+            let bytes = graph.bytes_of(o);
+            count_object(&mut keys, &mut rows, key, strength, bytes)?;
+        }
+        let rows = Pages::of_vec(alloc, rows)?;
+        let keys = Arc::new(alloc, keys)?;
+        Ok(GroupTotals { keys, rows })
+    }
+
+    /// An equal version.
+    ///
+    /// # Errors
+    ///
+    /// Memory ran out.
+    pub fn share(&self, alloc: Global) -> Result<GroupTotals, NoMemory>
+        ensures { IfOk result (λ t. t ≡ self.now) }
+    {
+        let keys = Arc::try_clone(&self.keys)?;
+        let rows = self.rows.share(alloc)?;
+        Ok(GroupTotals { keys, rows })
+    }
+
+    /// Where the totals of a group are, if it is there.
+    fn place(&self, group: Group) -> Option<u32>
+        ensures place { MatchOption result (length self.now.rows ≤ place_of self.now (group_key group)) (λ i. (i ≡ place_of self.now (group_key group)) × (i < length self.now.rows)) }
+        ensures range { InRange group }
+        ensures keys { AreKeys self.now.keys }
+        ensures whole { length self.now.rows ≡ length self.now.keys }
+    {
+        let _count = self.rows.len();
+        match self.keys.index_of(key_of(group)) {
+            Some(index) => Some(index as u32),
+            None => None,
+        }
+    }
+
+    /// The total of a group and a strength: nothing, where the group isn't there.
+    pub fn total(&self, group: Group, strength: Strength) -> Total
+        ensures total { result ≡ total_in self.now group strength }
+        ensures range { InRange group }
+    {
+        match self.place(group) {
+            Some(place) => self.rows.get(place).of(strength),
+            None => Total::none(),
+        }
+    }
+
+    /// Moves an object of a group, and of so many bytes, from the total of one strength to that of another. After an error
+    /// nothing has changed.
+    fn move_object(
+        &mut self,
+        group: Group,
+        bytes: u64,
+        before: Strength,
+        after: Strength,
+    ) -> Result<(), NoMemory>
+        requires there { Contains self.old.keys (group_key group) }
+        requires count { 1 ≤ (total_in self.old group before).count }
+        requires bytes { bytes ≤ (total_in self.old group before).bytes }
+        requires count_room { (total_in self.old group after).count + 1 < 2 ^ 64 }
+        requires bytes_room { (total_in self.old group after).bytes + bytes < 2 ^ 64 }
+        ensures { OnOk result (IsRowPut self.old self.new (group_key group) (plus_one (less_one (row_at self.old (group_key group)) before bytes) after bytes)) }
+    {
+        let Some(place) = self.place(group) else {
+            return Ok(());
+        };
+        let mut row = self.rows.get(place);
+        row.take(before, bytes);
+        row.add(after, bytes);
+        self.rows.with(place, row)?;
+        Ok(())
+    }
+
+    /// Moves each changed object from the total of its strength before to that of its strength after.
+    ///
+    /// # Errors
+    ///
+    /// Memory ran out. The totals may not be used further: some of the changes may be missing.
+    pub fn apply(&mut self, graph: &Graph, changes: &[Change]) -> Result<(), NoMemory>
+        requires { CanChange graph.now self.old changes.now }
+        ensures { OnOk result ((before after : List Reached) → AreTotalsBefore graph.now self.old changes.now before after → AreTotals graph.now after self.new) }
+    {
+        for change in changes {
+            let group = graph.group_of(change.object());
+            let bytes = graph.bytes_of(change.object());
+            self.move_object(group, bytes, change.before(), change.after())?;
+        }
+        Ok(())
+    }
+}
