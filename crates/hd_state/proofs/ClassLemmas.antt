@@ -25,9 +25,12 @@ use Rattle.hd_terms.specs.Settled.{Reached, Settled, reached_at}
 use Rattle.hd_terms.specs.Strengths.{HasStrength}
 use Rattle.hd_terms.specs.Totals.{Decides, IsMember, IsGroupTotal}
 use Rattle.hd_strength.proofs.Lists.{Contains-head, Contains-tail, Contains-cons_cases, Contains-nil}
-use Rattle.hd_state.specs.ClassesFound.{row_key, first_row, with_one, AreRowsBefore, InRange, IsCounted, IsCountedAt, IsCountedFirst, IsRowBefore}
-use Rattle.hd_state.specs.Listed.{is_member, same_group}
-use Rattle.hd_state.specs.Totals.{IsTotalBefore, has_kept}
+use Rattle.hd_state.specs.ClassesFound.{first_row, with_one, AreRowsBefore, IsCounted, IsCountedAt, IsCountedFirst, IsRowBefore}
+use Rattle.hd_totals.specs.Rows.{row_key}
+use Rattle.hd_totals.specs.Members.{InRange}
+use Rattle.hd_totals.specs.Members.{is_member, same_group}
+use Rattle.hd_state.specs.Totals.{IsTotalBefore}
+use Rattle.hd_totals.specs.Members.{has_kept}
 use Rattle.hd_state.proofs.ListedLemmas.{both, decides-member, itself, one-group, pass}
 use Rattle.hd_state.proofs.TotalLemmas.{is-kept, no-total, total-without, total-with, whole-total}
 

@@ -15,8 +15,9 @@ use Rattle.hd_terms.specs.Settled.{Reached, Settled, reached_at}
 use Rattle.hd_terms.specs.Totals.{Decides, IsMember}
 use Rattle.hd_terms.specs.Listed.{AreIdsOf}
 use Rattle.hd_strength.proofs.Lists.{Contains-nil, Contains-head, Contains-cons_cases}
-use Rattle.hd_state.specs.Listed.{same_group, is_member, AreIdsBefore}
-use Rattle.hd_state.specs.Totals.{has_kept}
+use Rattle.hd_state.specs.Listed.{AreIdsBefore}
+use Rattle.hd_totals.specs.Members.{same_group, is_member}
+use Rattle.hd_totals.specs.Members.{has_kept}
 use Rattle.hd_state.proofs.TotalLemmas.{has-strength, is-kept}
 
 -- groups that are one are equal

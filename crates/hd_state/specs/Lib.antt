@@ -11,4 +11,3 @@ pub mod Listed
 pub mod ChainFound
 pub mod RootsShown
 pub mod IntoShown
-pub mod ClassesFound

@@ -2,7 +2,6 @@
 #![tactic(auto)]
 
 mod chain;
-mod classes;
 mod into;
 mod listing;
 mod mark;
@@ -19,4 +18,4 @@ pub use mark::Mark;
 pub use refusing::edit_refusal;
 pub use repairing::{Repair, repaired};
 pub use state::{Done, State};
-pub use totals::{StrengthTotals, Total, opening_totals};
+pub use totals::opening_totals;

@@ -3,7 +3,8 @@ ghost use Rattle.std.specs.Prelude.{◌≡◌, ◌<◌, length, IfOk};
 ghost use Rattle.hd_terms.specs.Listed.{AreFallen, AreMembers};
 ghost use Rattle.hd_state.specs.Kept.{AreKept};
 ghost use Rattle.std.specs.List.Sorted.{IsStrictlyIncreasing};
-ghost use Rattle.hd_state.specs.Listed.{is_listed, is_member, AreAllKept, AreIdsBefore};
+ghost use Rattle.hd_state.specs.Listed.{is_listed, AreAllKept, AreIdsBefore};
+ghost use Rattle.hd_totals.specs.Members.{is_member};
 
 use crate::solved::Solved;
 use hd_graph::Graph;

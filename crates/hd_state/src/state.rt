@@ -20,9 +20,9 @@ ghost use Rattle.hd_terms.specs.Listed.{AreClassRows, AreFallen, AreMembers};
 ghost use Rattle.hd_state.specs.Kept.{AreKept};
 ghost use Rattle.hd_state.specs.Next.{IsNextLog};
 ghost use Rattle.hd_state.specs.ChainFound.{IsChainFound};
+ghost use Rattle.hd_totals.specs.Totals.{AreTotals};
 
 use crate::chain::{Chain, chain_of};
-use crate::classes::class_rows;
 use crate::into::into_rows;
 use crate::listing::{fallen_ids, member_ids};
 use crate::mark::Mark;
@@ -30,7 +30,6 @@ use crate::repairing::{Repair, repaired};
 use crate::roots::root_rows;
 use crate::rows::rows_of;
 use crate::solved::Solved;
-use crate::totals::count_group;
 use hd_graph::Graph;
 use hd_log::Front;
 use hd_reverse::ReverseRows;
@@ -40,14 +39,15 @@ use hd_terms::{
     ClassRow, Event, Group, IntoRow, NoMemory, RootRow, SlotRow, Strength, one_strength,
     settled_supports_give_strengths,
 };
-use hd_totals::{count_back, count_fallen};
+use hd_totals::{GroupTotals, count_back, count_fallen};
 use hd_view::{AddedRoots, Edited, View, edge_stands, root_stands};
 use std::alloc::Global;
 use std::marker::Model;
 use std::sync::Arc;
 
 /// What one log makes of a dump: the dump's graph and its reverse rows, which all states share, the log, what its live edits
-/// take away, the roots that its events add, and the strength of each object with its support, in pages that states share.
+/// take away, the roots that its events add, the strength of each object with its support, and the totals of groups, in pages
+/// that states share.
 #[derive(Drop)]
 pub struct State {
     graph: Arc<Graph>,
@@ -56,6 +56,7 @@ pub struct State {
     removed: Arc<Removed>,
     added: Arc<AddedRoots>,
     supports: Arc<Supports>,
+    totals: Arc<GroupTotals>,
 }
 
 /// What an event did.
@@ -96,11 +97,13 @@ impl State {
         let added = AddedRoots::of(alloc, &graph, &front)?;
         let strengths = from_removed(alloc, &graph, &front, &removed)?;
         let supports = Supports::of(alloc, strengths)?;
+        let totals = GroupTotals::of(alloc, &graph, &supports)?;
         let reverse = ReverseRows::of(alloc, &graph)?;
         let reverse = Arc::new(alloc, reverse)?;
         let removed = Arc::new(alloc, removed)?;
         let added = Arc::new(alloc, added)?;
         let supports = Arc::new(alloc, supports)?;
+        let totals = Arc::new(alloc, totals)?;
         Ok(State {
             graph,
             reverse,
@@ -108,6 +111,7 @@ impl State {
             removed,
             added,
             supports,
+            totals,
         })
     }
 
@@ -132,6 +136,7 @@ impl State {
         let added = AddedRoots::of(alloc, &self.graph, &front)?;
         let event = self.front.len();
         let repair = self.repaired(alloc, &front, &removed, &added)?;
+        let totals = self.moved_totals(alloc, &repair)?;
         let done = Done {
             event,
             fell: count_fallen(&repair.changes),
@@ -140,6 +145,7 @@ impl State {
         let removed = Arc::new(alloc, removed)?;
         let added = Arc::new(alloc, added)?;
         let supports = Arc::new(alloc, repair.supports)?;
+        let totals = Arc::new(alloc, totals)?;
         let state = State {
             graph: Arc::try_clone(&self.graph)?,
             reverse: Arc::try_clone(&self.reverse)?,
@@ -147,6 +153,7 @@ impl State {
             removed,
             added,
             supports,
+            totals,
         };
         Ok((state, done))
     }
@@ -185,6 +192,17 @@ impl State {
         Ok(repaired)
     }
 
+    /// The totals of this state, moved by a repair.
+    fn moved_totals(&self, alloc: Global, repair: &Repair) -> Result<GroupTotals, NoMemory>
+        requires changes { AreChanges self.now.kept repair.now.supports repair.now.changes.items }
+        requires count { length repair.now.supports ≡ length self.now.dump.objects }
+        ensures { IfOk result (λ t. AreTotals self.now.dump repair.now.supports t) }
+    {
+        let mut totals = self.totals.share(alloc)?;
+        totals.apply(&self.graph, &repair.changes)?;
+        Ok(totals)
+    }
+
     /// An equal state: a further owner of the graph, of the log and of the strengths. Nothing is copied.
     ///
     /// # Errors
@@ -200,6 +218,7 @@ impl State {
             removed: Arc::try_clone(&self.removed)?,
             added: Arc::try_clone(&self.added)?,
             supports: Arc::try_clone(&self.supports)?,
+            totals: Arc::try_clone(&self.totals)?,
         })
     }
 
@@ -283,16 +302,18 @@ impl State {
         member_ids(alloc, self.solved(), group, strength)
     }
 
-    /// How many objects of a group have a strength, and their recorded bytes. All objects are gone through; it takes no memory.
+    /// How many objects of a group have a strength, and their recorded bytes. They are looked up; it takes no memory.
     pub fn total(&self, group: Group, strength: Strength) -> (u64, u64)
         ensures { IsGroupTotal self.now.dump self.now.log group strength result.0 result.1 }
     {
-        let total = count_group(self.solved(), group, strength);
+        settled_supports_give_strengths();
+        one_strength();
+        let total = self.totals.total(group, strength);
         (total.count, total.bytes)
     }
 
     /// The groups that have objects of a strength, in their order, each with the number of these objects and their recorded
-    /// bytes. All objects are gone through; the memory that it takes is by groups.
+    /// bytes. All groups are gone through, and no objects.
     ///
     /// # Errors
     ///
@@ -300,7 +321,9 @@ impl State {
     pub fn classes(&self, alloc: Global, strength: Strength) -> Result<Vec<ClassRow>, NoMemory>
         ensures { IfOk result (λ v. AreClassRows self.now.dump self.now.log strength v.items) }
     {
-        class_rows(alloc, self.solved(), strength)
+        settled_supports_give_strengths();
+        one_strength();
+        self.totals.classes(alloc, strength)
     }
 
     /// The chain of an object: a root path of the object's strength in which no object occurs twice, by the supports that are

@@ -1,5 +1,5 @@
 use Rattle.hd_terms.specs.Totals.{IsMember}
-use Rattle.hd_state.specs.Listed.{is_member}
+use Rattle.hd_totals.specs.Members.{is_member}
 use Rattle.hd_state.proofs.ListedLemmas.{all-ids, decides-member}
 use Rattle.hd_state.proofs.listing.member_ids.Goals as goal
 

@@ -3,7 +3,7 @@ use Rattle.hd_terms.specs.declared.Strength.{Strength}
 use Rattle.hd_terms.specs.Records.{largest_file}
 use Rattle.hd_terms.specs.Dump.{object_at}
 use Rattle.hd_terms.specs.Settled.{reached_at}
-use Rattle.hd_state.specs.declared.totals.StrengthTotals.{StrengthTotals}
+use Rattle.hd_totals.specs.declared.total.StrengthTotals.{StrengthTotals}
 use Rattle.hd_state.specs.Totals.{AreCounted, with_object}
 use Rattle.hd_state.proofs.TotalLemmas.{one-more-counted}
 use Rattle.hd_state.proofs.totals.count_totals.Goals as goal
