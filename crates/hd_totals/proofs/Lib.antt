@@ -5,3 +5,4 @@ pub mod TotalLemmas
 pub mod GroupLemmas
 pub mod RunningLemmas
 pub mod ChangeLemmas
+pub mod ClassLemmas

@@ -54,7 +54,7 @@ any-from k (x ∷ keys) c = elim (cons-cases x keys k c) [
   | inr later ↦ or-later (nat_eq k x) (list_any (nat_eq k) keys) (any-from k keys later)
 ]
 
-any-to : (k : ℕ) (keys : List ℕ) → list_any (nat_eq k) keys ≡ true → Contains keys k
+pub any-to : (k : ℕ) (keys : List ℕ) → list_any (nat_eq k) keys ≡ true → Contains keys k
 any-to k [] e = absurd cc
 any-to k (x ∷ keys) e = elim (cases_eq k x) [
   | inl same ↦ subst (λ (y : ℕ). Contains (x ∷ keys) y) (sym same) (Contains-first x keys)

@@ -22,8 +22,8 @@ use std::sync::Arc;
 /// which never change, and the pages of totals that are equal.
 #[derive(Drop)]
 pub struct GroupTotals {
-    keys: Arc<GroupKeys>,
-    rows: Pages<StrengthTotals>,
+    pub(crate) keys: Arc<GroupKeys>,
+    pub(crate) rows: Pages<StrengthTotals>,
 }
 
 impl Model for GroupTotals {

@@ -1,6 +1,7 @@
 //! Running totals of groups and strengths, kept as what is kept of objects changes.
 #![tactic(auto)]
 
+mod classes;
 mod fallen;
 mod group_totals;
 mod keys;
