@@ -1,13 +1,12 @@
 -- What is lost between two logs, and nothing gained, makes of settled supports what a repair takes.
-use Rattle.std.proofs.Common.{◌≡◌, ◌≢◌, ◌∙◌, ℕ, ◌+◌, ◌*◌, ◌^◌, ◌<◌, ◌≤◌, ◌⊎◌, inl, inr, List, [], ◌∷◌, Contains, length, refl, sym, ap, subst, arith}
+use Rattle.std.proofs.Common.{◌≡◌, ℕ, ◌+◌, ◌*◌, ◌^◌, ◌<◌, ◌≤◌, inl, inr, List, [], ◌∷◌, Contains, length, refl, subst, arith}
 use Rattle.std.proofs.Math.Nat.{mul-le-mul_right}
 use Rattle.hd_terms.specs.declared.Event.{Event}
 use Rattle.hd_terms.specs.Dump.{Dump}
 use Rattle.hd_terms.specs.EditedDump.{standing}
-use Rattle.hd_terms.specs.Paths.{Edge, RootEntry}
 use Rattle.hd_terms.specs.Regions.{Holding, IsWithout, WasSettledWith, WasSettledWithout, edge_holding, root_holding}
 use Rattle.hd_terms.specs.Settled.{Reached, Settled}
-use Rattle.hd_terms.specs.Lost.{AreLost, InEventRegion, by_loss, by_gain}
+use Rattle.hd_terms.specs.Lost.{AreLost}
 use Rattle.hd_state.specs.Next.{IsNextLog}
 use Rattle.hd_state.proofs.OneWayLemmas.{never_both}
 

@@ -5,7 +5,6 @@ use Rattle.std.specs.List.{range_with_len}
 use Rattle.std.proofs.lemmas.List.{take_all}
 use Rattle.std.proofs.lemmas.List.FromFn.{length-range_with_len, get_or-range_with_len}
 use Rattle.std.proofs.lemmas.List.Sums.{sum_by_more}
-use Rattle.hd_terms.specs.declared.Group.{Group}
 use Rattle.hd_terms.specs.declared.Strength.{Strength}
 use Rattle.hd_terms.specs.declared.Event.{Event}
 use Rattle.hd_terms.specs.Ranks.{rank}
@@ -15,11 +14,11 @@ use Rattle.hd_terms.specs.Dump.{Dump, object_at}
 use Rattle.hd_terms.specs.EditedDump.{standing}
 use Rattle.hd_terms.specs.Strengths.{HasStrength}
 use Rattle.hd_terms.specs.Settled.{Reached, Settled, reached_at}
-use Rattle.hd_terms.specs.Totals.{Decides, IsTotal, IsMember, IsGroupTotal}
+use Rattle.hd_terms.specs.Totals.{IsTotal}
 use Rattle.hd_totals.specs.declared.total.StrengthTotals.{StrengthTotals}
-use Rattle.hd_totals.specs.Members.{has_kept, is_member, bytes_if, InRange}
+use Rattle.hd_totals.specs.Members.{has_kept, bytes_if}
 use Rattle.hd_totals.specs.Running.{plus_one}
-use Rattle.hd_totals.specs.Totals.{Totals, AreTotals, no_totals, no_total, total_for, total_in}
+use Rattle.hd_totals.specs.Totals.{no_totals, total_for}
 use Rattle.hd_totals.proofs.TotalLemmas.{one-rank, plus-count, plus-bytes, total-none}
 use Rattle.hd_state.specs.Totals.{AreCounted}
 use Rattle.hd_state.proofs.FallenLemmas.{count-more, count-all}

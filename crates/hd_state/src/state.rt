@@ -323,7 +323,8 @@ impl State {
     {
         settled_supports_give_strengths();
         one_strength();
-        self.totals.classes(alloc, strength)
+        let rows = self.totals.classes(alloc, strength)?;
+        Ok(rows)
     }
 
     /// The chain of an object: a root path of the object's strength in which no object occurs twice, by the supports that are

@@ -1,7 +1,7 @@
-use Rattle.std.proofs.Common.{◌≡◌, ◌∙◌, ℕ, ◌+◌, ◌≤◌, List, [], Contains, length, ap, subst, sym, refl, arith, eqb-true, eq-eqb, true≢false, vec_len}
+use Rattle.std.proofs.Common.{◌≡◌, ◌∙◌, [], length, subst, sym, arith, eqb-true, eq-eqb, true≢false, vec_len}
 use Rattle.hd_terms.specs.Dump.{Dump}
 use Rattle.hd_terms.specs.EditedDump.{standing}
-use Rattle.hd_terms.specs.Settled.{Settled, Reached, reached_at}
+use Rattle.hd_terms.specs.Settled.{Settled}
 use Rattle.hd_terms.specs.Lost.{AreLost, by_loss, by_gain}
 use Rattle.hd_state.proofs.RepairLemmas.{before_loss, before_gain, empty_list, none_lost}
 use Rattle.hd_state.proofs.repairing.repaired.Goals as goal

@@ -1,4 +1,4 @@
-use Rattle.std.proofs.Common.{◌≡◌, ◌∙◌, ℕ, ◌+◌, ◌*◌, ◌≤◌, List, length, ap, subst, sym, arith}
+use Rattle.std.proofs.Common.{◌≡◌, ◌∙◌, ℕ, ◌+◌, ◌*◌, ◌≤◌, List, length, ap, subst, arith}
 use Rattle.hd_terms.specs.declared.Event.{Event}
 use Rattle.hd_terms.specs.Dump.{Dump}
 use Rattle.hd_terms.specs.Lost.{InEventRegion}

@@ -3,10 +3,9 @@ use Rattle.std.specs.Arc.{arc_value}
 use Rattle.hd_terms.specs.declared.Event.{Event}
 use Rattle.hd_terms.specs.Dump.{Dump}
 use Rattle.hd_terms.specs.EditedDump.{standing}
-use Rattle.hd_terms.specs.Lost.{InEventRegion}
-use Rattle.hd_terms.specs.Regions.{AreChanges, StrengthChange}
-use Rattle.hd_terms.specs.Settled.{Reached, Settled, reached_at}
+use Rattle.hd_terms.specs.Settled.{Settled, reached_at}
 use Rattle.hd_state.specs.Kept.{AreKept}
+use Rattle.hd_totals.specs.Totals.{AreTotals}
 use Rattle.std.proofs.lemmas.List.{length_push}
 use Rattle.std.specs.Prelude.{count_by}
 use Rattle.std.specs.List.{range_with_len}
@@ -71,4 +70,5 @@ invariant_of-state c =
       reverse = rw (c.in_ok-try_clone.ensures, c.in_ok-try_clone-2.ensures) c.self.invariant.reverse;
       kept = rw (c.in_ok-try_clone.ensures, c.in_ok-supports.ensures.ok) kept;
       stamps = rw (c.in_ok-try_clone.ensures, c.in_ok-supports.ensures.ok) stamps;
+      totals = rw (c.in_ok-try_clone.ensures, c.in_ok-supports.ensures.ok, c.in_ok-totals-2.ensures.ok) (subst (λ (d : Dump). AreTotals d new c.in_ok-totals.totals) (sym dump_is) c.in_ok-totals.ensures);
     }
