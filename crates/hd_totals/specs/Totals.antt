@@ -9,7 +9,7 @@ use Rattle.hd_terms.specs.Dump.{Dump, object_at}
 use Rattle.hd_terms.specs.Listed.{group_key}
 use Rattle.hd_terms.specs.Records.{largest_file}
 use Rattle.hd_terms.specs.Regions.{StrengthChange, AreChanges}
-use Rattle.hd_terms.specs.Settled.{Reached, reached_at}
+use Rattle.hd_terms.specs.Settled.{Reached}
 use Rattle.hd_totals.specs.declared.total.Total.{Total}
 use Rattle.hd_totals.specs.declared.total.StrengthTotals.{StrengthTotals}
 use Rattle.hd_totals.specs.Members.{is_member, bytes_if, InRange}
