@@ -1,5 +1,5 @@
 -- Totals between two changes: those before have been moved, and those after haven't.
-use Rattle.std.proofs.Common.{◌≡◌, ◌≢◌, ◌∙◌, ℕ, zero, suc, ◌+◌, ◌<◌, ◌≤◌, ◌*◌, ◌^◌, Bool, true, false, inl, inr, List, [], ◌∷◌, length, get_or, Contains, cond, eqb, eqb-true, eq-eqb, refl, sym, ap, subst, arith}
+use Rattle.std.proofs.Common.{◌≡◌, ◌≢◌, ◌∙◌, ℕ, zero, suc, ◌+◌, ◌<◌, ◌≤◌, ◌^◌, Bool, inl, inr, List, [], ◌∷◌, length, get_or, Contains, cond, eqb, eq-eqb, refl, sym, ap, subst, arith}
 use Rattle.std.proofs.lemmas.Bool.{cases_eq, cases_lt, ne_eqb}
 use Rattle.std.proofs.lemmas.List.{get_or_default}
 use Rattle.hd_terms.specs.declared.Group.{Group}
@@ -8,11 +8,10 @@ use Rattle.hd_terms.specs.Chains.{NoneTwice}
 use Rattle.hd_terms.specs.Dump.{Dump, object_at}
 use Rattle.hd_terms.specs.Listed.{group_key}
 use Rattle.hd_terms.specs.Ranks.{rank}
-use Rattle.hd_terms.specs.Regions.{StrengthChange, AreChanges, changed_objects}
-use Rattle.hd_terms.specs.Settled.{Reached, reached_at}
+use Rattle.hd_terms.specs.Regions.{StrengthChange, changed_objects}
+use Rattle.hd_terms.specs.Settled.{Reached}
 use Rattle.hd_terms.proofs.Lower.{Contains-first, Contains-later}
 use Rattle.hd_totals.specs.Members.{InRange}
-use Rattle.hd_terms.specs.Records.{largest_file}
 use Rattle.hd_totals.specs.Running.{strength_in, plus_one, less_one, AreTotalsOf, IsRowPut}
 use Rattle.hd_totals.specs.Totals.{Totals, row_at, total_in, AreTotals, AreTotalsBefore}
 use Rattle.hd_totals.proofs.FallenLemmas.{change-of, within}

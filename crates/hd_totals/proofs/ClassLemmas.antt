@@ -1,7 +1,7 @@
 -- The rows of the groups that have objects of a strength.
-use Rattle.std.proofs.Common.{◌≡◌, ◌≢◌, ◌∙◌, ℕ, zero, suc, ◌+◌, ◌<◌, ◌≤◌, Bool, true, false, ◌&&◌, inl, inr, List, [], ◌∷◌, ◌++◌, length, map, get_or, Contains, Some, slice_get, eqb, eqb-true, eq-eqb, refl, sym, ap, subst, arith, true≢false}
+use Rattle.std.proofs.Common.{◌≡◌, ◌∙◌, ℕ, zero, suc, ◌+◌, ◌<◌, ◌≤◌, Bool, true, false, ◌&&◌, inl, inr, List, [], ◌∷◌, ◌++◌, length, map, get_or, Contains, Some, slice_get, eq-eqb, refl, sym, ap, subst, arith, true≢false}
 use Rattle.std.specs.Cmp.{nat_eq_equiv}
-use Rattle.std.specs.Prelude.{All, nat_eq, count_by, sum_by}
+use Rattle.std.specs.Prelude.{All, nat_eq, count_by}
 use Rattle.std.specs.List.{IsDistinct, list_any, range_with_len}
 use Rattle.std.specs.List.Sorted.{IsNonDecreasing, IsNonDecreasingBy, IsPermutation}
 use Rattle.std.proofs.lemmas.Bool.{cases_eq, cases_lt, ne_eqb}
@@ -19,7 +19,7 @@ use Rattle.hd_terms.specs.Dump.{Dump, object_at}
 use Rattle.hd_terms.specs.Listed.{group_key}
 use Rattle.hd_terms.specs.Settled.{Reached}
 use Rattle.hd_totals.specs.declared.total.StrengthTotals.{StrengthTotals}
-use Rattle.hd_totals.specs.Members.{has_kept, is_member, same_group, InRange}
+use Rattle.hd_totals.specs.Members.{has_kept, is_member, InRange}
 use Rattle.hd_totals.specs.Rows.{row_key, row_group, IsRowOf, AreRowsBefore, AreRowsOf, IsMemberRow, AreMemberRows}
 use Rattle.hd_totals.specs.Totals.{Totals, no_totals, total_for, total_in, row_at, place_of, AreTotals}
 use Rattle.hd_totals.proofs.GroupLemmas.{one-key, itself}
@@ -127,14 +127,14 @@ module _ (t : Totals) (s : Strength) (i : ℕ) (distinct : IsDistinct nat_eq t.k
 pub gather-step : (u t : Totals) → u ≡ t → (s : Strength) (i : ℕ) (keys : List ℕ) → keys ≡ u.keys → IsDistinct nat_eq keys → length u.rows ≡ length u.keys → i < length u.rows
     → (rows : List ClassRow) → AreRowsBefore t s i rows → (totals : StrengthTotals) → slice_get u.rows i ≡ Some totals → (key : ℕ) → slice_get keys i ≡ Some key
     → ((total_for totals s).count ≡ 0 → AreRowsBefore t s (i + 1) rows)
-        × ((row : ClassRow) → InRange row.group → group_key row.group ≡ key → row.count ≡ (total_for totals s).count → row.bytes ≡ (total_for totals s).bytes → 1 ≤ row.count → AreRowsBefore t s (i + 1) (rows ++ row ∷ []))
+    × ((row : ClassRow) → InRange row.group → group_key row.group ≡ key → row.count ≡ (total_for totals s).count → row.bytes ≡ (total_for totals s).bytes → 1 ≤ row.count → AreRowsBefore t s (i + 1) (rows ++ row ∷ []))
 gather-step u t is s i keys keys_are distinct whole lt rows h totals read key read_key = subst
     (λ (x : Totals). AreRowsBefore x s i rows → ((total_for totals s).count ≡ 0 → AreRowsBefore x s (i + 1) rows)
-        × ((row : ClassRow) → InRange row.group → group_key row.group ≡ key → row.count ≡ (total_for totals s).count → row.bytes ≡ (total_for totals s).bytes → 1 ≤ row.count → AreRowsBefore x s (i + 1) (rows ++ row ∷ []))) is
+    × ((row : ClassRow) → InRange row.group → group_key row.group ≡ key → row.count ≡ (total_for totals s).count → row.bytes ≡ (total_for totals s).bytes → 1 ≤ row.count → AreRowsBefore x s (i + 1) (rows ++ row ∷ []))) is
     (λ g. (
       λ none. row-without u s i distinct' whole lt rows g (ap (λ (x : StrengthTotals). (total_for x s).count) here ∙ none),
       λ row range key_is count_is bytes_is some.
-        row-with u s i distinct' whole lt rows g row range (key_is ∙ sym here_key) (count_is ∙ ap (λ (x : StrengthTotals). (total_for x s).count) (sym here)) (bytes_is ∙ ap (λ (x : StrengthTotals). (total_for x s).bytes) (sym here)) some,
+          row-with u s i distinct' whole lt rows g row range (key_is ∙ sym here_key) (count_is ∙ ap (λ (x : StrengthTotals). (total_for x s).count) (sym here)) (bytes_is ∙ ap (λ (x : StrengthTotals). (total_for x s).bytes) (sym here)) some,
     )) h
   where
     distinct' : IsDistinct nat_eq u.keys

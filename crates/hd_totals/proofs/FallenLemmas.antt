@@ -1,15 +1,14 @@
 -- What is counted over all objects, counted over the changes.
-use Rattle.std.proofs.Common.{◌≡◌, ◌≢◌, ◌∙◌, ℕ, zero, suc, ◌+◌, ◌<◌, ◌≤◌, Bool, true, false, ◌&&◌, true≢false, ◌⊎◌, inl, inr, List, [], ◌∷◌, map, length, get_or, take, Contains, cond, refl, sym, ap, subst, arith}
-use Rattle.std.specs.Prelude.{not, count_by}
+use Rattle.std.proofs.Common.{◌≡◌, ◌∙◌, ℕ, zero, suc, ◌<◌, Bool, true, false, true≢false, inl, inr, List, [], ◌∷◌, length, Contains, refl, sym, ap, arith}
+use Rattle.std.specs.Prelude.{count_by}
 use Rattle.std.specs.List.{range_with_len}
 use Rattle.std.proofs.lemmas.Bool.{cases_lt}
 use Rattle.std.proofs.lemmas.List.{get_or_past}
 use Rattle.hd_terms.specs.declared.Strength.{Strength}
 use Rattle.hd_terms.specs.declared.Strength.TheVariants as strengths
-use Rattle.hd_terms.specs.Chains.{NoneTwice}
 use Rattle.hd_terms.specs.Regions.{StrengthChange, AreChanges, changed_objects}
 use Rattle.hd_terms.specs.Settled.{Reached, reached_at, unreached}
-use Rattle.hd_totals.specs.Fallen.{is_unreachable, falls_to, falls_from}
+use Rattle.hd_totals.specs.Fallen.{falls_to, falls_from}
 use Rattle.hd_totals.proofs.SumLemmas.{one_if, count_cons, count-listed, cons-cases, no-element}
 
 first-change : (d : StrengthChange) (ds : List StrengthChange) → Contains (d ∷ ds) d

@@ -1,5 +1,5 @@
 -- Totals on their way: one more object is counted, or one moves to another strength.
-use Rattle.std.proofs.Common.{◌≡◌, ◌≢◌, ◌∙◌, ℕ, suc, ◌+◌, ◌*◌, ◌<◌, ◌≤◌, ◌^◌, Bool, true, false, ◌&&◌, inl, inr, List, length, Contains, cond, eqb, eq-eqb, refl, sym, ap, subst, arith, add-one}
+use Rattle.std.proofs.Common.{◌≡◌, ◌≢◌, ◌∙◌, ℕ, suc, ◌+◌, ◌*◌, ◌<◌, ◌≤◌, ◌^◌, Bool, true, false, ◌&&◌, inl, inr, List, length, Contains, cond, eqb, eq-eqb, refl, sym, ap, subst, arith}
 use Rattle.std.specs.Prelude.{count_by, sum_by}
 use Rattle.std.specs.List.{range_with_len}
 use Rattle.std.proofs.lemmas.Bool.{cases_lt}
@@ -9,7 +9,7 @@ use Rattle.hd_terms.specs.Dump.{Dump, object_at}
 use Rattle.hd_terms.specs.Listed.{group_key}
 use Rattle.hd_terms.specs.Ranks.{rank}
 use Rattle.hd_terms.specs.Records.{largest_file}
-use Rattle.hd_terms.specs.Settled.{Reached, reached_at}
+use Rattle.hd_terms.specs.Settled.{Reached}
 use Rattle.hd_totals.specs.declared.total.StrengthTotals.{StrengthTotals}
 use Rattle.hd_totals.specs.Members.{same_group, bytes_if, InRange}
 use Rattle.hd_totals.specs.Running.{counts_for, strength_in, plus_one, less_one, AreTotalsOf, IsRowPut}
@@ -63,17 +63,19 @@ module _ (dump : Dump) (strength : ℕ → Strength) (k : ℕ) (t : Totals) (h :
 
     counted : (group : Group) (s : Strength) → InRange group → (b : Bool) → same_group g group ≡ b
         → ((total_in t' group s).count ≡ (total_in t group s).count + cond (eqb (rank (strength k)) (rank s) && b) 1 0)
-            × ((total_in t' group s).bytes ≡ (total_in t group s).bytes + cond (eqb (rank (strength k)) (rank s) && b) (object_at dump k).bytes 0)
+        × ((total_in t' group s).bytes ≡ (total_in t group s).bytes + cond (eqb (rank (strength k)) (rank s) && b) (object_at dump k).bytes 0)
     counted group s r true e = subst
         (λ (x : Group). ((total_in t' x s).count ≡ (total_in t x s).count + cond (eqb (rank (strength k)) (rank s) && true) 1 0)
-            × ((total_in t' x s).bytes ≡ (total_in t x s).bytes + cond (eqb (rank (strength k)) (rank s) && true) (object_at dump k).bytes 0)) (one-group g group e)
-        (ap (λ (x : StrengthTotals). (total_for x s).count) put.here ∙ plus-count row (strength k) s (object_at dump k).bytes ∙ ap (λ (b : Bool). (total_for row s).count + cond b 1 0) (sym (and-true (eqb (rank (strength k)) (rank s)))),
-        ap (λ (x : StrengthTotals). (total_for x s).bytes) put.here ∙ plus-bytes row (strength k) s (object_at dump k).bytes ∙ ap (λ (b : Bool). (total_for row s).bytes + cond b (object_at dump k).bytes 0) (sym (and-true (eqb (rank (strength k)) (rank s)))))
+        × ((total_in t' x s).bytes ≡ (total_in t x s).bytes + cond (eqb (rank (strength k)) (rank s) && true) (object_at dump k).bytes 0)) (one-group g group e) (
+          ap (λ (x : StrengthTotals). (total_for x s).count) put.here ∙ plus-count row (strength k) s (object_at dump k).bytes ∙ ap (λ (b : Bool). (total_for row s).count + cond b 1 0) (sym (and-true (eqb (rank (strength k)) (rank s)))),
+          ap (λ (x : StrengthTotals). (total_for x s).bytes) put.here ∙ plus-bytes row (strength k) s (object_at dump k).bytes ∙ ap (λ (b : Bool). (total_for row s).bytes + cond b (object_at dump k).bytes 0) (sym (and-true (eqb (rank (strength k)) (rank s)))),
+        )
     counted group s r false e =
         let same = put.others (group_key group) (other-key g group range r e) in
-        let no : (eqb (rank (strength k)) (rank s) && false) ≡ false = and-false (eqb (rank (strength k)) (rank s)) in
-        (omega (arith, ap (λ (x : StrengthTotals). (total_for x s).count) same, ap (λ (b : Bool). cond {A = ℕ} b 1 0) no),
-        omega (arith, ap (λ (x : StrengthTotals). (total_for x s).bytes) same, ap (λ (b : Bool). cond b (object_at dump k).bytes 0) no))
+        let no : (eqb (rank (strength k)) (rank s) && false) ≡ false = and-false (eqb (rank (strength k)) (rank s)) in (
+          omega (arith, ap (λ (x : StrengthTotals). (total_for x s).count) same, ap (λ (b : Bool). cond {A = ℕ} b 1 0) no),
+          omega (arith, ap (λ (x : StrengthTotals). (total_for x s).bytes) same, ap (λ (b : Bool). cond b (object_at dump k).bytes 0) no),
+        )
 
     next : k + 1 ≡ suc k
     next = omega arith
@@ -125,40 +127,42 @@ module _ (dump : Dump) (strength : ℕ → Strength) (k : ℕ) (t : Totals) (h :
         (put : IsRowPut t t' (group_key group_is) (plus_one (less_one totals_are (strength o) size) (strength' o) size)) where
       moved : (group : Group) (s : Strength) → InRange group → (b : Bool) → same_group group_is group ≡ b
           → ((total_in t' group s).count + cond (eqb (rank (strength o)) (rank s) && b) 1 0 ≡ (total_in t group s).count + cond (eqb (rank (strength' o)) (rank s) && b) 1 0)
-              × ((total_in t' group s).bytes + cond (eqb (rank (strength o)) (rank s) && b) size 0 ≡ (total_in t group s).bytes + cond (eqb (rank (strength' o)) (rank s) && b) size 0)
+          × ((total_in t' group s).bytes + cond (eqb (rank (strength o)) (rank s) && b) size 0 ≡ (total_in t group s).bytes + cond (eqb (rank (strength' o)) (rank s) && b) size 0)
       moved group s r true e = subst
           (λ (x : Group). ((total_in t' x s).count + cond (eqb (rank (strength o)) (rank s) && true) 1 0 ≡ (total_in t x s).count + cond (eqb (rank (strength' o)) (rank s) && true) 1 0)
-              × ((total_in t' x s).bytes + cond (eqb (rank (strength o)) (rank s) && true) size 0 ≡ (total_in t x s).bytes + cond (eqb (rank (strength' o)) (rank s) && true) size 0)) (one-group group_is group e)
-          (omega (
-            arith,
-            ap (λ (x : StrengthTotals). (total_for x s).count) put.here,
-            plus-count (less_one totals_are (strength o) size) (strength' o) s size,
-            less-count totals_are (strength o) s size one-there,
-            ap (λ (b : Bool). cond {A = ℕ} b 1 0) (and-true (eqb (rank (strength o)) (rank s))),
-            ap (λ (b : Bool). cond {A = ℕ} b 1 0) (and-true (eqb (rank (strength' o)) (rank s))),
-          ),
-          omega (
-            arith,
-            ap (λ (x : StrengthTotals). (total_for x s).bytes) put.here,
-            plus-bytes (less_one totals_are (strength o) size) (strength' o) s size,
-            less-bytes totals_are (strength o) s size bytes-there,
-            ap (λ (b : Bool). cond b size 0) (and-true (eqb (rank (strength o)) (rank s))),
-            ap (λ (b : Bool). cond b size 0) (and-true (eqb (rank (strength' o)) (rank s))),
-          ))
+          × ((total_in t' x s).bytes + cond (eqb (rank (strength o)) (rank s) && true) size 0 ≡ (total_in t x s).bytes + cond (eqb (rank (strength' o)) (rank s) && true) size 0)) (one-group group_is group e) (
+            omega (
+              arith,
+              ap (λ (x : StrengthTotals). (total_for x s).count) put.here,
+              plus-count (less_one totals_are (strength o) size) (strength' o) s size,
+              less-count totals_are (strength o) s size one-there,
+              ap (λ (b : Bool). cond {A = ℕ} b 1 0) (and-true (eqb (rank (strength o)) (rank s))),
+              ap (λ (b : Bool). cond {A = ℕ} b 1 0) (and-true (eqb (rank (strength' o)) (rank s))),
+            ),
+            omega (
+              arith,
+              ap (λ (x : StrengthTotals). (total_for x s).bytes) put.here,
+              plus-bytes (less_one totals_are (strength o) size) (strength' o) s size,
+              less-bytes totals_are (strength o) s size bytes-there,
+              ap (λ (b : Bool). cond b size 0) (and-true (eqb (rank (strength o)) (rank s))),
+              ap (λ (b : Bool). cond b size 0) (and-true (eqb (rank (strength' o)) (rank s))),
+            ),
+          )
       moved group s r false e =
-          let same = put.others (group_key group) (other-key group_is group (h.in_range o lt) r e) in
-          (omega (
-            arith,
-            ap (λ (x : StrengthTotals). (total_for x s).count) same,
-            ap (λ (b : Bool). cond {A = ℕ} b 1 0) (and-false (eqb (rank (strength o)) (rank s))),
-            ap (λ (b : Bool). cond {A = ℕ} b 1 0) (and-false (eqb (rank (strength' o)) (rank s))),
-          ),
-          omega (
-            arith,
-            ap (λ (x : StrengthTotals). (total_for x s).bytes) same,
-            ap (λ (b : Bool). cond b size 0) (and-false (eqb (rank (strength o)) (rank s))),
-            ap (λ (b : Bool). cond b size 0) (and-false (eqb (rank (strength' o)) (rank s))),
-          ))
+          let same = put.others (group_key group) (other-key group_is group (h.in_range o lt) r e) in (
+            omega (
+              arith,
+              ap (λ (x : StrengthTotals). (total_for x s).count) same,
+              ap (λ (b : Bool). cond {A = ℕ} b 1 0) (and-false (eqb (rank (strength o)) (rank s))),
+              ap (λ (b : Bool). cond {A = ℕ} b 1 0) (and-false (eqb (rank (strength' o)) (rank s))),
+            ),
+            omega (
+              arith,
+              ap (λ (x : StrengthTotals). (total_for x s).bytes) same,
+              ap (λ (b : Bool). cond b size 0) (and-false (eqb (rank (strength o)) (rank s))),
+              ap (λ (b : Bool). cond b size 0) (and-false (eqb (rank (strength' o)) (rank s))),
+            ),
+          )
 
       agrees : (group : Group) (s : Strength) (x : ℕ) → x ≢ o → counts_for dump strength group s x ≡ counts_for dump strength' group s x
       agrees group s x other = ap (λ (a : Strength). eqb (rank a) (rank s) && same_group (object_at dump x).group group) (others x other)

@@ -1,5 +1,5 @@
 -- Sums and counts over the numbers below a bound.
-use Rattle.std.proofs.Common.{◌≡◌, ◌≢◌, ◌∙◌, ℕ, zero, suc, ◌+◌, ◌<◌, ◌≤◌, ◌*◌, Bool, true, false, ◌&&◌, true≢false, ◌⊎◌, inl, inr, List, [], ◌∷◌, ◌++◌, Contains, cond, length, refl, sym, ap, subst, arith, zero-add, add-zero, eq-eqb}
+use Rattle.std.proofs.Common.{◌≡◌, ◌≢◌, ◌∙◌, ℕ, zero, suc, ◌+◌, ◌<◌, ◌≤◌, ◌*◌, Bool, true, false, ◌&&◌, true≢false, ◌⊎◌, inl, inr, List, [], ◌∷◌, ◌++◌, Contains, cond, refl, sym, ap, subst, arith, zero-add, add-zero, eq-eqb}
 use Rattle.std.specs.Prelude.{not, nat_eq, sum_by, count_by}
 use Rattle.std.specs.List.{range_with_len}
 use Rattle.std.proofs.lemmas.Bool.{cases_eq, ne_eqb}

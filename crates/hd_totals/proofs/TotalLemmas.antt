@@ -1,6 +1,5 @@
 -- The totals of strengths: one is put, and the others stay.
-use Rattle.std.proofs.Common.{◌≡◌, ◌∙◌, ℕ, zero, suc, ◌+◌, ◌-◌, ◌<◌, ◌≤◌, Bool, true, false, cond, eqb, eqb-true, eq-eqb, refl, sym, ap, arith, add-zero}
-use Rattle.std.proofs.lemmas.Bool.{cases_eq, ne_eqb}
+use Rattle.std.proofs.Common.{◌≡◌, ◌∙◌, ℕ, zero, suc, ◌+◌, ◌≤◌, Bool, true, false, cond, eqb, eqb-true, refl, sym, ap, arith, add-zero}
 use Rattle.hd_terms.specs.declared.Strength.{Strength}
 use Rattle.hd_terms.specs.declared.Strength.TheVariants as strengths
 use Rattle.hd_terms.specs.Ranks.{rank}

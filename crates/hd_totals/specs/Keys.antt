@@ -1,6 +1,6 @@
 -- The keys of groups, each once.
 -- Source: this project.
-use Rattle.std.specs.Prelude.{◌≡◌, ℕ, ◌≤◌, nat_eq, if◌then◌else◌, All, List, [], ◌∷◌, ◌++◌}
+use Rattle.std.specs.Prelude.{ℕ, ◌≤◌, nat_eq, if◌then◌else◌, All, List, [], ◌∷◌, ◌++◌}
 use Rattle.std.specs.List.{IsDistinct, list_any}
 
 -- a key is added, if it isn't there

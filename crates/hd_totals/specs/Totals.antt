@@ -9,7 +9,7 @@ use Rattle.hd_terms.specs.Dump.{Dump, object_at}
 use Rattle.hd_terms.specs.Listed.{group_key}
 use Rattle.hd_terms.specs.Records.{largest_file}
 use Rattle.hd_terms.specs.Regions.{StrengthChange, AreChanges}
-use Rattle.hd_terms.specs.Settled.{Reached, reached_at}
+use Rattle.hd_terms.specs.Settled.{Reached}
 use Rattle.hd_totals.specs.declared.total.Total.{Total}
 use Rattle.hd_totals.specs.declared.total.StrengthTotals.{StrengthTotals}
 use Rattle.hd_totals.specs.Members.{is_member, bytes_if, InRange}
@@ -48,7 +48,7 @@ plus_object total bytes = record { count = total.count + 1; bytes = total.bytes 
 abbrev pub less_object : Total → ℕ → Total
 less_object total bytes = record { count = total.count - 1; bytes = total.bytes - bytes }
 
--- the totals of groups: the keys of the groups, each once, and the totals of each, in the same order
+-- the totals of groups: the keys of the groups, and the totals of each, in the same order
 pub record Totals : Type 0 where
   pub keys : List ℕ
   pub rows : List StrengthTotals
@@ -65,7 +65,8 @@ row_at t key = slice_index_or t.rows (place_of t key) no_totals
 abbrev pub total_in : Totals → Group → Strength → Total
 total_in t group s = total_for (row_at t (group_key group)) s
 
--- the totals of the objects of a dump, by what is kept of them
+-- the totals of the objects of a dump, by what is kept of them: each group of an object is there. The objects are few, and no
+-- file holds more bytes than one may record, so that no total is too great
 pub record AreTotals (dump : Dump) (ks : List Reached) (t : Totals) : Type 0 where
   pub counts : (group : Group) (s : Strength) → InRange group → (total_in t group s).count ≡ count_by (is_member dump ks group s) (range_with_len 0 (length dump.objects))
   pub bytes : (group : Group) (s : Strength) → InRange group → (total_in t group s).bytes ≡ sum_by (bytes_if dump (is_member dump ks group s)) (range_with_len 0 (length dump.objects))

@@ -164,7 +164,8 @@ impl GroupTotals {
         Ok(())
     }
 
-    /// Moves each changed object from the total of its strength before to that of its strength after.
+    /// Moves each changed object from the total of its strength before to that of its strength after. The totals are those of
+    /// what was kept before the changes, and become those of what is kept after them.
     ///
     /// # Errors
     ///

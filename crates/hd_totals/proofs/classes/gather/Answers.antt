@@ -1,7 +1,7 @@
-use Rattle.std.proofs.Common.{◌≡◌, ◌∙◌, ◌+◌, ◌<◌, ◌≤◌, ℕ, List, [], ◌∷◌, ◌++◌, length, ap, sym, refl, subst, arith}
+use Rattle.std.proofs.Common.{◌≡◌, ◌∙◌, ◌+◌, ◌<◌, List, [], ◌∷◌, ◌++◌, length, ap, sym, subst, arith}
 use Rattle.hd_terms.specs.declared.ClassRow.{ClassRow}
 use Rattle.hd_totals.specs.Rows.{AreRowsBefore}
-use Rattle.hd_totals.specs.Totals.{Totals, total_for}
+use Rattle.hd_totals.specs.Totals.{Totals}
 use Rattle.hd_totals.specs.contracts.group_totals.GroupTotals.{the_view}
 use Rattle.hd_totals.proofs.ClassLemmas.{no-rows, gather-step}
 use Rattle.hd_totals.proofs.classes.gather.Goals as goal

@@ -1,4 +1,4 @@
-use Rattle.std.proofs.Common.{◌≡◌, ◌∙◌, ◌≤◌, length, ap, sym, arith}
+use Rattle.std.proofs.Common.{◌∙◌, ◌≤◌, length, ap, sym, arith}
 use Rattle.std.specs.Prelude.{count_by}
 use Rattle.std.proofs.lemmas.List.{take_all}
 use Rattle.hd_terms.specs.Regions.{StrengthChange}

@@ -1,9 +1,8 @@
-use Rattle.std.proofs.Common.{◌≡◌, ◌∙◌, length, get_or, ap, sym, subst}
+use Rattle.std.proofs.Common.{◌≡◌, ◌∙◌, ap, subst}
 use Rattle.std.proofs.Math.ListN.{set}
-use Rattle.std.proofs.lemmas.List.{get_or_default}
 use Rattle.hd_totals.specs.declared.total.StrengthTotals.{StrengthTotals}
 use Rattle.hd_totals.specs.Running.{IsRowPut, plus_one}
-use Rattle.hd_totals.specs.Totals.{Totals, no_totals, row_at}
+use Rattle.hd_totals.specs.Totals.{Totals, row_at}
 use Rattle.hd_totals.proofs.RowLemmas.{put-placed}
 use Rattle.hd_totals.proofs.group_totals.count_object.Goals as goal
 

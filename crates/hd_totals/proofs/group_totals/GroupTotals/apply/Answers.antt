@@ -1,4 +1,4 @@
-use Rattle.std.proofs.Common.{◌≡◌, ◌∙◌, ◌<◌, ◌≤◌, ℕ, length, get_or, ap, subst, sym, arith}
+use Rattle.std.proofs.Common.{◌∙◌, ◌<◌, ◌≤◌, ℕ, length, ap, subst, sym, arith}
 use Rattle.hd_terms.specs.Dump.{object_at}
 use Rattle.hd_terms.specs.Regions.{StrengthChange}
 use Rattle.hd_totals.proofs.ChangeLemmas.{IsReady, none-done, change-within, ready, one-done-with, all-done}
@@ -35,8 +35,8 @@ move_object-requires c =
     let o_is' = ap (λ (o : ℕ). (object_at dump o).bytes) (c.object-in-loop-change.ensures ∙ ap (λ (x : StrengthChange). x.object) c.change-item.is) in
     let f : IsReady c.loop-change.self c.group_of-group.result c.bytes_of-bytes.result c.before-in-loop-change.result c.after.result =
     ready dump c.args.self.now changes r.before r.after r.are i d lt c.loop-change.self (c.loop-change.invariant r.before r.after r.are)
-        c.group_of-group.result (c.group_of-group.ensures ∙ o_is) c.bytes_of-bytes.result (c.bytes_of-bytes.ensures.bytes ∙ o_is')
-        c.before-in-loop-change.result (c.before-in-loop-change.ensures ∙ ap (λ (x : StrengthChange). x.before) c.change-item.is) c.after.result (c.after.ensures ∙ ap (λ (x : StrengthChange). x.after) c.change-item.is) in
+    c.group_of-group.result (c.group_of-group.ensures ∙ o_is) c.bytes_of-bytes.result (c.bytes_of-bytes.ensures.bytes ∙ o_is')
+    c.before-in-loop-change.result (c.before-in-loop-change.ensures ∙ ap (λ (x : StrengthChange). x.before) c.change-item.is) c.after.result (c.after.ensures ∙ ap (λ (x : StrengthChange). x.after) c.change-item.is) in
     record { there = f.there; count = f.count; bytes = f.size; count_room = f.count_room; bytes_room = f.size_room }
 
 pub loop-change-preserved : goal.loop-change-preserved

@@ -17,4 +17,4 @@ returns-clause-members c =
     let sorted = c.sort_unstable_by_key.new.self.items in
     member-rows c.args.self.now c.args.strength sorted
     (rows-of c.args.self.now c.args.strength c.in_ok-rows.ensures.whole rows sorted c.in_ok-rows.ensures.rows c.sort_unstable_by_key.ensures.permutation
-        (IsNonDecreasingBy-from_sort_by_key row_key sorted c.sort_unstable_by_key.ensures.sorted (λ a r q k. search rules)))
+    (IsNonDecreasingBy-from_sort_by_key row_key sorted c.sort_unstable_by_key.ensures.sorted (λ a r q k. search rules)))
