@@ -12,9 +12,9 @@ use Rattle.hd_terms.specs.Counts.{counts_of}
 use Rattle.hd_terms.specs.Totals.{IsTotal}
 use Rattle.hd_terms.specs.Replies.{with_newline}
 use Rattle.hd_terms.specs.Stat.{IsStat, count_lines, total_line, total_lines}
-use Rattle.hd_state.specs.declared.totals.Total.{Total}
-use Rattle.hd_state.specs.declared.totals.StrengthTotals.{StrengthTotals}
-use Rattle.hd_state.specs.Totals.{total_for}
+use Rattle.hd_totals.specs.declared.total.Total.{Total}
+use Rattle.hd_totals.specs.declared.total.StrengthTotals.{StrengthTotals}
+use Rattle.hd_totals.specs.Totals.{total_for}
 use Rattle.hd_protocol.specs.declared.run.RunFault.{RunFault}
 use Rattle.hd_protocol.specs.declared.run.RunFault.TheVariants as faults
 use Rattle.hd_protocol.specs.declared.serving.ServeFault.TheVariants as serve_faults

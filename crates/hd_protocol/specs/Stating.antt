@@ -8,7 +8,7 @@ use Rattle.hd_terms.specs.Dump.{Dump}
 use Rattle.hd_terms.specs.Objects.{IsDumpOf}
 use Rattle.hd_terms.specs.ReadFaults.{fault, IsReadFault}
 use Rattle.hd_terms.specs.Stat as stat
-use Rattle.hd_state.specs.declared.totals.Total.{Total}
+use Rattle.hd_totals.specs.declared.total.Total.{Total}
 use Rattle.hd_protocol.specs.declared.run.RunFault.{RunFault}
 use Rattle.hd_protocol.specs.declared.run.RunFault.TheVariants as faults
 use Rattle.hd_protocol.specs.declared.serving.ServeFault.TheVariants as serve_faults

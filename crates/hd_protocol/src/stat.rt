@@ -5,15 +5,16 @@ ghost use Rattle.hd_terms.specs.Workers.{IsWorkers};
 ghost use Rattle.hd_terms.specs.declared.Strength.{Strength as OneStrength};
 ghost use Rattle.hd_terms.specs.Replies.{with_newline, strength_name};
 ghost use Rattle.hd_terms.specs.Stat.{IsStat, count_lines, repeated_line, total_line, total_lines};
-ghost use Rattle.hd_state.specs.Totals.{total_for};
+ghost use Rattle.hd_totals.specs.Totals.{total_for};
 ghost use Rattle.hd_protocol.specs.Running.{IsOpenFault};
 ghost use Rattle.hd_protocol.specs.Stating.{IsStatOf, StatsDump, shown_total};
 
 use crate::run::{RunFault, open_bytes};
 use crate::serving::{flush, put_all};
 use hd_graph::Graph;
-use hd_state::{StrengthTotals, Total, opening_totals};
+use hd_state::opening_totals;
 use hd_terms::{Counts, Mode, NoMemory, Strength};
+use hd_totals::{StrengthTotals, Total};
 use hd_words::strength_text;
 use std::alloc::{AllocError, Global};
 use std::fmt::Write as _;

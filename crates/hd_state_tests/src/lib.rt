@@ -10,11 +10,7 @@ pub mod dumps;
 mod graph_tests;
 #[cfg(test)]
 mod log_tests;
-#[cfg(test)]
-mod page_tests;
 pub mod random;
-#[cfg(test)]
-mod random_tests;
 #[cfg(test)]
 mod repair_tests;
 #[cfg(test)]
