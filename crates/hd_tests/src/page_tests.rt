@@ -58,6 +58,20 @@ fn versions_of_a_list(rt: HostRuntime) -> Result<(), Fail> {
 }
 
 #[test]
+fn versions_share_pages(rt: HostRuntime) -> Result<(), Fail> {
+    let items = vec![in rt.alloc(); 7u64; 2049]?;
+    let first = Pages::of_vec(rt.alloc(), items)?;
+    let mut second = first.share(rt.alloc())?;
+    put(&mut second, 2048, 8)?;
+    assert_eq!(rt; (first.len(), second.len()), (2049, 2049));
+    assert_eq!(rt; (at(&first, 2048), at(&second, 2048)), (Some(7), Some(8)));
+    assert_eq!(rt; (at(&first, 2047), at(&second, 2047)), (Some(7), Some(7)));
+    assert_eq!(rt; (at(&first, 0), at(&second, 0)), (Some(7), Some(7)));
+    assert_eq!(rt; at(&second, 2049), None);
+    Ok(())
+}
+
+#[test]
 fn list_without_items(rt: HostRuntime) -> Result<(), Fail> {
     let list: Pages<u64> = Pages::of_vec(rt.alloc(), Vec::new(rt.alloc()))?;
     assert_eq!(rt; list.share(rt.alloc())?.len(), 0);
