@@ -4,7 +4,7 @@ use crate::classes::{Repeats, read_layouts};
 use crate::numbers::Numbers;
 use crate::objects::find_objects;
 use crate::records::{read_id_len, read_records};
-use crate::rows::{Row, Rows, fill_rows};
+use crate::rows::{Rows, fill_rows};
 use crate::shares::share_out;
 use std::fs::File;
 use std::io;
@@ -26,14 +26,6 @@ pub struct Graph {
     pub classes: Vec<ClassRow>,
     pub roots: Vec<u64>,
     pub repeats: Repeats,
-}
-
-impl Graph {
-    /// The recorded bytes of an object.
-    pub fn bytes(&self, row: Row) -> u64 {
-        let class_bytes = |class: u32| self.classes[class as usize].bytes;
-        u64::from(row.kind().map_or_else(|bytes| bytes, class_bytes))
-    }
 }
 
 /// Opens a dump, and tells when each pass has ended.

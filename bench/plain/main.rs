@@ -62,7 +62,7 @@ fn main() -> io::Result<()> {
     let began = Instant::now();
     let passed = |what: &str| eprintln!("{what} {:.3}", began.elapsed().as_secs_f64());
     let graph = open(&words[1], workers, passed)?;
-    let reached = black_box(reach(&graph));
+    let reached = black_box(reach(&graph, workers));
     passed("strengths");
     print_counts(&graph);
     print_totals(&graph, &reached);
