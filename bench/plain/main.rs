@@ -10,11 +10,11 @@
 //! totals; counts.
 //!
 //! What it keeps of an object is a bit at its ID, a row of 8 bytes, its references to other objects but that to its
-//! class at 4 bytes each, and its support with its place in the order of the search at 12 bytes. IDs that no object
-//! has are counted and not kept.
+//! class at 4 bytes each, and if it is reached 8 bytes in the order of the search, with the source of its support.
+//! Nulls and IDs that no object has are counted and not kept.
 //!
-//! WORKERS is how many threads walk over the segments at once, one without it. What is printed on standard output
-//! doesn't depend on it.
+//! WORKERS is how many threads walk over the segments at once, and search where many objects are at one distance; one
+//! without it. What is printed on standard output doesn't depend on it.
 //!
 //! It believes that the file is right, and ends with a panic where it isn't. It prints the lines of `hdesk stat FILE`,
 //! and then for each ID, which begins with `0x`, a line: the ID and its strength. Standard error gets when each pass

@@ -111,6 +111,11 @@ pub fn find_objects<const ID: usize>(
     let ended = run_workers(tasks, workers, begin, |worker: &mut Worker, (i, share)| {
         worker.walk_share::<ID>(i, share);
     });
+    gather(ended)
+}
+
+/// What all workers have found, in file order.
+fn gather(ended: Vec<Worker>) -> io::Result<Objects> {
     let (mut pages, mut walked, mut met) = (Vec::new(), Vec::new(), 0);
     for worker in ended {
         worker.failed?;

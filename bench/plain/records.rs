@@ -72,36 +72,40 @@ pub fn read_id_len(file: &File, file_len: usize) -> io::Result<usize> {
     Ok(number(&header[19..]))
 }
 
+impl Records {
+    /// Adds a text, of which these are the bytes of its record.
+    fn add_text<const ID: usize>(&mut self, bytes: &[u8]) {
+        self.texts.push(Text {
+            id: read_id::<ID>(bytes),
+            name: Name::of(&bytes[ID..]),
+        });
+    }
+
+    /// Adds a loaded class.
+    fn add_load<const ID: usize>(&mut self, bytes: &[u8]) {
+        self.loads.push(Load {
+            class: read_id::<ID>(&bytes[4..]),
+            name: read_id::<ID>(&bytes[8 + ID..]),
+        });
+    }
+}
+
 /// Reads the records, and of the texts and the loaded classes their bodies too.
 pub fn read_records<const ID: usize>(file: &File, file_len: usize) -> io::Result<Records> {
     let mut window = Window::new(file, PART_LEN);
     let (mut records, mut at) = (Records::default(), HEADER_LEN);
     while at < file_len {
         let head = window.bytes(at, RECORD_HEAD_LEN, file_len)?;
-        let (tag, body) = (head[0], at + RECORD_HEAD_LEN);
-        let len = number(&head[5..]);
-        let end = body + len;
+        let (tag, body, len) = (head[0], at + RECORD_HEAD_LEN, number(&head[5..]));
+        at = body + len;
         let is_read = matches!(tag, 0x01 | 0x02 | 0x0c | 0x1c);
-        assert!(!is_read || end <= file_len);
+        assert!(!is_read || at <= file_len);
         match tag {
-            0x01 => {
-                let bytes = &window.bytes(body, len, file_len)?[..len];
-                records.texts.push(Text {
-                    id: read_id::<ID>(bytes),
-                    name: Name::of(&bytes[ID..]),
-                });
-            }
-            0x02 => {
-                let bytes = &window.bytes(body, len, file_len)?[..len];
-                records.loads.push(Load {
-                    class: read_id::<ID>(&bytes[4..]),
-                    name: read_id::<ID>(&bytes[8 + ID..]),
-                });
-            }
-            0x0c | 0x1c => records.segments.push(body..end),
+            0x01 => records.add_text::<ID>(&window.bytes(body, len, file_len)?[..len]),
+            0x02 => records.add_load::<ID>(&window.bytes(body, len, file_len)?[..len]),
+            0x0c | 0x1c => records.segments.push(body..at),
             _ => {}
         }
-        at = end;
     }
     Ok(records)
 }

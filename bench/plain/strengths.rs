@@ -3,8 +3,8 @@
 //!
 //! What is reached stands in the order in which it was reached, each object with the source of its support. So all
 //! objects of a rank stand in sequence, a place in the order is an object's stamp, and only a bit for each object is
-//! looked up and written here and there. Where many objects are at hand several workers share them; then the order among
-//! those at one distance varies from run to run, but no distance and no strength does.
+//! looked up and written here and there. Where many objects are at hand several workers share them; then the order
+//! among those at one distance varies from run to run, but no distance and no strength does.
 
 use crate::graph::Graph;
 use crate::memory::{shared, zeros_u64};
@@ -101,8 +101,8 @@ impl<'a> Finder<'a> {
         self.found = 0;
     }
 
-    /// Reaches an object, unless it is reached already. What is noted stands only if it wasn't. ALONE says that no other
-    /// worker is there.
+    /// Reaches an object, unless it is reached already. What is noted stands only if it wasn't. ALONE says that no
+    /// other worker is there.
     #[inline(always)]
     fn reach<const ALONE: bool>(&mut self, object: u32, source: u32) {
         let word = &self.search.is_reached[object as usize / 64];
