@@ -1,18 +1,19 @@
-//! Classes: their names, the chains of their super classes, and the layouts of their instances.
+//! Classes: what their names mean, the chains of their super classes, and the layouts of their instances.
 
+use crate::class_dump::{Class, Field};
 use crate::ids::{Ids, first_of_each};
-use crate::records::{Load, Records, Text};
-use crate::subs::{Class, Field, Subs};
-use crate::values::{FINAL, PHANTOM, SOFT, WEAK, is_id_type, value_len};
+use crate::records::{Load, Name, Records, Text};
+use crate::values::{is_id_type, value_len};
 
 /// What instances of a class look like, as far as the whole chain of its super classes is there.
+#[derive(Default)]
 pub struct Layout {
     pub is_whole: bool,
     /// The bytes of an instance's values.
     pub bytes: u32,
-    /// Where its values lie that are IDs, from the first value on.
+    /// Where its values lie that are IDs, from the first value on, but for the referent.
     pub references: Vec<u32>,
-    /// The place of the referent among these, and the rank that it gives.
+    /// Where the referent lies, and the rank that it gives.
     pub referent: Option<(u32, u8)>,
 }
 
@@ -24,6 +25,7 @@ pub struct Layouts {
 
 impl Layouts {
     /// The number of a class, where its layout is known.
+    #[inline]
     pub fn number(&self, class: u64) -> Option<u32> {
         let number = self.ids.get(class)?;
         self.layouts[number as usize].is_whole.then_some(number)
@@ -40,19 +42,17 @@ pub struct Repeats {
 
 /// The texts and the names of classes, by IDs.
 struct Names<'a> {
-    pub bytes: &'a [u8],
-    pub text_ids: Ids,
-    pub texts: Vec<&'a Text>,
-    pub load_ids: Ids,
-    pub loads: Vec<&'a Load>,
+    text_ids: Ids,
+    texts: Vec<&'a Text>,
+    load_ids: Ids,
+    loads: Vec<&'a Load>,
 }
 
 impl<'a> Names<'a> {
-    pub fn new(bytes: &'a [u8], records: &'a Records) -> Names<'a> {
+    fn new(records: &'a Records) -> Names<'a> {
         let (text_ids, texts) = first_of_each(records.texts.iter(), |text| text.id);
         let (load_ids, loads) = first_of_each(records.loads.iter(), |load| load.class);
         Names {
-            bytes,
             text_ids,
             texts,
             load_ids,
@@ -60,102 +60,80 @@ impl<'a> Names<'a> {
         }
     }
 
-    pub fn text(&self, id: u64) -> Option<&'a [u8]> {
-        let text = self.texts[self.text_ids.get(id)? as usize];
-        Some(&self.bytes[text.span.clone()])
+    /// What the text with an ID is.
+    fn text(&self, id: u64) -> Name {
+        let number = self.text_ids.get(id);
+        number.map_or(Name::Other, |i| self.texts[i as usize].name)
     }
 
-    /// Whether a class has a name, which is written with slashes here.
-    fn is_named(&self, class: u64, name: &str) -> bool {
-        let load = self.load_ids.get(class).map(|i| self.loads[i as usize]);
-        let text = load.and_then(|load| self.text(load.name));
-        text.is_some_and(|text| {
-            let slashed = |byte: &u8| if *byte == b'.' { b'/' } else { *byte };
-            text.iter().map(slashed).eq(name.bytes())
-        })
+    /// What the name of a class is.
+    fn class(&self, class: u64) -> Name {
+        let number = self.load_ids.get(class);
+        number.map_or(Name::Other, |i| self.text(self.loads[i as usize].name))
     }
 
     /// The rank that the referents of a class's instances get, if the class is one of the four that give one.
     fn rank_given(&self, class: u64) -> Option<u8> {
-        let kinds = [
-            ("java/lang/ref/SoftReference", SOFT),
-            ("java/lang/ref/WeakReference", WEAK),
-            ("java/lang/ref/FinalReference", FINAL),
-            ("java/lang/ref/PhantomReference", PHANTOM),
-        ];
-        let kind = kinds.iter().find(|(name, _)| self.is_named(class, name));
-        kind.map(|(_, rank)| *rank)
+        match self.class(class) {
+            Name::Giver(rank) => Some(rank),
+            _ => None,
+        }
     }
 
     /// Where the referent stands among the fields of a class, if the class is the one that declares it.
     fn referent_field(&self, class: &Class) -> Option<usize> {
-        if !self.is_named(class.id, "java/lang/ref/Reference") {
+        if self.class(class.id) != Name::Reference {
             return None;
         }
         let is_referent =
-            |field: &Field| is_id_type(field.code) && self.text(field.name) == Some(b"referent");
+            |field: &Field| is_id_type(field.code) && self.text(field.name) == Name::Referent;
         class.fields.iter().position(is_referent)
     }
 }
 
-/// The class and those above it, and whether none is missing.
-fn chain<'a>(ids: &Ids, classes: &[&'a Class], class: &'a Class) -> (Vec<&'a Class>, bool) {
+/// The class and those above it, where none of these is missing.
+fn chain<'a>(ids: &Ids, classes: &[&'a Class], class: &'a Class) -> Option<Vec<&'a Class>> {
     let mut chain = vec![class];
     let mut above = class.super_id;
     while above != 0 {
-        let Some(number) = ids.get(above) else {
-            return (chain, false);
-        };
+        let class = classes[ids.get(above)? as usize];
         if chain.len() > classes.len() {
-            return (chain, false);
+            return None;
         }
-        chain.push(classes[number as usize]);
-        above = classes[number as usize].super_id;
+        chain.push(class);
+        above = class.super_id;
     }
-    (chain, true)
+    Some(chain)
 }
 
 /// The layout of a class whose chain is whole.
 fn layout(names: &Names, id_len: usize, chain: &[&Class]) -> Layout {
-    let (mut bytes, mut references, mut referent) = (0, Vec::new(), None);
+    let rank = chain.iter().find_map(|class| names.rank_given(class.id));
+    let mut layout = Layout {
+        is_whole: true,
+        ..Layout::default()
+    };
     for class in chain {
-        let field_of_referent = names.referent_field(class);
+        let referent = rank.and_then(|_| names.referent_field(class));
         for (i, field) in class.fields.iter().enumerate() {
-            if referent.is_none() && field_of_referent == Some(i) {
-                referent = Some(references.len() as u32);
+            if layout.referent.is_none() && referent == Some(i) {
+                layout.referent = rank.map(|rank| (layout.bytes, rank));
+            } else if is_id_type(field.code) {
+                layout.references.push(layout.bytes);
             }
-            if is_id_type(field.code) {
-                references.push(bytes);
-            }
-            bytes += value_len(field.code, id_len) as u32;
+            layout.bytes += value_len(field.code, id_len) as u32;
         }
     }
-    let rank = chain.iter().find_map(|class| names.rank_given(class.id));
-    Layout {
-        is_whole: true,
-        bytes,
-        references,
-        referent: referent.zip(rank),
-    }
+    layout
 }
 
-pub fn read_layouts(
-    bytes: &[u8],
-    id_len: usize,
-    records: &Records,
-    lists: &[Subs],
-) -> (Layouts, Repeats) {
-    let names = Names::new(bytes, records);
-    let all_classes = lists.iter().flat_map(|subs| &subs.classes);
-    let (ids, classes) = first_of_each(all_classes, |class| class.id);
-    let layout = |class: &&Class| match chain(&ids, &classes, class) {
-        (chain, true) => layout(&names, id_len, &chain),
-        (_, false) => Layout {
-            is_whole: false,
-            bytes: 0,
-            references: Vec::new(),
-            referent: None,
-        },
+/// The layouts of the classes, the first of each ID, and how many texts and loads are repeated.
+pub fn read_layouts(id_len: usize, records: &Records, classes: &[Class]) -> (Layouts, Repeats) {
+    let names = Names::new(records);
+    let (ids, classes) = first_of_each(classes.iter(), |class| class.id);
+    let layout = |class: &&Class| {
+        let chain = chain(&ids, &classes, class);
+        chain.map_or_else(Layout::default, |chain| layout(&names, id_len, &chain))
     };
     let layouts = classes.iter().map(layout).collect();
     let repeats = Repeats {

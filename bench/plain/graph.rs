@@ -1,86 +1,73 @@
 //! A dump as it is kept, and how it is opened.
 
-use crate::classes::{Layout, Repeats, read_layouts};
-use crate::ids::Ids;
-use crate::numbering::number_objects;
-use crate::records::read_records;
-use crate::slots::{ABSENT, Shape, Slots, Source, number_absent, read_slots, resolve};
-use crate::subs::read_segments;
-use crate::values::number;
+use crate::classes::{Repeats, read_layouts};
+use crate::numbers::Numbers;
+use crate::objects::find_objects;
+use crate::records::{read_id_len, read_records};
+use crate::rows::{Rows, fill_rows};
+use crate::shares::share_out;
 use std::fs::File;
-use std::io::{self, Read};
+use std::io;
+
+/// A file is shorter than this, so that places in it and numbers of objects leave a bit.
+const LEN_LIMIT: usize = 1 << 31;
+
+/// What is kept of a class: its recorded bytes, and the number of its class object.
+#[derive(Clone, Copy)]
+pub struct ClassRow {
+    pub bytes: u32,
+    pub object: u32,
+}
 
 /// A dump as it is kept.
 pub struct Graph {
-    pub ids: Ids,
-    pub slots: Slots,
-    pub layouts: Vec<Layout>,
+    pub numbers: Numbers,
+    pub rows: Rows,
+    pub classes: Vec<ClassRow>,
     pub roots: Vec<u64>,
     pub repeats: Repeats,
-    pub opaque: u64,
 }
 
-impl Graph {
-    /// The place of an object's referent, and the rank that it gives.
-    pub fn referent(&self, object: u32) -> Option<(u32, u8)> {
-        let Shape::Instance { class } = self.slots.shapes[object as usize] else {
-            return None;
-        };
-        let (place, rank) = self.layouts[class as usize].referent?;
-        Some((self.slots.places(object).start + place, rank))
-    }
-
-    /// The recorded bytes of an object.
-    pub fn bytes(&self, object: usize) -> u64 {
-        u64::from(match self.slots.shapes[object] {
-            Shape::Instance { class } => self.layouts[class as usize].bytes,
-            Shape::Class { bytes }
-            | Shape::Opaque { bytes }
-            | Shape::ObjectArray { bytes }
-            | Shape::PrimitiveArray { bytes, .. } => bytes,
-        })
-    }
-}
-
-fn read_file(path: &str) -> io::Result<Vec<u8>> {
-    let mut file = File::open(path)?;
-    let mut bytes = vec![0; file.metadata()?.len() as usize];
-    file.read_exact(&mut bytes)?;
-    Ok(bytes)
-}
-
+/// Opens a dump, and tells when each pass has ended.
 pub fn open(path: &str, workers: usize, passed: impl Fn(&str)) -> io::Result<Graph> {
-    let bytes = read_file(path)?;
-    assert!(bytes.len() < ABSENT as usize);
-    let id_len = number(&bytes[19..], 4) as usize;
-    passed("read");
-    let records = read_records(&bytes, id_len);
+    let file = File::open(path)?;
+    let file_len = file.metadata()?.len() as usize;
+    assert!(file_len < LEN_LIMIT);
+    match read_id_len(&file, file_len)? {
+        4 => read::<4>(&file, file_len, workers, passed),
+        8 => read::<8>(&file, file_len, workers, passed),
+        id_len => panic!("IDs of {id_len} bytes"),
+    }
+}
+
+fn read<const ID: usize>(
+    file: &File,
+    file_len: usize,
+    workers: usize,
+    passed: impl Fn(&str),
+) -> io::Result<Graph> {
+    let records = read_records::<ID>(file, file_len)?;
     passed("records");
-    let lists = read_segments(&bytes, id_len, &records.segments, workers);
-    passed("sub-records");
-    let (layouts, mut repeats) = read_layouts(&bytes, id_len, &records, &lists);
+    let shares = share_out(&records.segments, workers);
+    let objects = find_objects::<ID>(file, file_len, &shares, workers)?;
+    passed("objects");
+    let (layouts, mut repeats) = read_layouts(ID, &records, &objects.classes);
+    repeats.objects = objects.repeated;
     passed("classes");
-    let numbered = number_objects(&lists, &layouts);
-    repeats.objects = numbered.repeated;
-    passed("numbers");
-    let source = Source {
-        bytes: &bytes,
-        id_len,
-        ids: &numbered.ids,
-        layouts: &layouts,
-    };
-    let mut slots = read_slots(&source, &lists, numbered.slots);
-    passed("slots");
-    resolve(&source, &mut slots);
-    passed("resolving");
-    number_absent(&source, &mut slots);
-    passed("absent");
+    let fillers = if objects.repeated == 0 { workers } else { 1 };
+    let known = (&objects.numbers, &layouts);
+    let rows = fill_rows::<ID>(file, file_len, &shares, known, fillers)?;
+    passed("rows");
+    let class_rows = layouts.ids.ids.iter().zip(&layouts.layouts);
+    let classes = class_rows.map(|(id, layout)| ClassRow {
+        bytes: layout.bytes,
+        object: objects.numbers.get(*id).unwrap(),
+    });
     Ok(Graph {
-        ids: numbered.ids,
-        slots,
-        layouts: layouts.layouts,
-        roots: numbered.roots,
+        classes: classes.collect(),
+        numbers: objects.numbers,
+        rows,
+        roots: objects.roots,
         repeats,
-        opaque: numbered.opaque,
     })
 }

@@ -1,16 +1,16 @@
-//! IDs of objects and classes, and their numbers.
+//! A hash table of IDs and their numbers, for IDs that are few.
 
 const EMPTY: u32 = u32::MAX;
 
 /// IDs in the order of their numbers, with a hash table of the numbers.
 pub struct Ids {
     pub ids: Vec<u64>,
-    pub table: Vec<u32>,
+    table: Vec<u32>,
 }
 
 impl Ids {
     pub fn with_room(count: usize) -> Ids {
-        let cells = (count * 8 / 7 + 1).next_power_of_two();
+        let cells = (2 * count + 2).next_power_of_two();
         Ids {
             ids: Vec::with_capacity(count),
             table: vec![EMPTY; cells],
@@ -18,11 +18,11 @@ impl Ids {
     }
 
     /// Where the ID stands in the table, or the empty cell where it would.
+    #[inline]
     fn cell(&self, id: u64) -> usize {
         let mask = self.table.len() - 1;
-        // The objects of 128 bytes of the heap begin their search at one place, as in hdesk.
-        let block = (id >> 7).wrapping_mul(0x9e37_79b9_7f4a_7c15);
-        let mut at = (block >> 36) as usize & mask;
+        let hash = id.wrapping_mul(0x9e37_79b9_7f4a_7c15);
+        let mut at = (hash >> 32) as usize & mask;
         while self.table[at] != EMPTY && self.ids[self.table[at] as usize] != id {
             at = (at + 1) & mask;
         }
@@ -40,6 +40,7 @@ impl Ids {
         is_new
     }
 
+    #[inline]
     pub fn get(&self, id: u64) -> Option<u32> {
         let found = self.table[self.cell(id)];
         (found != EMPTY).then_some(found)

@@ -1,118 +1,285 @@
-//! The strengths of objects: Dijkstra's widest path from the roots, with a bucket of offers for each rank, and within a rank
-//! breadth first.
+//! The strengths of objects: Dijkstra's widest path from the roots, with a bucket of offers for each rank, and within a
+//! rank breadth first.
+//!
+//! What is reached stands in the order in which it was reached, each object with the source of its support. So all
+//! objects of a rank stand in sequence, a place in the order is an object's stamp, and only a bit for each object is
+//! looked up and written here and there. Where many objects are at hand several workers share them; then the order
+//! among those at one distance varies from run to run, but no distance and no strength does.
 
 use crate::graph::Graph;
+use crate::memory::{shared, zeros_u64};
+use crate::rows::{LAST, Row};
+use crate::shares::run_workers;
 use crate::values::{FINAL, PHANTOM, STRONG, UNREACHABLE};
-use std::collections::VecDeque;
+use std::mem::take;
+use std::ops::Range;
+use std::sync::atomic::{AtomicBool, AtomicU64, AtomicUsize, Ordering::Relaxed};
 
-/// What is kept of an object, in 24 bytes.
-#[derive(Clone, Copy, Default)]
-#[allow(dead_code)]
-pub struct Reached {
-    stamp: u64,
-    place: u64,
-    source: u32,
-    pub rank: u8,
-}
+/// How many objects are looked up together.
+const BATCH: usize = 32;
 
-const _: () = assert!(size_of::<Reached>() == 24);
+/// How many finds a worker keeps before they are put into the order.
+const ROOM: usize = 4096;
 
-/// What the slot at a place of an object would give the object that it refers to.
+/// How many objects have to be at hand before workers share them, and how many each of these takes at once.
+const CROWD: usize = 1 << 16;
+const CHUNK: usize = 1 << 10;
+
+/// The source of a support that is a root.
+const ROOT: u32 = u32::MAX;
+
+/// An object, and the source that offers to support it.
 struct Offer {
+    target: u32,
     source: u32,
-    place: u32,
 }
 
 /// Offers by the rank that they give.
 type Buckets = [Vec<Offer>; 6];
 
-/// The search as far as it has come: what is reached, what is offered, and which objects have yet to pass their rank on.
-struct Search {
-    reached: Vec<Reached>,
-    buckets: Buckets,
-    queue: VecDeque<u32>,
-    stamp: u64,
+/// The search as far as it has come, which all workers see.
+struct Search<'a> {
+    graph: &'a Graph,
+    is_reached: &'a [AtomicU64],
+    /// The objects reached, in order: the number in the lower half, in the upper half the source of the support. A
+    /// support's place is that of the source's first target that is the object.
+    order: &'a [AtomicU64],
+    reached: AtomicUsize,
+    /// Whether each class was looked at.
+    has_class: Vec<AtomicBool>,
 }
 
-impl Search {
-    /// What the roots hold: it is strong, and queued.
-    fn begin(graph: &Graph) -> Search {
-        let mut reached = vec![Reached::default(); graph.ids.ids.len()];
-        for (root, id) in graph.roots.iter().enumerate() {
-            if let Some(object) = graph.ids.get(*id) {
-                reached[object as usize] = Reached {
-                    stamp: 0,
-                    place: root as u64,
-                    source: 0,
-                    rank: STRONG,
-                };
-            }
-        }
-        let held = |object: &u32| reached[*object as usize].rank != UNREACHABLE;
-        let queue = (0..reached.len() as u32).filter(held).collect();
-        Search {
-            reached,
-            buckets: Buckets::default(),
-            queue,
-            stamp: 0,
-        }
-    }
+/// What is reached: the order, and which part of it has each rank, with the recorded bytes.
+pub struct Reached {
+    order: Vec<u64>,
+    pub ranks: [(Range<usize>, u64); 6],
+}
 
-    /// Reaches an object by a slot of another, and queues it if it passes its rank on.
-    fn reach(&mut self, target: u32, offer: Offer, rank: u8) {
-        self.stamp += 1;
-        self.reached[target as usize] = Reached {
-            stamp: self.stamp,
-            place: u64::from(offer.place),
-            source: offer.source,
-            rank,
+impl Reached {
+    /// The rank of an object.
+    pub fn rank(&self, object: u32) -> u8 {
+        let end = self.ranks[PHANTOM as usize].0.end;
+        let is_it = |find: &u64| *find as u32 == object;
+        let Some(at) = self.order[..end].iter().position(is_it) else {
+            return UNREACHABLE;
         };
-        if rank >= FINAL {
-            self.queue.push_back(target);
+        let has_it = |rank: &u8| self.ranks[*rank as usize].0.contains(&at);
+        (PHANTOM..=STRONG).find(has_it).unwrap()
+    }
+}
+
+/// A worker that passes on a rank, with what it has found.
+struct Finder<'a> {
+    search: &'a Search<'a>,
+    rank: u8,
+    finds: Vec<u64>,
+    found: usize,
+    offers: Buckets,
+    /// The recorded bytes of the objects that it has gone over.
+    bytes: u64,
+}
+
+impl<'a> Finder<'a> {
+    fn new(search: &'a Search<'a>, rank: u8) -> Finder<'a> {
+        Finder {
+            search,
+            rank,
+            finds: vec![0; ROOM],
+            found: 0,
+            offers: Buckets::default(),
+            bytes: 0,
         }
     }
 
-    /// Takes what is offered of a rank.
-    fn accept_offers(&mut self, graph: &Graph, rank: u8) {
-        for offer in std::mem::take(&mut self.buckets[rank as usize]) {
-            let target = graph.slots.codes[offer.place as usize];
-            if self.reached[target as usize].rank == UNREACHABLE {
-                self.reach(target, offer, rank);
-            }
+    /// Puts what is found into the order.
+    fn put_finds(&mut self) {
+        let start = self.search.reached.fetch_add(self.found, Relaxed);
+        let places = &self.search.order[start..start + self.found];
+        for (place, find) in places.iter().zip(&self.finds) {
+            place.store(*find, Relaxed);
+        }
+        self.found = 0;
+    }
+
+    /// Reaches an object, unless it is reached already. What is noted stands only if it wasn't. ALONE says that no
+    /// other worker is there.
+    #[inline(always)]
+    fn reach<const ALONE: bool>(&mut self, object: u32, source: u32) {
+        let word = &self.search.is_reached[object as usize / 64];
+        let bit = 1 << (object % 64);
+        let mut before = word.load(Relaxed);
+        if ALONE {
+            word.store(before | bit, Relaxed);
+        } else if before & bit == 0 {
+            before = word.fetch_or(bit, Relaxed);
+        }
+        if self.found == ROOM {
+            self.put_finds();
+        }
+        self.finds[self.found] = u64::from(object) | u64::from(source) << 32;
+        self.found += usize::from(before & bit == 0);
+    }
+
+    /// Notes an offer of a lesser rank, unless the object is reached already.
+    fn offer(&mut self, rank: u8, target: u32, source: u32) {
+        let word = self.search.is_reached[target as usize / 64].load(Relaxed);
+        if word >> (target % 64) & 1 == 0 {
+            self.offers[rank as usize].push(Offer { target, source });
         }
     }
 
-    /// Passes on the rank of an object: what it gives of the same rank is taken at once, and what it gives of a lesser one is
-    /// offered.
-    fn relax_edges(&mut self, graph: &Graph, source: u32, rank: u8) {
-        let referent = graph.referent(source);
-        for place in graph.slots.places(source) {
-            let target = graph.slots.codes[place as usize];
-            let is_object = (target as usize) < self.reached.len();
-            if is_object && self.reached[target as usize].rank == UNREACHABLE {
-                let given = match referent {
-                    Some((at, given)) if at == place => given.min(rank),
-                    _ => rank,
-                };
-                let offer = Offer { source, place };
-                if given == rank {
-                    self.reach(target, offer, rank);
-                } else {
-                    self.buckets[given as usize].push(offer);
+    /// Adds the recorded bytes of an object. If it is an instance, its class is reached.
+    #[inline(always)]
+    fn relax_class<const ALONE: bool>(&mut self, source: u32, row: Row) {
+        match row.kind() {
+            Err(bytes) => self.bytes += u64::from(bytes),
+            Ok(number) => {
+                let class = self.search.graph.classes[number as usize];
+                self.bytes += u64::from(class.bytes);
+                let has_class = &self.search.has_class[number as usize];
+                if self.rank >= FINAL && !has_class.load(Relaxed) {
+                    has_class.store(true, Relaxed);
+                    self.reach::<ALONE>(class.object, source);
                 }
             }
         }
     }
-}
 
-/// What is kept of each object, with the strength that it has with no edit.
-pub fn reach(graph: &Graph) -> Vec<Reached> {
-    let mut search = Search::begin(graph);
-    for rank in (PHANTOM..=STRONG).rev() {
-        search.accept_offers(graph, rank);
-        while let Some(source) = search.queue.pop_front() {
-            search.relax_edges(graph, source, rank);
+    /// Passes on the rank of an object to its targets, the first of which is given. What its referent gets of a lesser
+    /// rank is offered.
+    #[inline(always)]
+    fn relax_targets<const ALONE: bool>(&mut self, source: u32, row: Row, first: u32) {
+        let Some(start) = row.start() else {
+            return;
+        };
+        let targets = &self.search.graph.rows.targets;
+        let (mut place, mut target) = (start as usize, first);
+        let given = row.referent_rank();
+        if given != 0 && given < self.rank {
+            self.offer(given, target & !LAST, source);
+            if target & LAST != 0 {
+                return;
+            }
+            place += 1;
+            target = targets[place];
+        }
+        loop {
+            self.reach::<ALONE>(target & !LAST, source);
+            if target & LAST != 0 {
+                return;
+            }
+            place += 1;
+            target = targets[place];
         }
     }
-    search.reached
+
+    /// Passes on the rank of at most BATCH objects. Their rows are looked up together, and then their first targets, so
+    /// that none has to wait for the one before.
+    fn relax_batch<const ALONE: bool>(&mut self, batch: &[AtomicU64]) {
+        let graph = self.search.graph;
+        let (mut rows, mut firsts) = ([Row(0); BATCH], [0; BATCH]);
+        for (row, find) in rows.iter_mut().zip(batch) {
+            *row = Row(graph.rows.rows[find.load(Relaxed) as u32 as usize]);
+        }
+        for (first, row) in firsts[..batch.len()].iter_mut().zip(&rows) {
+            *first = graph.rows.targets[row.start().unwrap_or(0) as usize];
+        }
+        for (i, find) in batch.iter().enumerate() {
+            let source = find.load(Relaxed) as u32;
+            self.relax_class::<ALONE>(source, rows[i]);
+            if self.rank >= FINAL {
+                self.relax_targets::<ALONE>(source, rows[i], firsts[i]);
+            }
+        }
+    }
+
+    /// Passes on the rank of a part of the order.
+    fn relax<const ALONE: bool>(&mut self, part: Range<usize>) {
+        for batch in self.search.order[part].chunks(BATCH) {
+            self.relax_batch::<ALONE>(batch);
+        }
+    }
+
+    /// Puts what another worker has found to its own.
+    fn join(&mut self, mut other: Finder) {
+        other.put_finds();
+        self.bytes += other.bytes;
+        for (offers, more) in self.offers.iter_mut().zip(&mut other.offers) {
+            offers.append(more);
+        }
+    }
+}
+
+impl Search<'_> {
+    /// Passes on the rank of a part of the order by several workers at once.
+    fn relax_crowd(&self, crowd: Range<usize>, workers: usize, finder: &mut Finder) {
+        let chunk = |start| start..crowd.end.min(start + CHUNK);
+        let chunks = crowd.clone().step_by(CHUNK).map(chunk).collect();
+        let begin = || Finder::new(self, finder.rank);
+        let ended = run_workers(chunks, workers, begin, |one: &mut Finder, part| {
+            one.relax::<false>(part);
+        });
+        ended.into_iter().for_each(|one| finder.join(one));
+    }
+
+    /// Reaches all objects of a rank, from this place of the order on. Gives their recorded bytes.
+    fn relax_rank(&self, begin: usize, workers: usize, finder: &mut Finder) -> u64 {
+        let mut from = begin;
+        loop {
+            finder.put_finds();
+            let end = self.reached.load(Relaxed);
+            if from == end {
+                return take(&mut finder.bytes);
+            }
+            if workers > 1 && end - from >= CROWD {
+                self.relax_crowd(from..end, workers, finder);
+            } else {
+                finder.relax::<true>(from..end);
+            }
+            from = end;
+        }
+    }
+
+    /// Reaches all objects, by falling ranks, beginning with what the roots hold.
+    fn run(&self, workers: usize) -> [(Range<usize>, u64); 6] {
+        let mut ranks: [(Range<usize>, u64); 6] = Default::default();
+        let mut finder = Finder::new(self, STRONG);
+        for id in &self.graph.roots {
+            if let Some(object) = self.graph.numbers.get(*id) {
+                finder.reach::<true>(object, ROOT);
+            }
+        }
+        let mut begin = 0;
+        for rank in (PHANTOM..=STRONG).rev() {
+            finder.rank = rank;
+            for offer in take(&mut finder.offers[rank as usize]) {
+                finder.reach::<true>(offer.target, offer.source);
+            }
+            let bytes = self.relax_rank(begin, workers, &mut finder);
+            let end = self.reached.load(Relaxed);
+            ranks[rank as usize] = (begin..end, bytes);
+            begin = end;
+        }
+        ranks
+    }
+}
+
+/// What is reached of a dump with no edit, with its strengths.
+pub fn reach(graph: &Graph, workers: usize) -> Reached {
+    let objects = graph.numbers.count;
+    let mut is_reached = zeros_u64(objects / 64 + 1);
+    let mut order = zeros_u64(objects);
+    let search = Search {
+        graph,
+        is_reached: shared(&mut is_reached),
+        order: shared(&mut order),
+        reached: AtomicUsize::new(0),
+        has_class: graph
+            .classes
+            .iter()
+            .map(|_| AtomicBool::new(false))
+            .collect(),
+    };
+    let ranks = search.run(workers);
+    Reached { order, ranks }
 }

@@ -11,18 +11,20 @@ pub const STRONG: u8 = 5;
 /// The names of strengths, by rank.
 pub const NAMES: [&str; 6] = ["UNREACHABLE", "PHANTOM", "FINAL", "WEAK", "SOFT", "STRONG"];
 
-/// The number in the first bytes, the highest byte first.
-pub fn number(bytes: &[u8], len: usize) -> u64 {
-    if len == 8 {
-        u64::from_be_bytes(bytes[..8].try_into().unwrap())
-    } else {
-        u64::from(u32::from_be_bytes(bytes[..4].try_into().unwrap()))
-    }
+/// The number in the first four bytes, the highest byte first.
+#[inline(always)]
+pub fn number(bytes: &[u8]) -> usize {
+    u32::from_be_bytes(bytes[..4].try_into().unwrap()) as usize
 }
 
-/// The number in two bytes.
-pub fn short(bytes: &[u8]) -> usize {
-    usize::from(u16::from_be_bytes(bytes[..2].try_into().unwrap()))
+/// The ID in the first bytes. IDs have 4 or 8 of them.
+#[inline(always)]
+pub fn read_id<const ID: usize>(bytes: &[u8]) -> u64 {
+    if ID == 8 {
+        u64::from_be_bytes(bytes[..8].try_into().unwrap())
+    } else {
+        number(bytes) as u64
+    }
 }
 
 /// Whether values of a type are IDs.
