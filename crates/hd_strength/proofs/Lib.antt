@@ -1,4 +1,5 @@
 pub mod Lists
+pub mod FoundLemmas
 pub mod RemovedLemmas
 pub mod RowLemmas
 pub mod Grow

@@ -1,4 +1,4 @@
-use Rattle.std.proofs.Common.{◌≡◌, ◌∙◌, ℕ, zero, suc, ◌+◌, ◌<◌, ◌⊎◌, inl, inr, List, [], ◌∷◌, ◌++◌, Contains, length, get_or, cond, zero-add, Option, None, Some, slice_get, Bool, true, false, refl, sym, ap, arith}
+use Rattle.std.proofs.Common.{◌≡◌, ◌∙◌, ℕ, zero, suc, ◌+◌, ◌<◌, ◌⊎◌, inl, inr, List, [], ◌∷◌, ◌++◌, Contains, length, get_or, cond, zero-add, Option, None, Some, slice_get, map, replicate, Bool, true, false, refl, sym, ap, arith}
 use Rattle.std.specs.List.{flat_map, filter, filter_map, cons_option, enumerate_from}
 use Rattle.std.proofs.lemmas.Option.{get_or_from_slice_get, slice_get-get_or, slice_get_within}
 use Rattle.std.proofs.lemmas.List.Elements.{Contains-append_left, Contains-append_right, Contains-append_cases}
@@ -132,3 +132,8 @@ push_default d (x ∷ xs) h (suc n) = push_default d xs (λ k. h (suc k)) n
 -- a read is that of another default within the list
 pub read_is : {X : Type 0} (xs : List X) (i : ℕ) (d x : X) → i < length xs → x ≡ get_or xs i x → get_or xs i d ≡ x
 read_is xs i d x lt is = get_or_default xs i d x lt ∙ sym is
+
+-- of many alike
+pub map-replicate : {X Y : Type 0} (f : X → Y) (n : ℕ) (x : X) → map f (replicate n x) ≡ replicate n (f x)
+map-replicate f zero x = refl
+map-replicate f (suc n) x = ap (λ (ys : List _). f x ∷ ys) (map-replicate f n x)

@@ -10,6 +10,8 @@ use Rattle.std.proofs.lemmas.List.Quantifiers.{position-Some}
 use Rattle.hd_terms.specs.declared.Edit.{Edit}
 use Rattle.hd_terms.specs.declared.Edit.TheVariants as edits
 use Rattle.hd_terms.specs.declared.RootKind.TheVariants as kinds
+use Rattle.hd_terms.specs.declared.EdgeKind.TheVariants as edge_kinds
+use Rattle.hd_terms.specs.declared.Slot.TheVariants as slot_names
 use Rattle.hd_terms.specs.declared.Event.{Event}
 use Rattle.hd_terms.specs.declared.What.{What}
 use Rattle.hd_terms.specs.declared.What.TheVariants as whats
@@ -33,6 +35,12 @@ entry_to r t = record { number = r; target = t }
 -- the number of an object is below their count
 pub index_of_within : (xs : List Object) (id t : ℕ) → index_of xs id ≡ Some t → t < length xs
 index_of_within xs id t h = (position-Some (λ (x : Object). id == x.id) xs t no_object h).0
+
+-- the entry of a slot that an object has
+pub slot_at : (dump : Dump) (o i : ℕ) → i < width dump o → (s : SlotEntry) × (slice_get (object_at dump o).slots i ≡ Some s)
+slot_at dump o i lt =
+    let none : SlotEntry = record { slot = slot_names.Element 0; kind = edge_kinds.Strong; id = 0 } in
+    (get_or (object_at dump o).slots i none, slice_get-get_or (object_at dump o).slots i none lt)
 
 -- the edge of a slot, by the number that its ID has
 by_target : (o : ℕ) (s : SlotEntry) (t : Option ℕ) (e : Edge) → option_map (λ (target : ℕ). edge_to o s target) t ≡ Some e → (t ≡ Some e.target) × (e ≡ edge_to o s e.target)

@@ -68,16 +68,16 @@ unreached_count ks = sum_by (λ k. if nat_eq (rank k.strength) 0 then 1 else 0) 
 
 -- how many objects are still to be reached or to pass their strength on
 abbrev pub to_do : Search → ℕ
-to_do search = unreached_count search.kept.items + length search.queue.items
+to_do search = unreached_count search.found + length search.queue.items
 
 -- a search on its way: what is queued has the strength that is being spread and passes it on, and no more stamps were given
 -- than objects were reached
 pub record IsSearching (dump : Dump) (log : List Event) (search : Search) (s : Strength) (limit : ℕ) (IsDone : ℕ → ℕ → Type 0) : Type 0 where
-  pub growing : IsGrowing (standing dump log) (edge_at dump log) search.kept.items (bucket search.buckets) search.count s limit IsDone
-  pub queued : (o : ℕ) → Contains search.queue.items o → ((reached_at search.kept.items o).strength ≡ s) × IsPassedOn dump.mode s
-  pub objects : length search.kept.items ≡ length dump.objects
+  pub growing : IsGrowing (standing dump log) (edge_at dump log) search.found (bucket search.buckets) search.count s limit IsDone
+  pub queued : (o : ℕ) → Contains search.queue.items o → ((reached_at search.found o).strength ≡ s) × IsPassedOn dump.mode s
+  pub objects : length search.found ≡ length dump.objects
   pub few : length dump.objects < 2 ^ 32
-  pub stamps : search.count + unreached_count search.kept.items ≤ length dump.objects
+  pub stamps : search.count + unreached_count search.found ≤ length dump.objects
 
 -- the slots of objects that aren't queued are done
 abbrev pub NotQueued : List ℕ → ℕ → ℕ → Type 0
@@ -107,7 +107,7 @@ pub record IsGain (at : ℕ → ℕ → Option Edge) (ks : List Reached) (o i : 
 
 -- an object is reached by an edge from a slot of another, and queued if it passes its strength on
 pub record Reaches (mode : Mode) (old new : Search) (s : Strength) (source : ℕ) (slot : Slot) (target : ℕ) : Type 0 where
-  pub kept : new.kept.items ≡ set old.kept.items target (record { strength = s; support = supports.Edge source slot; stamp = old.count + 1 })
+  pub kept : new.found ≡ set old.found target (record { strength = s; support = supports.Edge source slot; stamp = old.count + 1 })
   pub same_buckets : new.buckets ≡ old.buckets
   pub queued : IsPassedOn mode s → new.queue.items ≡ old.queue.items ++ target ∷ []
   pub not_queued : (IsPassedOn mode s → ⊥) → new.queue.items ≡ old.queue.items
@@ -115,24 +115,24 @@ pub record Reaches (mode : Mode) (old new : Search) (s : Strength) (source : ℕ
 
 -- where there is an edge, its target is reached already
 pub record IsPassedOver (at : ℕ → ℕ → Option Edge) (old new : Search) (o i : ℕ) : Type 0 where
-  pub reached : (e : Edge) → at o i ≡ Some e → 1 ≤ rank_at old.kept.items e.target
+  pub reached : (e : Edge) → at o i ≡ Some e → 1 ≤ rank_at old.found e.target
   pub same : new ≡ old
 
 -- the edge gives this strength, and its target takes it
 pub record IsAccepted (mode : Mode) (at : ℕ → ℕ → Option Edge) (old new : Search) (s : Strength) (o i : ℕ) : Type 0 where
   pub edge : Edge
   pub is : at o i ≡ Some edge
-  pub gives : s ≡ offered_strength old.kept.items edge
-  pub unreached : rank_at old.kept.items edge.target ≡ 0
-  pub object : edge.target < length old.kept.items
+  pub gives : s ≡ offered_strength old.found edge
+  pub unreached : rank_at old.found edge.target ≡ 0
+  pub object : edge.target < length old.found
   pub reaches : Reaches mode old new s edge.source edge.slot edge.target
 
 -- the edge gives less than this strength, and is offered
 pub record IsOffered (at : ℕ → ℕ → Option Edge) (old new : Search) (s : Strength) (o i : ℕ) : Type 0 where
   pub edge : Edge
   pub is : at o i ≡ Some edge
-  pub less : rank (offered_strength old.kept.items edge) < rank s
-  pub adds : AddsTo old.buckets new.buckets (offered_strength old.kept.items edge) (offer_at o i)
-  pub same_kept : new.kept ≡ old.kept
+  pub less : rank (offered_strength old.found edge) < rank s
+  pub adds : AddsTo old.buckets new.buckets (offered_strength old.found edge) (offer_at o i)
+  pub same_found : new.found ≡ old.found
   pub same_queue : new.queue ≡ old.queue
   pub same_count : new.count ≡ old.count

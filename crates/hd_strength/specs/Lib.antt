@@ -2,5 +2,6 @@ pub mod Cleared
 pub mod Buckets
 pub mod Removed
 pub mod Rows
+pub mod Found
 pub mod Growing
 pub mod Checking

@@ -5,6 +5,7 @@ mod buckets;
 mod checking;
 mod cleared;
 mod edited;
+mod found;
 mod removed;
 mod scratch;
 

@@ -20,6 +20,7 @@ ghost use Rattle.hd_strength.specs.Removed.{IsRemovedBy};
 
 use crate::buckets::{Buckets, Offer};
 use crate::edited::{Edited, added_object, root_object};
+use crate::found::Found;
 use crate::removed::Removed;
 use hd_graph::Graph;
 use hd_log::Front;
@@ -32,7 +33,7 @@ use std::collections::VecDeque;
 #[derive(Drop)]
 struct Search {
     /// What is kept of each object.
-    kept: Vec<PackedReached>,
+    found: Found,
     /// What references give and no target has taken yet; never more than what is being spread.
     buckets: Buckets,
     /// The objects that are reached and have yet to pass their strength on.
@@ -49,67 +50,55 @@ struct Gain {
     strength: Strength,
 }
 
-/// What is kept where nothing reaches an object.
-fn none_reached(alloc: Global, objects: u32) -> Result<Vec<PackedReached>, NoMemory>
-    ensures count { IfOk result (λ v. length v.items ≡ objects) }
-    ensures unreached { IfOk result (λ v. (o : ℕ) → reached_at v.items o ≡ unreached) }
-{
-    let mut kept = Vec::with_capacity(alloc, objects as usize)?;
-    for _ in 0..objects {
-        kept.push(PackedReached::unreached())?;
-    }
-    Ok(kept)
-}
-
 /// What is kept where only the roots of the dump hold their objects, so far as they stand.
-fn apply_dump_roots(alloc: Global, edited: Edited<'_>) -> Result<Vec<PackedReached>, NoMemory>
+fn apply_dump_roots(alloc: Global, edited: Edited<'_>) -> Result<Found, NoMemory>
     requires removed { IsRemovedBy edited.graph.now edited.front.now edited.removed.now }
     ensures few { length edited.entry.graph.now.objects < 2 ^ 32 }
-    ensures count { IfOk result (λ v. length v.items ≡ length edited.entry.graph.now.objects) }
-    ensures held { IfOk result (λ v. AreHeld edited.entry.graph.now edited.entry.front.now v.items (length edited.entry.graph.now.roots)) }
+    ensures count { IfOk result (λ f. length f ≡ length edited.entry.graph.now.objects) }
+    ensures held { IfOk result (λ f. AreHeld edited.entry.graph.now edited.entry.front.now f (length edited.entry.graph.now.roots)) }
 {
-    let mut kept = none_reached(alloc, edited.graph.objects())?;
+    let mut found = Found::none(alloc, edited.graph.objects())?;
     for r in 0..edited.graph.roots_len() {
         if let Some(o) = root_object(edited, r) {
-            kept[o as usize] = PackedReached::by_root(u64::from(r));
+            found.put(o, PackedReached::by_root(u64::from(r)));
         }
     }
-    Ok(kept)
+    Ok(found)
 }
 
 /// What is kept where only the roots hold their objects: those of the dump and those that were added, so far as they
 /// stand. An added root has the number of the event after those of the dump's roots.
-fn apply_roots(alloc: Global, edited: Edited<'_>) -> Result<Vec<PackedReached>, NoMemory>
+fn apply_roots(alloc: Global, edited: Edited<'_>) -> Result<Found, NoMemory>
     requires removed { IsRemovedBy edited.graph.now edited.front.now edited.removed.now }
     ensures few { length edited.entry.graph.now.objects < 2 ^ 32 }
-    ensures count { IfOk result (λ v. length v.items ≡ length edited.entry.graph.now.objects) }
-    ensures held { IfOk result (λ v. AreHeld edited.entry.graph.now edited.entry.front.now v.items (root_count edited.entry.graph.now edited.entry.front.now)) }
+    ensures count { IfOk result (λ f. length f ≡ length edited.entry.graph.now.objects) }
+    ensures held { IfOk result (λ f. AreHeld edited.entry.graph.now edited.entry.front.now f (root_count edited.entry.graph.now edited.entry.front.now)) }
 {
-    let mut kept = apply_dump_roots(alloc, edited)?;
+    let mut found = apply_dump_roots(alloc, edited)?;
     let live = edited.front.live(alloc)?;
     for k in 0..edited.front.len() {
         if let Some(o) = added_object(edited, &live, k) {
             let root = u64::from(edited.graph.roots_len()) + u64::from(k);
-            kept[o as usize] = PackedReached::by_root(root);
+            found.put(o, PackedReached::by_root(root));
         }
     }
-    Ok(kept)
+    Ok(found)
 }
 
 /// A search that begins: of the objects only those are reached that roots hold, and they are queued.
-fn begin(alloc: Global, edited: Edited<'_>, kept: Vec<PackedReached>) -> Result<Search, NoMemory>
-    requires count { length kept.items ≡ length edited.graph.now.objects }
-    requires held { AreHeld edited.graph.now edited.front.now kept.items (root_count edited.graph.now edited.front.now) }
+fn begin(alloc: Global, edited: Edited<'_>, found: Found) -> Result<Search, NoMemory>
+    requires count { length found ≡ length edited.graph.now.objects }
+    requires held { AreHeld edited.graph.now edited.front.now found (root_count edited.graph.now edited.front.now) }
     ensures { IfOk result (λ search. HasComeTo edited.entry.graph.now edited.entry.front.now search strengths.Strong) }
 {
     let mut queue = VecDeque::new(alloc);
     for o in 0..edited.graph.objects() {
-        if kept[o as usize].strength().rank() > 0 {
+        if found.is_reached(o) {
             queue.push_back(o)?;
         }
     }
     Ok(Search {
-        kept,
+        found,
         buckets: Buckets::new(alloc),
         queue,
         count: 0,
@@ -118,17 +107,13 @@ fn begin(alloc: Global, edited: Edited<'_>, kept: Vec<PackedReached>) -> Result<
 
 /// Reaches an object by a slot of another, and queues it if it passes its strength on.
 fn reach(edited: Edited<'_>, search: &mut Search, source: u32, gain: Gain) -> Result<(), NoMemory>
-    requires object { gain.target < length search.old.kept.items }
+    requires object { gain.target < length search.old.found }
     requires room { search.old.count < 2 ^ 32 }
     ensures { OnOk result (Reaches edited.entry.graph.now.mode search.old search.new gain.strength source gain.slot gain.target) }
 {
     search.count += 1;
-    search.kept[gain.target as usize] = PackedReached::by_edge(
-        gain.strength,
-        source,
-        gain.slot,
-        search.count,
-    );
+    let reached = PackedReached::by_edge(gain.strength, source, gain.slot, search.count);
+    search.found.put(gain.target, reached);
     if gain.strength.rank() >= edited.graph.mode().least_passed_on().rank() {
         search.queue.push_back(gain.target)?;
     }
@@ -144,22 +129,21 @@ fn accept_offer(
 ) -> Result<(), NoMemory>
     requires object { offer.source < length edited.graph.now.objects }
     requires index { offer.index < width edited.graph.now offer.source }
-    requires count { length search.old.kept.items ≡ length edited.graph.now.objects }
-    requires backed { IsBacked edited.graph.now.mode (edge_at edited.graph.now edited.front.now) search.old.kept.items strength offer }
+    requires count { length search.old.found ≡ length edited.graph.now.objects }
+    requires backed { IsBacked edited.graph.now.mode (edge_at edited.graph.now edited.front.now) search.old.found strength offer }
     requires room { search.old.count < 2 ^ 32 }
     ensures { OnOk result (IsPassedOver (edge_at edited.entry.graph.now edited.entry.front.now) search.old search.new offer.source offer.index
         ⊎ IsAccepted edited.entry.graph.now.mode (edge_at edited.entry.graph.now edited.entry.front.now) search.old search.new strength offer.source offer.index) }
 {
-    let read = edited.graph.slots(offer.source, offer.index);
-    let Some(target) = read.target else {
+    let Some(target) = edited.graph.target(offer.source, offer.index) else {
         return Ok(());
     };
-    if search.kept[target as usize].strength().rank() > 0 {
+    if search.found.is_reached(target) {
         return Ok(());
     }
     let gain = Gain {
         target,
-        slot: read.slot,
+        slot: edited.graph.slots(offer.source, offer.index).slot,
         strength,
     };
     reach(edited, search, offer.source, gain)?;
@@ -193,16 +177,16 @@ fn gain_at(
     requires removed { IsRemovedBy edited.graph.now edited.front.now edited.removed.now }
     requires object { o < length edited.graph.now.objects }
     requires index { index < width edited.graph.now o }
-    requires count { length search.now.kept.items ≡ length edited.graph.now.objects }
-    requires source { (reached_at search.now.kept.items o).strength ≡ strength }
-    ensures none { IfNone result ((e : Edge) → edge_at edited.entry.graph.now edited.entry.front.now o index ≡ Some e → 1 ≤ rank_at search.now.kept.items e.target) }
-    ensures some { IfSome result (λ gain. IsGain (edge_at edited.entry.graph.now edited.entry.front.now) search.now.kept.items o index gain) }
+    requires count { length search.now.found ≡ length edited.graph.now.objects }
+    requires source { (reached_at search.now.found o).strength ≡ strength }
+    ensures none { IfNone result ((e : Edge) → edge_at edited.entry.graph.now edited.entry.front.now o index ≡ Some e → 1 ≤ rank_at search.now.found e.target) }
+    ensures some { IfSome result (λ gain. IsGain (edge_at edited.entry.graph.now edited.entry.front.now) search.now.found o index gain) }
 {
-    let read = edited.graph.slots(o, index);
-    let target = read.target?;
-    if search.kept[target as usize].strength().rank() > 0 {
+    let target = edited.graph.target(o, index)?;
+    if search.found.is_reached(target) {
         return None;
     }
+    let read = edited.graph.slots(o, index);
     if edited.removed.slot(o, index, read.kind) {
         return None;
     }
@@ -225,8 +209,8 @@ fn relax_edge(
     requires removed { IsRemovedBy edited.graph.now edited.front.now edited.removed.now }
     requires object { o < length edited.graph.now.objects }
     requires index { index < width edited.graph.now o }
-    requires count { length search.old.kept.items ≡ length edited.graph.now.objects }
-    requires source { (reached_at search.old.kept.items o).strength ≡ strength }
+    requires count { length search.old.found ≡ length edited.graph.now.objects }
+    requires source { (reached_at search.old.found o).strength ≡ strength }
     requires reached { 1 ≤ rank strength }
     requires room { search.old.count < 2 ^ 32 }
     ensures { OnOk result (IsPassedOver (edge_at edited.entry.graph.now edited.entry.front.now) search.old search.new o index
@@ -255,7 +239,7 @@ fn relax_edges(
 ) -> Result<(), NoMemory>
     requires removed { IsRemovedBy edited.graph.now edited.front.now edited.removed.now }
     requires object { o < length edited.graph.now.objects }
-    requires source { (reached_at search.old.kept.items o).strength ≡ strength }
+    requires source { (reached_at search.old.found o).strength ≡ strength }
     requires passes_on { IsPassedOn edited.graph.now.mode strength }
     requires searching { IsSearching edited.graph.now edited.front.now search.old strength (rank strength) (NotQueuedBelow search.old.queue.items o 0) }
     ensures searching { OnOk result (HasAccepted edited.entry.graph.now edited.entry.front.now search.new strength) }
@@ -312,7 +296,7 @@ fn spread(edited: Edited<'_>, mut search: Search) -> Result<Vec<PackedReached>, 
     spread_strength(edited, &mut search, Strength::Weak)?;
     spread_strength(edited, &mut search, Strength::Final)?;
     spread_strength(edited, &mut search, Strength::Phantom)?;
-    Ok(search.kept)
+    Ok(search.found.into_kept())
 }
 
 /// Strengths, supports and stamps of the objects of a graph under a log, by what the log's live edits take away.
@@ -332,8 +316,8 @@ pub fn from_removed(
         front,
         removed,
     };
-    let kept = apply_roots(alloc, edited)?;
-    let search = begin(alloc, edited, kept)?;
+    let found = apply_roots(alloc, edited)?;
+    let search = begin(alloc, edited, found)?;
     let kept = spread(edited, search)?;
     Ok(Strengths::of(kept))
 }

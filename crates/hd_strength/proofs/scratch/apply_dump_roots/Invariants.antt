@@ -5,6 +5,6 @@ use Rattle.hd_strength.proofs.scratch.apply_dump_roots.Given as goal
 -- the roots so far hold their objects
 abbrev pub invariant-loop-r : goal.invariant-loop-r
 invariant-loop-r l = record {
-  count : length l.kept.items ≡ length l.fn.edited.graph.now.objects;
-  held : AreHeld l.fn.edited.graph.now l.fn.edited.front.now l.kept.items l.r;
+  count : length l.found ≡ length l.fn.edited.graph.now.objects;
+  held : AreHeld l.fn.edited.graph.now l.fn.edited.front.now l.found l.r;
 }

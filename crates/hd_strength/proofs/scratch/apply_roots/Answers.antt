@@ -10,10 +10,10 @@ use Rattle.hd_strength.proofs.scratch.apply_roots.Goals.{in-Some, in_default}
 pub loop-k-init : goal.loop-k-init
 loop-k-init c =
     let none : length c.args.edited.graph.now.roots + 0 ≡ length c.args.edited.graph.now.roots = omega arith in
-    record { count = c.in_ok-kept.ensures.count; held = rw none c.in_ok-kept.ensures.held }
+    record { count = c.in_ok-found.ensures.count; held = rw none c.in_ok-found.ensures.held }
 
-pub index_mut-requires : goal.index_mut-requires
-index_mut-requires c =
+pub put-requires : goal.put-requires
+put-requires c =
     let dump = c.args.edited.graph.now in
     omega (arith, held_within dump c.args.edited.front.now (length dump.roots + c.loop-k.k) c.in-Some.o (sym c.in-Some.is ∙ c.added_object.ensures), c.loop-k.invariant.count)
 
@@ -23,18 +23,18 @@ loop-k-preserved c =
     let log = c.args.edited.front.now in
     let r : ℕ = length dump.roots + c.loop-k.k in
     let next : length dump.roots + (c.loop-k.k + 1) ≡ (length dump.roots + c.loop-k.k) + 1 = omega arith in
-    let ks = c.loop-k.kept.items in
+    let ks = c.loop-k.found in
     elim c.match-added_object.branch [
       | in-Some w ↦
           let t = w.in-Some.o in
           let some = sym w.in-Some.is ∙ c.added_object.ensures in
           let lt : t < length ks = omega (arith, held_within dump log r t some, c.loop-k.invariant.count) in
           let number : w.from.result + w.from-in-Some.result ≡ length dump.roots + c.loop-k.k = omega (arith, w.from.ensures, w.from-in-Some.ensures, w.roots_len.ensures) in
-          rw (w.kept-is, w.by_root.ensures, number, next) (record {
+          rw (w.found-is, w.put.ensures, w.by_root.ensures, number, next) (record {
             count = length-set ks t (reached_by_root r) ∙ c.loop-k.invariant.count;
             held = one_held dump log ks r t c.loop-k.invariant.held lt (root_some dump log r t some);
           })
-      | in_default w ↦ rw (w.kept-is, next) (record {
+      | in_default w ↦ rw (w.found-is, next) (record {
         count = c.loop-k.invariant.count;
         held = no_root dump log ks r c.loop-k.invariant.held (root_none dump log r (sym w.in_default.is ∙ c.added_object.ensures));
       })
@@ -45,4 +45,4 @@ returns-clause-held c =
     let dump = c.args.edited.graph.now in
     let log = c.args.edited.front.now in
     let end : length dump.roots + c.loop-k.k ≡ root_count dump log = omega (arith, c.len-k-end.ensures.len) in
-    subst (AreHeld dump log c.loop-k.kept.items) end c.loop-k.invariant.held
+    subst (AreHeld dump log c.loop-k.found) end c.loop-k.invariant.held

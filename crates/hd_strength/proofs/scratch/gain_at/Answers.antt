@@ -1,34 +1,36 @@
 use Rattle.std.proofs.Common.{◌≡◌, true, false, ◌<◌, Some, None, length, ap, sym, ◌∙◌, refl, arith}
 use Rattle.hd_terms.specs.declared.Strength.{Strength}
-use Rattle.hd_terms.specs.Ranks.{rank, weaker_of}
+use Rattle.hd_terms.specs.Ranks.{weaker_of}
 use Rattle.hd_terms.specs.Paths.{Edge}
 use Rattle.hd_terms.specs.Dump.{SlotEntry, object_at}
 use Rattle.hd_terms.specs.EditedDump.{is_untouched}
 use Rattle.hd_terms.specs.Edges.{index_of}
-use Rattle.hd_terms.specs.Settled.{Reached, reached_at, unreached}
+use Rattle.hd_terms.specs.Settled.{reached_at}
 use Rattle.hd_strength.specs.Growing.{rank_at}
-use Rattle.hd_strength.proofs.Lists.{read_is}
-use Rattle.hd_strength.proofs.RowLemmas.{at_none, at_cut, at_target, at_some, not-true, not-false, edge_to, index_of_within}
+use Rattle.hd_strength.proofs.FoundLemmas.{found-some, found-none}
+use Rattle.hd_strength.proofs.RowLemmas.{slot_at, at_none, at_cut, at_target, at_some, not-true, not-false, edge_to, index_of_within}
 use Rattle.hd_strength.proofs.scratch.gain_at.Goals as goal
+
+pub is_reached-requires : goal.is_reached-requires
+is_reached-requires c =
+    let at = slot_at c.args.edited.graph.now c.args.o c.args.index c.requires.index in
+    let some : index_of c.args.edited.graph.now.objects at.0.id ≡ Some c.in_ok-target.target = sym (c.target.ensures at.0 at.1) ∙ c.in_ok-target.was in
+    omega (arith, index_of_within c.args.edited.graph.now.objects at.0.id c.in_ok-target.target some, c.requires.count)
 
 pub returns-in_err-target-clause-none : goal.returns-in_err-target-clause-none
 returns-in_err-target-clause-none c =
-    let s : SlotEntry = record { slot = c.slots-read.result.slot; kind = c.slots-read.result.kind; id = c.slots-read.result.id } in
-    let none : index_of c.args.edited.graph.now.objects s.id ≡ None = sym c.slots-read.ensures.target ∙ c.in_err-target.was in
-    rw c.from_residual.ensures (λ e is. absurd (at_none c.args.edited.graph.now c.args.edited.front.now c.args.o c.args.index s c.slots-read.ensures.entry none e is))
+    let at = slot_at c.args.edited.graph.now c.args.o c.args.index c.requires.index in
+    let none : index_of c.args.edited.graph.now.objects at.0.id ≡ None = sym (c.target.ensures at.0 at.1) ∙ c.in_err-target.was in
+    rw c.from_residual.ensures (λ e is. absurd (at_none c.args.edited.graph.now c.args.edited.front.now c.args.o c.args.index at.0 at.1 none e is))
 
-pub returns-then-rank-gt0-clause-none : goal.returns-then-rank-gt0-clause-none
-returns-then-rank-gt0-clause-none c = λ e is.
-    let ks = c.args.search.now.kept.items in
-    let s : SlotEntry = record { slot = c.slots-read.result.slot; kind = c.slots-read.result.kind; id = c.slots-read.result.id } in
+pub returns-then-is_reached-clause-none : goal.returns-then-is_reached-clause-none
+returns-then-is_reached-clause-none c = λ e is.
     let t = c.in_ok-target.target in
-    let some : index_of c.args.edited.graph.now.objects s.id ≡ Some t = sym c.slots-read.ensures.target ∙ c.in_ok-target.was in
-    let lt : t < length ks = omega (arith, index_of_within c.args.edited.graph.now.objects s.id t some, c.requires.count) in
-    let edge : edge_to c.args.o s t ≡ e = at_target c.args.edited.graph.now c.args.edited.front.now c.args.o c.args.index s c.slots-read.ensures.entry t e some is in
+    let at = slot_at c.args.edited.graph.now c.args.o c.args.index c.requires.index in
+    let some : index_of c.args.edited.graph.now.objects at.0.id ≡ Some t = sym (c.target.ensures at.0 at.1) ∙ c.in_ok-target.was in
+    let edge : edge_to c.args.o at.0 t ≡ e = at_target c.args.edited.graph.now c.args.edited.front.now c.args.o c.args.index at.0 at.1 t e some is in
     let target : e.target ≡ t = sym (ap (λ (x : Edge). x.target) edge) in
-    let read : reached_at ks t ≡ c.index.result.now = read_is ks t unreached c.index.result.now lt c.index.ensures in
-    let ranks : rank_at ks t ≡ c.rank.result = ap (λ (k : Reached). rank k.strength) read ∙ ap rank (sym c.strength.ensures) ∙ sym c.rank.ensures in
-    rw target (omega arith)
+    rw target (found-some (reached_at c.args.search.now.found t) (sym c.is_reached.ensures ∙ c.if-is_reached.true))
 
 pub returns-then-slot-clause-none : goal.returns-then-slot-clause-none
 returns-then-slot-clause-none c = λ e is.
@@ -41,13 +43,10 @@ returns-then-slot-clause-none c = λ e is.
 
 pub returns-clause-some : goal.returns-clause-some
 returns-clause-some c =
-    let ks = c.args.search.now.kept.items in
+    let ks = c.args.search.now.found in
     let s : SlotEntry = record { slot = c.slots-read.result.slot; kind = c.slots-read.result.kind; id = c.slots-read.result.id } in
     let t = c.in_ok-target.target in
-    let some : index_of c.args.edited.graph.now.objects s.id ≡ Some t = sym c.slots-read.ensures.target ∙ c.in_ok-target.was in
-    let lt : t < length ks = omega (arith, index_of_within c.args.edited.graph.now.objects s.id t some, c.requires.count) in
-    let read : reached_at ks t ≡ c.index.result.now = read_is ks t unreached c.index.result.now lt c.index.ensures in
-    let ranks : rank_at ks t ≡ c.rank.result = ap (λ (k : Reached). rank k.strength) read ∙ ap rank (sym c.strength.ensures) ∙ sym c.rank.ensures in
+    let some : index_of c.args.edited.graph.now.objects s.id ≡ Some t = sym (c.target.ensures s c.slots-read.ensures.entry) ∙ c.in_ok-target.was in
     let stands : is_untouched c.args.edited.front.now (object_at c.args.edited.graph.now c.args.o) s ≡ true =
     not-false (is_untouched c.args.edited.front.now (object_at c.args.edited.graph.now c.args.o) s) (sym (c.requires.removed.slots c.args.o c.args.index s c.requires.object c.slots-read.ensures.entry) ∙ sym c.slot.ensures ∙ c.if-slot.false) in
     record {
@@ -55,7 +54,7 @@ returns-clause-some c =
       is = at_some c.args.edited.graph.now c.args.edited.front.now c.args.o c.args.index s c.slots-read.ensures.entry t some stands;
       slot = refl;
       target = refl;
-      strength = c.weaker.ensures ∙ ap (λ (x : Strength). weaker_of x c.strength-2.result) (sym c.requires.source) ∙ ap (weaker_of (reached_at ks c.args.o).strength) c.strength-2.ensures;
-      unreached = omega arith;
-      object = lt;
+      strength = c.weaker.ensures ∙ ap (λ (x : Strength). weaker_of x c.strength.result) (sym c.requires.source) ∙ ap (weaker_of (reached_at ks c.args.o).strength) c.strength.ensures;
+      unreached = found-none (reached_at ks t) (sym c.is_reached.ensures ∙ c.if-is_reached.false);
+      object = omega (arith, index_of_within c.args.edited.graph.now.objects s.id t some, c.requires.count);
     }

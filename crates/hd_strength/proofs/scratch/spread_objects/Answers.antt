@@ -10,31 +10,31 @@ use Rattle.hd_strength.proofs.scratch.spread_objects.Goals as goal
 pub relax_edges-requires-clause-object : goal.relax_edges-requires-clause-object
 relax_edges-requires-clause-object c =
     let search = c.loop-o.search in
-    let popped : Search = record { kept = search.kept; buckets = search.buckets; queue = c.pop_front.new.self; count = search.count } in
+    let popped : Search = record { found = search.found; buckets = search.buckets; queue = c.pop_front.new.self; count = search.count } in
     let was = was_queued c.args.edited.graph.now c.args.edited.front.now search popped c.args.strength c.in-Some.o c.loop-o.invariant c.in-Some.ensures.items refl refl refl in
-    let same : rank_at search.kept.items c.in-Some.o ≡ rank c.args.strength = ap rank was.0 in
-    omega (arith, reached_within search.kept.items c.in-Some.o (omega (arith, was.1, least-positive c.args.edited.graph.now.mode)), c.loop-o.invariant.objects)
+    let same : rank_at search.found c.in-Some.o ≡ rank c.args.strength = ap rank was.0 in
+    omega (arith, reached_within search.found c.in-Some.o (omega (arith, was.1, least-positive c.args.edited.graph.now.mode)), c.loop-o.invariant.objects)
 
 pub relax_edges-requires-clause-passes_on : goal.relax_edges-requires-clause-passes_on
 relax_edges-requires-clause-passes_on c =
     let search = c.loop-o.search in
-    let popped : Search = record { kept = search.kept; buckets = search.buckets; queue = c.pop_front.new.self; count = search.count } in
+    let popped : Search = record { found = search.found; buckets = search.buckets; queue = c.pop_front.new.self; count = search.count } in
     (was_queued c.args.edited.graph.now c.args.edited.front.now search popped c.args.strength c.in-Some.o c.loop-o.invariant c.in-Some.ensures.items refl refl refl).1
 
 pub relax_edges-requires-clause-source : goal.relax_edges-requires-clause-source
 relax_edges-requires-clause-source c =
     let search = c.loop-o.search in
-    let popped : Search = record { kept = search.kept; buckets = search.buckets; queue = c.pop_front.new.self; count = search.count } in
+    let popped : Search = record { found = search.found; buckets = search.buckets; queue = c.pop_front.new.self; count = search.count } in
     (was_queued c.args.edited.graph.now c.args.edited.front.now search popped c.args.strength c.in-Some.o c.loop-o.invariant c.in-Some.ensures.items refl refl refl).0
 
 pub relax_edges-requires-clause-searching : goal.relax_edges-requires-clause-searching
 relax_edges-requires-clause-searching c =
     let search = c.loop-o.search in
-    let popped : Search = record { kept = search.kept; buckets = search.buckets; queue = c.pop_front.new.self; count = search.count } in
+    let popped : Search = record { found = search.found; buckets = search.buckets; queue = c.pop_front.new.self; count = search.count } in
     taken_out c.args.edited.graph.now c.args.edited.front.now search popped c.args.strength c.in-Some.o c.loop-o.invariant c.in-Some.ensures.items refl refl refl
 
 pub returns-clause-searching : goal.returns-clause-searching
 returns-clause-searching c =
     let search = c.loop-o.search in
-    let popped : Search = record { kept = search.kept; buckets = search.buckets; queue = c.pop_front.new.self; count = search.count } in
+    let popped : Search = record { found = search.found; buckets = search.buckets; queue = c.pop_front.new.self; count = search.count } in
     none_taken c.args.edited.graph.now c.args.edited.front.now search popped c.args.strength c.loop-o.invariant c.in_default.ensures.items refl refl refl
