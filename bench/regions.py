@@ -1,0 +1,124 @@
+#!/usr/bin/env python3
+"""Measures cuts and their undos, by how many objects fall.
+
+    bench/regions.py PROGRAM FILE [PAIRS [SEED]]
+
+FILE is a dump of tools/real_dump.sh. It takes objects of all classes at random, asks `hdesk run` for their chains, cuts a
+random link of each chain, and takes that back. It prints the seconds of the opening; for each size of what fell the median
+of the milliseconds of a cut, of its undo, and of both, and the 95th percentile and the greatest of both; and the memory of
+the program: after the opening, after all pairs, and with 15 further marks, each of another log. PAIRS is how many cuts and
+undos there are, 500 where nothing is said, 2,000 at most. Needed are Linux and Python 3.8 or later.
+"""
+import random
+import statistics
+import subprocess
+import sys
+import time
+
+SIZES = [(0, 0), (1, 1), (2, 100), (101, 10_000), (10_001, 1_000_000), (1_000_001, 1 << 40)]
+
+
+class Desk:
+    """The program over a dump: lines that are asked, and replies."""
+
+    def __init__(self, program, path):
+        self.process = subprocess.Popen([program, "run", path], stdin=subprocess.PIPE, stdout=subprocess.PIPE)
+
+    def ask(self, line):
+        """The lines of a reply, or None for a refusal; and the seconds that it took."""
+        began = time.perf_counter()
+        self.process.stdin.write(line.encode() + b"\n")
+        self.process.stdin.flush()
+        head = self.process.stdout.readline().split()
+        if head[0] != b"ok":
+            return None, time.perf_counter() - began
+        lines = [self.process.stdout.readline() for _ in range(int(head[1]))]
+        return lines, time.perf_counter() - began
+
+    def memory(self, name):
+        """A line of the program's memory, in MB."""
+        with open(f"/proc/{self.process.pid}/status") as status:
+            kilobytes = next(int(line.split()[1]) for line in status if line.startswith(name))
+        return kilobytes // 1024
+
+
+def sample(desk, rng):
+    """Strong objects of all classes, at most 40 of each, in random order."""
+    ids = []
+    for line in desk.ask("classes STRONG")[0]:
+        group, count = line.split()[:2]
+        if int(count) <= 500_000:
+            members = desk.ask(f"members {group.decode()} STRONG")[0]
+            ids += rng.sample(members, min(40, len(members)))
+    rng.shuffle(ids)
+    return [i.decode().strip() for i in ids]
+
+
+def random_link(desk, rng, object_id):
+    """The source and slot of a random link of an object's chain, if it has one."""
+    chain = [line.decode().split() for line in desk.ask(f"chain {object_id}")[0] or []]
+    if len(chain) < 2:
+        return None
+    k = rng.randrange(1, len(chain))
+    return chain[k - 1][-1], chain[k][0]
+
+
+def fell(lines):
+    """How many objects fell or came back, by the line of an event."""
+    words = lines[0].split()
+    return int(words[3]) + int(words[5])
+
+
+def cut_and_undo(desk, link, mark):
+    """What fell by a cut, and the seconds of the cut and of its undo; None where it is refused."""
+    lines, cut = desk.ask(f"cut {link[0]} {link[1]}")
+    if lines is None:
+        return None
+    if mark:
+        desk.ask("mark")
+    count = fell(lines)
+    lines, undo = desk.ask("undo")
+    if fell(lines) != count:
+        sys.exit(f"not all came back of {link}")
+    return count, cut, undo
+
+
+def print_sizes(measured):
+    print("| Objects that fell | Pairs | Cut, ms | Undo, ms | Both, ms | 95 of 100 below | At most |")
+    print("|---|---|---|---|---|---|---|")
+    for low, high in SIZES:
+        rows = [(c * 1000, u * 1000) for n, c, u in measured if low <= n <= high]
+        if not rows:
+            continue
+        both = sorted(c + u for c, u in rows)
+        name = f"{low:,}" if low == high else f"{low:,} to {high:,}" if high < 1 << 40 else f"more than {low - 1:,}"
+        cut, undo = (statistics.median(r[i] for r in rows) for i in (0, 1))
+        most = both[min(len(both) - 1, len(both) * 95 // 100)]
+        print(f"| {name} | {len(rows)} | {cut:.2f} | {undo:.2f} | {statistics.median(both):.2f} | {most:.2f} | {both[-1]:.2f} |")
+
+
+def main():
+    pairs = min(2000, int(sys.argv[3])) if len(sys.argv) > 3 else 500
+    rng = random.Random(int(sys.argv[4]) if len(sys.argv) > 4 else 1)
+    began = time.perf_counter()
+    desk = Desk(sys.argv[1], sys.argv[2])
+    desk.ask("roots")
+    print(f"opened in {time.perf_counter() - began:.2f} s, peak {desk.memory('VmHWM')} MB, holds {desk.memory('VmRSS')} MB")
+    ids = sample(desk, rng)
+    before = desk.memory("VmRSS")
+    measured = []
+    for n in range(pairs):
+        link = random_link(desk, rng, ids[n % len(ids)])
+        done = link and cut_and_undo(desk, link, n % (pairs // 15 + 1) == 0)
+        if done:
+            measured.append(done)
+    print_sizes(measured)
+    few = [(c + u) * 1000 for n, c, u in measured if n <= 100]
+    print(f"median of both where at most 100 fell: {statistics.median(few):.2f} ms")
+    print(f"holds {before} MB before the edits, {desk.memory('VmRSS')} MB after {2 * len(measured)} events, with marks; "
+          f"peak {desk.memory('VmHWM')} MB")
+    desk.process.stdin.close()
+    desk.process.wait()
+
+
+main()
