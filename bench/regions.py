@@ -3,8 +3,9 @@
 
     bench/regions.py PROGRAM FILE [PAIRS [SEED]]
 
-FILE is a dump of tools/real_dump.sh. It takes objects of all classes at random, asks `hdesk run` for their chains, cuts a
-random link of each chain, and takes that back. It prints the seconds of the opening; for each size of what fell the median
+FILE is a dump of tools/real_dump.sh. It takes objects of classes at random, asks `hdesk run` for their chains, cuts the
+last link of each chain, or for every tenth a random one while that has taken less than 20 seconds, and takes that back. It
+prints the seconds of the opening; for each size of what fell the median
 of the milliseconds of a cut, of its undo, and of both, and the 95th percentile and the greatest of both; and the memory of
 the program: after the opening, after all pairs, and with 15 further marks, each of another log. PAIRS is how many cuts and
 undos there are, 500 where nothing is said, 2,000 at most. Needed are Linux and Python 3.8 or later.
@@ -43,9 +44,10 @@ class Desk:
 
 
 def sample(desk, rng):
-    """Strong objects of all classes, at most 40 of each, in random order."""
+    """Strong objects of 40 classes, at most 40 of each, in random order."""
     ids = []
-    for line in desk.ask("classes STRONG")[0]:
+    groups = desk.ask("classes STRONG")[0]
+    for line in rng.sample(groups, min(40, len(groups))):
         group, count = line.split()[:2]
         if int(count) <= 500_000:
             members = desk.ask(f"members {group.decode()} STRONG")[0]
@@ -54,12 +56,12 @@ def sample(desk, rng):
     return [i.decode().strip() for i in ids]
 
 
-def random_link(desk, rng, object_id):
-    """The source and slot of a random link of an object's chain, if it has one."""
+def link_of(desk, rng, object_id, far):
+    """The source and slot of the last link of an object's chain, or of a random one, if it has one."""
     chain = [line.decode().split() for line in desk.ask(f"chain {object_id}")[0] or []]
     if len(chain) < 2:
         return None
-    k = rng.randrange(1, len(chain))
+    k = rng.randrange(1, len(chain)) if far else len(chain) - 1
     return chain[k - 1][-1], chain[k][0]
 
 
@@ -108,7 +110,8 @@ def main():
     before = desk.memory("VmRSS")
     measured = []
     for n in range(pairs):
-        link = random_link(desk, rng, ids[n % len(ids)])
+        far = n % 10 == 0 and sum(cut + undo for _, cut, undo in measured) < 20
+        link = link_of(desk, rng, ids[n % len(ids)], far)
         done = link and cut_and_undo(desk, link, n % (pairs // 15 + 1) == 0)
         if done:
             measured.append(done)
