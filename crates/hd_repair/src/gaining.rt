@@ -15,7 +15,7 @@ use std::alloc::Global;
 
 /// Repairs what is kept after a gain, and tells whose strength has changed.
 ///
-/// What is gained stands, and before it did the supports were settled. The looks are at most the degree of the targets
+/// What is gained stands now. The supports were settled before it stood. The looks are at most the degree of the targets
 /// and of the objects whose strength changes.
 ///
 /// # Errors

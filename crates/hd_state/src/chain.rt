@@ -18,7 +18,7 @@ use std::alloc::Global;
 pub struct Link {
     /// The slot that it is in.
     pub slot: Slot,
-    /// What it goes through.
+    /// The kind of the reference.
     pub kind: EdgeKind,
     /// The number of the object that it leads to.
     pub target: u32,

@@ -18,7 +18,8 @@ use hd_terms::NoMemory;
 use hd_view::{AddedRoots, Edited, View, lost_between};
 use std::alloc::Global;
 
-/// Supports that were repaired, whose strength has changed, and how many edges and roots were looked at for it.
+/// What a repair answers: the repaired supports, the objects whose strength has changed, and how many edges and roots it
+/// looked at.
 #[derive(Drop)]
 pub struct Repair {
     pub supports: Supports,

@@ -328,8 +328,8 @@ impl State {
     }
 
     /// The chain of an object: a root path of the object's strength in which no object occurs twice, by the supports that are
-    /// kept. There is none where the
-    /// object is unreachable, or the graph has no object of this number. It has fewer links than the graph has objects.
+    /// kept. There is none where the object is unreachable, or the graph has no object of this number. It has fewer links than
+    /// the graph has objects.
     ///
     /// # Errors
     ///

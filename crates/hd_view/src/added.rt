@@ -51,7 +51,11 @@ fn event_numbers(alloc: Global, graph: &Graph, front: &Front) -> Result<Vec<Numb
 }
 
 impl AddedRoots {
-    /// The roots that events add. Where the dump's roots and the events are 2^32 or more there is no memory for them.
+    /// The roots that events add.
+    ///
+    /// # Errors
+    ///
+    /// Memory ran out, or the dump's roots and the events are 2^32 or more, which no file has.
     pub fn of(alloc: Global, graph: &Graph, front: &Front) -> Result<AddedRoots, NoMemory>
         ensures { IfOk result (λ a. IsAddedBy graph.now front.now a) }
     {

@@ -5,7 +5,7 @@ ghost use Rattle.hd_view.specs.Finding.{edge_count, start_from, IsCursor, IsEdge
 
 use hd_graph::Graph;
 
-/// How many edges of an object stand in the slots before one: the object's number, how many, and the slot's index.
+/// How many edges an object has before one of its slots, cut or not: the object's number, how many, and the slot's index.
 #[derive(Clone, Copy, Debug)]
 pub(crate) struct Cursor {
     pub(crate) object: u32,
