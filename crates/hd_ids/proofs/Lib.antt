@@ -1,1 +1,3 @@
 pub mod DistinctLemmas
+pub mod PlainLemmas
+pub mod RowLemmas

@@ -1,2 +1,6 @@
 pub mod IdHash
+pub mod Index
 pub mod Noted
+pub mod PageHash
+pub mod Rows
+pub mod Scatter

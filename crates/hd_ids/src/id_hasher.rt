@@ -2,30 +2,36 @@
 ghost use Rattle.std.specs.Prelude.{◌≡◌};
 ghost use Rattle.hd_ids.specs.IdHash as id_hash;
 
+use crate::scatter::scattered;
 use std::hash::{BuildHasher, Hasher};
 
-/// Hashes IDs so that those of neighbours lie near one another in the table.
+/// Hashes IDs by a secret number, so that those of neighbours lie near one another in the table.
 ///
 /// An ID is an address, and objects that stand near one another refer to one another. All objects of 128 bytes of
-/// the heap begin their search at one place, and the places of such blocks are scattered.
+/// the heap begin their search at one place, and the places of such blocks are scattered
+/// by the secret, so that who makes a dump can't foresee which blocks meet.
 #[derive(Clone, Copy)]
 pub(crate) struct IdHasher {
+    secret: u64,
     state: u64,
 }
 
 impl IdHasher {
-    pub(crate) fn new() -> IdHasher {
-        IdHasher { state: 0 }
+    /// The secret is made odd.
+    pub(crate) fn new(secret: u64) -> IdHasher {
+        IdHasher {
+            secret: secret | 1,
+            state: 0,
+        }
     }
 }
 
 /// The hash of an ID, below 2^32: the scattered number of its block in the lower 28 bits, and above these the place in the
 /// block. So the map looks for all objects of a block at one place, and tells them apart by the upper bits.
-fn mixed(id: u64) -> u64
-    ensures { result ≡ id_hash.mixed id }
+fn mixed(id: u64, secret: u64) -> u64
+    ensures { result ≡ id_hash.mixed secret id }
 {
-    let block = (id >> 7).wrapping_mul(0x9e37_79b9_7f4a_7c15);
-    (block >> 36) ^ ((id & 0x78) << 25)
+    (scattered(id >> 7, secret) >> 36) ^ ((id & 0x78) << 25)
 }
 
 impl Hasher for IdHasher {
@@ -41,7 +47,7 @@ impl Hasher for IdHasher {
         match bytes {
             [a, b, c, d, e, f, g, h] => {
                 let id = u64::from_le_bytes([*a, *b, *c, *d, *e, *f, *g, *h]);
-                self.state = mixed(id);
+                self.state = mixed(id, self.secret);
             }
             _ => {}
         }

@@ -3,49 +3,63 @@ ghost use Rattle.std.specs.Prelude.{◌≡◌, nat_eq, ◌<◌, ◌==◌, ℕ, [
 ghost use Rattle.std.specs.List.{IsDistinct};
 ghost use Rattle.hd_ids.specs.Noted.{is_noted, noted};
 
-use crate::id_hasher::IdHasher;
-use indexmap::IndexSet;
+use crate::paged::PagedIds;
+use crate::plain::PlainIds;
 use std::alloc::{AllocError, Global};
 use std::marker::Model;
 
+/// How the IDs are found.
+#[derive(Drop)]
+enum Index {
+    Paged(PagedIds),
+    Plain(PlainIds),
+}
+
 /// IDs of objects, each once, in the order in which they were first noted. The number of an object is the index of its ID.
+///
+/// IDs of objects that lie close are found by pages of the heap. Where the pages have few objects, or there are 2^31 IDs,
+/// all go over to one index. No answer shows by which they are found, nor the secret of the hashes.
 #[derive(Drop)]
 pub struct ObjectIds {
-    set: IndexSet<u64, IdHasher>,
+    index: Index,
 }
 
 impl Model for ObjectIds {
-    ghost use Rattle.std.specs.Prelude.{ℕ, List, nat_eq};
-    ghost use Rattle.std.specs.List.{IsDistinct};
+    ghost use Rattle.std.specs.Prelude.{ℕ, List};
+    ghost use Rattle.hd_ids.specs.Index.{ids_of};
 
     ghost Value = { List ℕ };
 
-    ghost view = { λ a. a.set.keys };
-
-    ghost invariant = { λ a. IsDistinct nat_eq a.set.keys };
+    ghost view = { λ a. ids_of a.index };
 }
 
 impl ObjectIds {
-    /// No IDs yet, with room for so many.
-    pub fn with_capacity(alloc: Global, room: usize) -> Result<ObjectIds, AllocError>
+    /// No IDs yet, with room for so many. The secret is a random number that who makes a dump can't know: without it,
+    /// IDs can be made that are slow to find. No answer depends on it.
+    pub fn with_capacity(alloc: Global, room: usize, secret: u64) -> Result<ObjectIds, AllocError>
         ensures { IfOk result (λ ids. ids ≡ []) }
     {
-        let set = IndexSet::with_capacity_and_hasher(alloc, room, IdHasher::new())?;
-        Ok(ObjectIds { set })
+        let paged = PagedIds::with_capacity(alloc, room, secret)?;
+        Ok(ObjectIds {
+            index: Index::Paged(paged),
+        })
     }
 
     /// How many IDs there are.
     pub fn len(&self) -> usize
         ensures { result ≡ length self.now }
     {
-        self.set.len()
+        match &self.index {
+            Index::Paged(paged) => paged.len(),
+            Index::Plain(plain) => plain.len(),
+        }
     }
 
     /// Whether there is none.
     pub fn is_empty(&self) -> bool
         ensures { result ≡ (length self.now == 0) }
     {
-        self.set.len() == 0
+        self.len() == 0
     }
 
     /// The IDs by number. No two are alike.
@@ -53,7 +67,10 @@ impl ObjectIds {
         ensures ids { result.now ≡ self.now }
         ensures distinct { IsDistinct nat_eq self.now }
     {
-        self.set.as_slice()
+        match &self.index {
+            Index::Paged(paged) => paged.as_slice(),
+            Index::Plain(plain) => plain.as_slice(),
+        }
     }
 
     /// The number of an ID, if it was noted.
@@ -61,7 +78,10 @@ impl ObjectIds {
         ensures first { result ≡ position (λ x. id == x) self.now }
         ensures distinct { (o : ℕ) → o < length self.now → slice_index self.now o ≡ id → result ≡ Some o }
     {
-        self.set.get_index_of(&id)
+        match &self.index {
+            Index::Paged(paged) => paged.index_of(id),
+            Index::Plain(plain) => plain.index_of(id),
+        }
     }
 
     /// Notes an ID, and answers whether it is new. Out of memory, nothing is noted.
@@ -70,7 +90,14 @@ impl ObjectIds {
         ensures is_new { IfOk result (λ new. new ≡ not (is_noted self.old id)) }
         ensures err { OnErr result (self.new ≡ self.old) }
     {
-        let new = self.set.insert(id)?;
+        let (plain, new) = match &mut self.index {
+            Index::Plain(plain) => return plain.note(id),
+            Index::Paged(paged) => match paged.note(id)? {
+                Some(new) => return Ok(new),
+                None => paged.to_plain_with(id)?,
+            },
+        };
+        self.index = Index::Plain(plain);
         Ok(new)
     }
 }

@@ -3,5 +3,10 @@
 
 mod id_hasher;
 mod ids;
+mod page_hasher;
+mod paged;
+mod plain;
+mod rows;
+mod scatter;
 
 pub use ids::ObjectIds;

@@ -1,7 +1,7 @@
 use Rattle.std.proofs.Common.{◌≡◌, ◌∙◌, ℕ, ◌<◌, List, length, get_or, ap, sym, eqb}
 use Rattle.std.specs.List.{position}
 use Rattle.hd_ids.proofs.DistinctLemmas.{found-at-index}
-use Rattle.hd_ids.proofs.ids.ObjectIds.index_of.Goals as goal
+use Rattle.hd_ids.proofs.plain.PlainIds.index_of.Goals as goal
 
 pub returns-clause-distinct : goal.returns-clause-distinct
 returns-clause-distinct c = λ o lt is.

@@ -1,0 +1,17 @@
+use Rattle.std.proofs.Common.{◌≡◌, ◌∙◌, List, ℕ, ap, get_or}
+use Rattle.hd_ids.specs.Rows.{slot_of, number_of}
+use Rattle.hd_ids.proofs.RowLemmas.{position-by-number, position-of-place}
+use Rattle.hd_ids.proofs.paged.PagedIds.index_of.Goals as goal
+
+pub returns-clause-first : goal.returns-clause-first
+returns-clause-first c =
+    let a = c.self.inside in
+    let number : c.number_at.result ≡ number_of a.ids.items c.args.id =
+    c.number_at.ensures ∙ ap (λ (ns : List ℕ). get_or ns (slot_of a.pages.keys c.args.id) 0) c.deref.ensures.value ∙ c.self.invariant.numbers_are.at c.args.id in
+    rw (← c.self.view_is) (position-by-number a.ids.items c.args.id c.number_at.result c.checked_sub.result number c.checked_sub.ensures)
+
+pub returns-clause-distinct : goal.returns-clause-distinct
+returns-clause-distinct c o lt is =
+    let a = c.self.inside in
+    let first = returns-clause-first c in
+    first ∙ position-of-place c.args.self.now c.args.id o (rw (← c.self.view_is) c.self.invariant.numbers_are.distinct) lt is

@@ -1,0 +1,127 @@
+//! IDs by pages of the heap.
+ghost use Rattle.std.specs.Prelude.{◌≡◌, nat_eq, ◌<◌, ◌==◌, ℕ, [], length, not, position, Some, slice_index, IfOk, OnOk, OnErr, IfSome, IfNone};
+ghost use Rattle.std.specs.List.{IsDistinct};
+ghost use Rattle.hd_ids.specs.Noted.{is_noted, noted};
+
+use crate::page_hasher::PageHasher;
+use crate::plain::PlainIds;
+use crate::rows::{ROW, add_id, add_row, number_at, page_of, place_of, row_after};
+use indexmap::IndexSet;
+use std::alloc::{AllocError, Global};
+use std::marker::Model;
+
+/// IDs by pages of the heap: the numbers of those of one page stand in one row.
+///
+/// The rows have at most 8 numbers for each ID, and 65,536 more.
+#[derive(Drop)]
+pub(crate) struct PagedIds {
+    alloc: Global,
+    secret: u64,
+    ids: Vec<u64>,
+    /// The pages of the IDs, in the order of their rows.
+    pages: IndexSet<u64, PageHasher>,
+    /// Rows of 512: one more than the number of each ID of a page, 0 where there is none.
+    numbers: Vec<u32>,
+    /// The page that was noted last, and its row.
+    last_page: u64,
+    last_row: usize,
+}
+
+impl Model for PagedIds {
+    ghost use Rattle.std.specs.Prelude.{ℕ, List};
+    ghost use Rattle.hd_ids.specs.Rows.{AreRows};
+
+    ghost Value = { List ℕ };
+
+    ghost view = { λ a. a.ids.items };
+
+    ghost invariant = { λ a. AreRows a.pages.keys a.numbers.items a.ids.items a.last_page a.last_row };
+}
+
+impl PagedIds {
+    /// No IDs yet, with room for so many in their list, and no rows.
+    pub(crate) fn with_capacity(
+        alloc: Global,
+        room: usize,
+        secret: u64,
+    ) -> Result<PagedIds, AllocError>
+        ensures { IfOk result (λ ids. ids ≡ []) }
+    {
+        let ids = Vec::with_capacity(alloc, room)?;
+        Ok(PagedIds {
+            alloc,
+            secret,
+            ids,
+            pages: IndexSet::with_hasher(alloc, PageHasher::new(secret)),
+            numbers: Vec::new(alloc),
+            last_page: 0,
+            last_row: 0,
+        })
+    }
+
+    /// How many IDs there are.
+    pub(crate) fn len(&self) -> usize
+        ensures { result ≡ length self.now }
+    {
+        self.ids.len()
+    }
+
+    /// The IDs by number. No two are alike.
+    pub(crate) fn as_slice(&self) -> &[u64]
+        ensures ids { result.now ≡ self.now }
+        ensures distinct { IsDistinct nat_eq self.now }
+    {
+        self.ids.as_slice()
+    }
+
+    /// The number of an ID, if it was noted.
+    pub(crate) fn index_of(&self, id: u64) -> Option<usize>
+        ensures first { result ≡ position (λ x. id == x) self.now }
+        ensures distinct { (o : ℕ) → o < length self.now → slice_index self.now o ≡ id → result ≡ Some o }
+    {
+        (number_at(&self.pages, &self.numbers, id) as usize).checked_sub(1)
+    }
+
+    /// Notes an ID, and answers whether it is new, or `None` where rows don't serve: a further row would have too few IDs,
+    /// or the ID's number would have too many bits. Then, and out of memory, nothing is noted.
+    pub(crate) fn note(&mut self, id: u64) -> Result<Option<bool>, AllocError>
+        ensures noted { IfOk result (λ answer. IfSome answer (λ new. self.new ≡ noted self.old id)) }
+        ensures is_new { IfOk result (λ answer. IfSome answer (λ new. new ≡ not (is_noted self.old id))) }
+        ensures none { IfOk result (λ answer. IfNone answer (self.new ≡ self.old)) }
+        ensures err { OnErr result (self.new ≡ self.old) }
+    {
+        if self.ids.len() >= 1 << 31 {
+            return Ok(None);
+        }
+        let page = page_of(id);
+        let row = row_after(&self.pages, self.last_page, self.last_row, page);
+        self.last_page = page;
+        self.last_row = row;
+        let slot = row * ROW + place_of(id);
+        if slot >= self.numbers.len() {
+            if self.numbers.len() + ROW > self.ids.len() * 8 + (1 << 16) {
+                return Ok(None);
+            }
+            self.ids.reserve(1)?;
+            add_row(&mut self.pages, &mut self.numbers, page)?;
+            add_id(&mut self.ids, &mut self.numbers, slot, id)?;
+            return Ok(Some(true));
+        }
+        if self.numbers[slot] != 0 {
+            return Ok(Some(false));
+        }
+        add_id(&mut self.ids, &mut self.numbers, slot, id)?;
+        Ok(Some(true))
+    }
+
+    /// The same IDs and a further one by one index of them all, with room for as many as their list, and whether it is new.
+    pub(crate) fn to_plain_with(&self, id: u64) -> Result<(PlainIds, bool), AllocError>
+        ensures noted { IfOk result (λ r. r.0 ≡ noted self.now id) }
+        ensures is_new { IfOk result (λ r. r.1 ≡ not (is_noted self.now id)) }
+    {
+        let room = self.ids.capacity();
+        let mut plain = PlainIds::with_ids(self.alloc, &self.ids, room, self.secret)?;
+        let new = plain.note(id)?;
+        Ok((plain, new))
+    }
+}

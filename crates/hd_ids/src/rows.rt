@@ -1,0 +1,107 @@
+//! Rows of numbers, one for each page of IDs.
+ghost use Rattle.std.specs.Prelude.{◌≡◌, ◌+◌, ◌*◌, ◌<◌, ◌≤◌, ◌^◌, [], ◌∷◌, ◌++◌, length, replicate, slice_index, slice_set, vec_len, vec_capacity, OnOk, OnErr};
+ghost use Rattle.hd_ids.specs.Rows as rows;
+
+use crate::page_hasher::PageHasher;
+use indexmap::IndexSet;
+use std::alloc::AllocError;
+
+/// How many numbers a row has.
+pub(crate) const ROW: usize = 512;
+
+/// The page of an ID: 4,096 addresses, apart by what 8 leaves of them.
+pub(crate) fn page_of(id: u64) -> u64
+    ensures { result ≡ rows.page_of id }
+{
+    id / 4096 * 8 + id % 8
+}
+
+/// The place of an ID in the row of its page.
+pub(crate) fn place_of(id: u64) -> usize
+    ensures place { result ≡ rows.place_of id }
+    ensures within { result < 512 }
+{
+    (id / 8 % 512) as usize
+}
+
+/// The row of a page, one past the last where it has none.
+pub(crate) fn row_of(pages: &IndexSet<u64, PageHasher>, page: u64) -> usize
+    ensures row { result ≡ rows.row_of pages.now.keys page }
+    ensures within { result ≤ length pages.now.keys }
+{
+    match pages.get_index_of(&page) {
+        Some(row) => row,
+        None => pages.len(),
+    }
+}
+
+/// The row of a page, where that of the last page is known.
+pub(crate) fn row_after(
+    pages: &IndexSet<u64, PageHasher>,
+    last_page: u64,
+    last_row: usize,
+    page: u64,
+) -> usize
+    requires last { rows.row_of pages.now.keys last_page ≡ last_row }
+    requires last_within { last_row ≤ length pages.now.keys }
+    ensures row { result ≡ rows.row_of pages.now.keys page }
+    ensures within { result ≤ length pages.now.keys }
+{
+    if page == last_page {
+        last_row
+    } else {
+        row_of(pages, page)
+    }
+}
+
+/// What stands at the place of an ID, 0 where its page has no row.
+pub(crate) fn number_at(pages: &IndexSet<u64, PageHasher>, numbers: &[u32], id: u64) -> u32
+    requires { length pages.now.keys ≤ 2 ^ 32 }
+    ensures { result ≡ slice_index numbers.now (rows.slot_of pages.now.keys id) }
+{
+    let slot = row_of(pages, page_of(id)) * ROW + place_of(id);
+    if slot < numbers.len() {
+        numbers[slot]
+    } else {
+        0
+    }
+}
+
+/// Gives a page its row, of zeros.
+pub(crate) fn add_row(
+    pages: &mut IndexSet<u64, PageHasher>,
+    numbers: &mut Vec<u32>,
+    page: u64,
+) -> Result<(), AllocError>
+    requires new { rows.row_of pages.old.keys page ≡ length pages.old.keys }
+    ensures pages { OnOk result (pages.new.keys ≡ pages.old.keys ++ page ∷ []) }
+    ensures numbers { OnOk result (numbers.new.items ≡ numbers.old.items ++ replicate 512 0) }
+    ensures same_pages { OnErr result (pages.new.keys ≡ pages.old.keys) }
+    ensures same_numbers { OnErr result (numbers.new.items ≡ numbers.old.items) }
+{
+    numbers.reserve(ROW)?;
+    pages.insert(page)?;
+    let len = numbers.len() + ROW;
+    numbers.resize(len, 0)?;
+    Ok(())
+}
+
+/// Adds an ID, and writes its number into its row.
+pub(crate) fn add_id(
+    ids: &mut Vec<u64>,
+    numbers: &mut Vec<u32>,
+    slot: usize,
+    id: u64,
+) -> Result<(), AllocError>
+    requires few { length ids.old.items < 2 ^ 31 }
+    requires within { slot < length numbers.old.items }
+    ensures ids { OnOk result (ids.new.items ≡ ids.old.items ++ id ∷ []) }
+    ensures numbers { OnOk result (numbers.new.items ≡ slice_set numbers.old.items slot (length ids.old.items + 1)) }
+    ensures same_ids { OnErr result (ids.new.items ≡ ids.old.items) }
+    ensures same_numbers { OnErr result (numbers.new.items ≡ numbers.old.items) }
+    ensures full { OnErr result (vec_capacity ids.old ≤ vec_len ids.old) }
+{
+    ids.push(id)?;
+    numbers[slot] = ids.len() as u32;
+    Ok(())
+}
