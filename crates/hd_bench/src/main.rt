@@ -21,6 +21,7 @@ use hd_terms::{Edit, Event, MOST_WORKERS, Mode, Slot, What};
 use std::env;
 use std::fs::{self, File};
 use std::io::Read;
+use std::random::RandomSource;
 use std::rt::{Clock, Env, Files};
 use std::sync::Arc;
 use std::thread::Threads;
@@ -119,7 +120,7 @@ fn cut_and_undo<R: Clock + Print + AllocGlobal>(rt: &R, state: &State, id: u64) 
 }
 
 /// Opens a dump.
-fn open_file<R: Files<File = File> + Clock + Print + AllocGlobal + Threads + Sync>(
+fn open_file<R: Files<File = File> + Clock + Print + AllocGlobal + RandomSource + Threads + Sync>(
     rt: &R,
     path: &str,
     workers: u32,

@@ -4,6 +4,7 @@ use hd_board::{Board, Desk, LearnFault, RefreshFault, open};
 use hd_state_tests::dumps::{graph_of, wide_array};
 use hd_terms::{Edit, LogFault, Refusal, Slot, Strength};
 use std::alloc::Global;
+use std::random::RandomSource;
 use std::sync::Wait;
 use std::test::Fail;
 use std::thread::Threads;
@@ -48,7 +49,7 @@ fn two_cuts_of_one_slot(rt: HostRuntime) -> Result<(), Fail> {
 }
 
 /// A board of two desks over the array of 3,000 references.
-fn two_wide_desks<R: Threads + Sync>(rt: &R, alloc: Global) -> Option<(Board, Vec<Desk>)> {
+fn two_wide_desks<R: RandomSource + Threads + Sync>(rt: &R, alloc: Global) -> Option<(Board, Vec<Desk>)> {
     let text = wide_array(alloc).ok()?;
     let graph = graph_of(rt, alloc, text.as_str())?;
     open(alloc, graph, 2).ok()
@@ -112,7 +113,7 @@ fn fell_between_versions(rt: HostRuntime) -> Result<(), Fail> {
 type Learned = (Option<Strength>, bool, Option<Strength>);
 
 /// The first desk cuts, and the second learns what the first has seen.
-fn learn_from<R: Threads + Wait + Sync>(rt: &R, alloc: Global) -> Option<Learned> {
+fn learn_from<R: RandomSource + Threads + Wait + Sync>(rt: &R, alloc: Global) -> Option<Learned> {
     let (board, mut desks) = two_desks(rt, alloc)?;
     let (first, second) = desks.as_mut_slice().split_first_mut()?;
     let second = second.first_mut()?;
@@ -125,7 +126,7 @@ fn learn_from<R: Threads + Wait + Sync>(rt: &R, alloc: Global) -> Option<Learned
 }
 
 /// The first desk cuts, and the second is refreshed.
-fn refreshed_after_cut<R: Threads + Wait + Sync>(rt: &R, alloc: Global) -> Option<Learned> {
+fn refreshed_after_cut<R: RandomSource + Threads + Wait + Sync>(rt: &R, alloc: Global) -> Option<Learned> {
     let (board, mut desks) = two_desks(rt, alloc)?;
     let (first, second) = desks.as_mut_slice().split_first_mut()?;
     let second = second.first_mut()?;
@@ -161,7 +162,7 @@ fn is_apart<R: Wait>(rt: &R, alloc: Global, desk: &mut Desk, other: &Board, told
 
 /// Whether a desk that has seen another's cut stands apart from a second board, on which a root was added; and then how many
 /// events it has seen, how far its state has come, and how well that reaches the second array.
-fn stands_apart<R: Threads + Wait + Sync>(
+fn stands_apart<R: RandomSource + Threads + Wait + Sync>(
     rt: &R,
     alloc: Global,
 ) -> Option<(bool, u32, u32, Option<Strength>)> {
@@ -188,7 +189,7 @@ fn boards_stand_apart(rt: HostRuntime) -> Result<(), Fail> {
 }
 
 /// A board closed with so many of its two desks.
-fn closed_with_some<R: Threads + Sync>(
+fn closed_with_some<R: RandomSource + Threads + Sync>(
     rt: &R,
     alloc: Global,
     n: usize,
@@ -199,7 +200,7 @@ fn closed_with_some<R: Threads + Sync>(
 }
 
 /// A board closed with the first desk of another board, which has added a root.
-fn closed_with_another<R: Threads + Wait + Sync>(
+fn closed_with_another<R: RandomSource + Threads + Wait + Sync>(
     rt: &R,
     alloc: Global,
 ) -> Option<Result<u32, bool>> {

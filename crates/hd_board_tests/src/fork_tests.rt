@@ -3,12 +3,13 @@ use crate::boards::{Answer, CUT, closed, edit, strength_at, two_desks, undo};
 use hd_board::{Board, Desk};
 use hd_terms::{Edit, LogFault, Refusal, Strength};
 use std::alloc::Global;
+use std::random::RandomSource;
 use std::sync::Wait;
 use std::test::Fail;
 use std::thread::Threads;
 
 /// A board on which the first desk has cut and the second is refreshed.
-fn cut_and_refreshed<R: Threads + Wait + Sync>(
+fn cut_and_refreshed<R: RandomSource + Threads + Wait + Sync>(
     rt: &R,
     alloc: Global,
 ) -> Option<(Board, Vec<Desk>)> {
@@ -45,7 +46,7 @@ fn forked_desk(rt: HostRuntime) -> Result<(), Fail> {
 }
 
 /// The private board of the second desk, after a cut by its own desk; and the desks of the first board.
-fn private_board<R: Threads + Wait + Sync>(rt: &R, alloc: Global) -> Option<(Board, Vec<Desk>)> {
+fn private_board<R: RandomSource + Threads + Wait + Sync>(rt: &R, alloc: Global) -> Option<(Board, Vec<Desk>)> {
     let (_, desks) = cut_and_refreshed(rt, alloc)?;
     let (private, mut desk) = Board::fork(desks.as_slice().get(1)?).ok()?;
     edit(rt, alloc, &private, &mut desk, CUT)?.ok()?;
@@ -53,7 +54,7 @@ fn private_board<R: Threads + Wait + Sync>(rt: &R, alloc: Global) -> Option<(Boa
 }
 
 /// The private board closed with the desk that was forked, or with none.
-fn closed_from<R: Threads + Wait + Sync>(
+fn closed_from<R: RandomSource + Threads + Wait + Sync>(
     rt: &R,
     alloc: Global,
     first: usize,
@@ -72,7 +73,7 @@ fn close_of_a_private_board(rt: HostRuntime) -> Result<(), Fail> {
 
 /// What the desk of a private board answers to an added root, where the desk that was forked had seen a cut and not come to
 /// it; and how many events the private board has then.
-fn forked_behind<R: Threads + Wait + Sync>(
+fn forked_behind<R: RandomSource + Threads + Wait + Sync>(
     rt: &R,
     alloc: Global,
 ) -> Option<(Answer, Result<u32, bool>)> {

@@ -5,6 +5,7 @@ use hd_log::Front;
 use hd_state_tests::dumps::{TWO_ARRAYS, graph_of};
 use hd_terms::{Edit, Strength};
 use std::alloc::Global;
+use std::random::RandomSource;
 use std::sync::Wait;
 use std::sync::atomic::{AtomicU64, Ordering};
 use std::test::Fail;
@@ -85,7 +86,7 @@ fn two_threads_cut_and_undo(rt: HostRuntime) -> Result<(), Fail> {
 }
 
 /// A board of four desks over the two arrays.
-fn four_desks<R: Threads + Sync>(rt: &R, alloc: Global) -> Option<(Board, Vec<Desk>)> {
+fn four_desks<R: RandomSource + Threads + Sync>(rt: &R, alloc: Global) -> Option<(Board, Vec<Desk>)> {
     let graph = graph_of(rt, alloc, TWO_ARRAYS)?;
     open(alloc, graph, 4).ok()
 }

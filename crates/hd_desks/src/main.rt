@@ -10,11 +10,12 @@ use hd_state_tests::dumps::{TWO_ARRAYS, graph_of};
 use hd_terms::{Edit, Slot, Strength};
 use std::alloc::Global;
 use std::io;
+use std::random::RandomSource;
 use std::sync::Wait;
 use std::thread::Threads;
 
 /// A board of two desks over the two arrays.
-fn two_desks<R: Threads + Sync>(rt: &R, alloc: Global) -> Option<(Board, Vec<Desk>)> {
+fn two_desks<R: RandomSource + Threads + Sync>(rt: &R, alloc: Global) -> Option<(Board, Vec<Desk>)> {
     let graph = graph_of(rt, alloc, TWO_ARRAYS)?;
     open(alloc, graph, 2).ok()
 }

@@ -17,6 +17,5 @@ pub mod KnownLemmas
 pub mod DumpLemmas
 pub mod OpenLemmas
 pub mod SmallLemmas
-pub mod RepeatLemmas
 pub mod CountLemmas
 pub mod KindLemmas

@@ -42,7 +42,7 @@ use Rattle.hd_graph.proofs.ArrayRowLemmas.{object_of_entry}
 use Rattle.hd_graph.proofs.DumpLemmas.{all_of, objects_in, roots_all, within_all, weight_all, weight-cons, row_objects-entries}
 use Rattle.hd_graph.proofs.SmallLemmas.{shapes-small, shapes-fit}
 use Rattle.hd_names.specs.Names.{first_names}
-use Rattle.hd_graph.proofs.RepeatLemmas.{repeats-map}
+use Rattle.hd_repeats.proofs.RepeatLemmas.{repeats-map}
 use Rattle.hd_names.proofs.NameLemmas.{first-names, names-in-file}
 
 -- functions of one value everywhere are one

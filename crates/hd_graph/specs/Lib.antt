@@ -4,7 +4,6 @@ pub mod PackedShapes
 pub mod Kinds
 pub mod GraphInside
 pub mod ArrayRows
-pub mod Noted
 pub mod Numbering
 pub mod Building
 pub mod Counting

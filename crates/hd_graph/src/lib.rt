@@ -9,7 +9,6 @@ mod graph;
 mod instance_rows;
 mod kinds;
 mod layouts;
-mod noted;
 mod number;
 mod opening;
 mod shape;

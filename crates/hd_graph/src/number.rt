@@ -5,14 +5,14 @@ ghost use Rattle.hd_terms.specs.SubRecords.{Instance};
 ghost use Rattle.hd_classes.specs.Known.{known_at};
 ghost use Rattle.hd_subs.specs.Views.{sub_view};
 ghost use Rattle.hd_ids.specs.Noted.{is_noted};
-ghost use Rattle.hd_graph.specs.Noted.{NotesId};
+ghost use Rattle.hd_repeats.specs.Noted.{NotesId};
 ghost use Rattle.hd_graph.specs.Numbering.{IsNumbered, NumbersOneMore, IsObjectFaultOrMemory, NotesObject, IsObjectStop, IsNullIdOrMemory, StopsAt, length_of};
 
 use crate::graph::StoredRoot;
 use crate::layouts::bytes_of_layout;
-use crate::noted::note_id;
 use hd_classes::Classes;
 use hd_ids::ObjectIds;
+use hd_repeats::note_id;
 use hd_subs::{DumpSubs, Item, Sub};
 use hd_terms::{Cause, IdSize, ReadFault, Span};
 use std::alloc::Global;
@@ -141,18 +141,19 @@ fn number_one(
 }
 
 /// Numbers the objects by their IDs, each ID once, counts those that are repeated or opaque, and collects the roots. An object
-/// with ID 0, and an instance that doesn't fit its class's layout, are faults.
+/// with ID 0, and an instance that doesn't fit its class's layout, are faults. The secret is for the hashes of IDs.
 pub(crate) fn number(
     alloc: Global,
     list: &DumpSubs,
     classes: &Classes,
     id_size: IdSize,
+    secret: u64,
 ) -> Result<Numbered, ReadFault>
     requires short { All (λ (p : ℕ × classes_of.ResolvedClass). length p.1.layout < 2 ^ 29) classes.now.classes }
     ensures ok { IfOk result (λ n. IsNumbered (known_at classes.now) id_size list.now n.ids n.roots.items n.tally) }
     ensures err { IfErr result (λ f. IsObjectFaultOrMemory (known_at classes.now) id_size list.now f) }
 {
-    let mut ids = ObjectIds::with_capacity(alloc, list.len())?;
+    let mut ids = ObjectIds::with_capacity(alloc, list.len(), secret)?;
     let mut roots = Vec::new(alloc);
     let mut tally = Tally {
         repeated: 0,

@@ -13,15 +13,17 @@ ghost use Rattle.hd_graph.specs.Building.{IsReadFaultOrMemory};
 use crate::filling::{Rows, rows_of};
 use crate::graph::{Graph, Repeats};
 use crate::kinds::kinds_of;
-use crate::noted::{repeated_loads, repeated_strings};
 use crate::number::{Numbered, number};
 use hd_classes::Classes;
 use hd_decode::{Gate, decode};
+use hd_ids::secret;
 use hd_names::names_of;
 use hd_records::{Records, read_records};
+use hd_repeats::{repeated_loads, repeated_strings};
 use hd_subs::DumpSubs;
 use hd_terms::{Mode, ReadFault};
 use std::alloc::Global;
+use std::random::RandomSource;
 use std::sync::Arc;
 use std::thread::Threads;
 
@@ -33,7 +35,7 @@ impl Graph {
     ///
     /// `NullObject` or `InstanceSize` at the tag of the first object with ID 0 or instance whose values don't fit its class's
     /// layout, an offset into the file in bytes; or out of memory, at 0.
-    pub fn build<R: Threads + Sync>(
+    pub fn build<R: RandomSource + Threads + Sync>(
         rt: &R,
         alloc: Global,
         bytes: &[u8],
@@ -50,10 +52,11 @@ impl Graph {
         ensures err { IfErr result (λ f. IsReadFaultOrMemory bytes.now f) }
     {
         let id_size = records.id_size;
-        let strings = repeated_strings(alloc, &records.strings)?;
-        let loads = repeated_loads(alloc, &records.loads)?;
+        let secret = secret(rt);
+        let strings = repeated_strings(alloc, &records.strings, secret)?;
+        let loads = repeated_loads(alloc, &records.loads, secret)?;
         let names = names_of(alloc, bytes, &records.loads, classes)?;
-        let Numbered { ids, roots, tally } = number(alloc, list, classes, id_size)?;
+        let Numbered { ids, roots, tally } = number(alloc, list, classes, id_size, secret)?;
         let Rows { slot_table, shapes } = rows_of(alloc, ids, classes, id_size, bytes, list)?;
         let slot_table = slot_table.resolve(rt, alloc)?;
         let kinds = kinds_of(alloc, &slot_table, &shapes)?;
@@ -83,7 +86,7 @@ impl Graph {
 ///
 /// The fault of the file, with its file offset in bytes: the one of least offset in the first phase that has one, in
 /// the order records, sub-records, classes, objects; or out of memory, at 0.
-pub fn open_dump<R: Threads + Sync, G: Gate>(
+pub fn open_dump<R: RandomSource + Threads + Sync, G: Gate>(
     rt: &R,
     alloc: Global,
     bytes: &[u8],

@@ -8,5 +8,7 @@ mod paged;
 mod plain;
 mod rows;
 mod scatter;
+mod seed;
 
 pub use ids::ObjectIds;
+pub use seed::secret;

@@ -13,6 +13,7 @@ use hd_graph::{Graph, open_dump};
 use hd_terms::{Mode, NoMemory, ReadFault};
 use std::alloc::{AllocFailed, Global};
 use std::io::{BufRead, Write};
+use std::random::RandomSource;
 use std::sync::{Arc, Wait};
 use std::thread::Threads;
 use thiserror::Error;
@@ -81,7 +82,7 @@ impl From<ServeFault> for RunFault {
 /// # Errors
 ///
 /// The dump's fault, or memory ran out.
-pub fn open_bytes<T: AllocGlobal + Threads + Sync>(
+pub fn open_bytes<T: AllocGlobal + RandomSource + Threads + Sync>(
     rt: &T,
     bytes: &[u8],
     workers: u32,
@@ -143,7 +144,7 @@ pub fn serve_alone<R: BufRead, W: Write>(
 /// # Errors
 ///
 /// The first of: the dump's fault, memory ran out, serving ended early, the board can't be closed.
-pub fn run_bytes<T: AllocGlobal + Threads + Wait + Sync, R: BufRead, W: Write>(
+pub fn run_bytes<T: AllocGlobal + RandomSource + Threads + Wait + Sync, R: BufRead, W: Write>(
     rt: &T,
     bytes: &[u8],
     workers: u32,

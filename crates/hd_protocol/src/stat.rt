@@ -19,6 +19,7 @@ use hd_words::strength_text;
 use std::alloc::{AllocError, Global};
 use std::fmt::Write as _;
 use std::io::Write;
+use std::random::RandomSource;
 use std::thread::Threads;
 
 /// Puts the lines of counts behind a text.
@@ -93,7 +94,7 @@ fn stat_text(alloc: Global, graph: &Graph) -> Result<String, NoMemory>
 }
 
 /// Opens the bytes of a dump, and makes the text of its counts and totals.
-fn stat_of_bytes<T: AllocGlobal + Threads + Sync>(
+fn stat_of_bytes<T: AllocGlobal + RandomSource + Threads + Sync>(
     rt: &T,
     bytes: &[u8],
     workers: u32,
@@ -111,7 +112,7 @@ fn stat_of_bytes<T: AllocGlobal + Threads + Sync>(
 /// Opens the bytes of a dump and writes its counts and totals.
 ///
 /// `workers` is the number of threads that decode, 1 to 16; `mode` says how far phantom references are followed.
-pub fn stat_bytes<T: AllocGlobal + Threads + Sync, W: Write>(
+pub fn stat_bytes<T: AllocGlobal + RandomSource + Threads + Sync, W: Write>(
     rt: &T,
     bytes: &[u8],
     workers: u32,

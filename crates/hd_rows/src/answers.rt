@@ -2,6 +2,7 @@
 use hd_protocol::{RunFault, run_bytes, stat_bytes};
 use hd_terms::Mode;
 use std::alloc::{AllocError, Global};
+use std::random::RandomSource;
 use std::sync::Wait;
 use std::thread::Threads;
 
@@ -36,7 +37,7 @@ fn with_fault(
 }
 
 /// The answer to a question over a dump, opened in a mode with so many workers, at least 1 and at most 16.
-pub fn answer<R: AllocGlobal + Threads + Wait + Sync>(
+pub fn answer<R: AllocGlobal + RandomSource + Threads + Wait + Sync>(
     rt: &R,
     dump: &[u8],
     workers: u32,
@@ -57,7 +58,7 @@ pub fn answer<R: AllocGlobal + Threads + Wait + Sync>(
 
 /// The answer to a question over a dump; where it isn't the same with every number of workers up to one, the first
 /// other answer stands behind it.
-pub fn answer_of_all<R: AllocGlobal + Threads + Wait + Sync>(
+pub fn answer_of_all<R: AllocGlobal + RandomSource + Threads + Wait + Sync>(
     rt: &R,
     dump: &[u8],
     opened: Settings,
@@ -86,7 +87,7 @@ fn both(alloc: Global, first: Vec<u8>, workers: u32, other: &[u8]) -> Result<Vec
 }
 
 /// How a dump opens in mode Direct: the first line of its `stat`, with the newline, or its fault.
-pub fn opening<R: AllocGlobal + Threads + Wait + Sync>(
+pub fn opening<R: AllocGlobal + RandomSource + Threads + Wait + Sync>(
     rt: &R,
     dump: &[u8],
 ) -> Result<Vec<u8>, AllocError> {

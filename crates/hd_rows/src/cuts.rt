@@ -1,6 +1,7 @@
 //! Dumps that are cut off at every length.
 use crate::answers::opening;
 use std::alloc::{AllocError, Global};
+use std::random::RandomSource;
 use std::sync::Wait;
 use std::thread::Threads;
 
@@ -86,7 +87,7 @@ fn next_run(
 }
 
 /// How a dump opens that is cut to each length below its own: a line for each run of lengths.
-pub fn openings_of_cuts<R: AllocGlobal + Threads + Wait + Sync>(
+pub fn openings_of_cuts<R: AllocGlobal + RandomSource + Threads + Wait + Sync>(
     rt: &R,
     dump: &[u8],
     cut: Cut,

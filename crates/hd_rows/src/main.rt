@@ -14,6 +14,7 @@ use case::Case;
 use std::alloc::AllocError;
 use std::io::{self, Write};
 use std::process::ExitCode;
+use std::random::RandomSource;
 use std::sync::Wait;
 use std::thread::Threads;
 use steps::run_line;
@@ -40,7 +41,7 @@ impl From<AllocError> for CaseFault {
 }
 
 /// Runs the cases of a text. At a fault, tells the number of its line.
-fn run_cases<R: AllocGlobal + Threads + Wait + Sync>(
+fn run_cases<R: AllocGlobal + RandomSource + Threads + Wait + Sync>(
     rt: &R,
     text: &str,
     case: &mut Case,

@@ -5,11 +5,12 @@ use crate::case::Case;
 use crate::cuts::{Cut, openings_of_cuts};
 use crate::input::read_input;
 use hd_terms::Mode;
+use std::random::RandomSource;
 use std::sync::Wait;
 use std::thread::Threads;
 
 /// Runs a line of a case. What is put in for a session is kept, and the first other line runs the session.
-pub fn run_line<R: AllocGlobal + Threads + Wait + Sync>(
+pub fn run_line<R: AllocGlobal + RandomSource + Threads + Wait + Sync>(
     rt: &R,
     case: &mut Case,
     line: &str,
@@ -29,7 +30,7 @@ pub fn run_line<R: AllocGlobal + Threads + Wait + Sync>(
 }
 
 /// Runs a line that puts nothing in.
-fn run_step<R: AllocGlobal + Threads + Wait + Sync>(
+fn run_step<R: AllocGlobal + RandomSource + Threads + Wait + Sync>(
     rt: &R,
     case: &mut Case,
     word: &str,
@@ -86,7 +87,7 @@ fn begin_case(case: &mut Case, name: &str) -> Result<(), CaseFault> {
 }
 
 /// Runs a session and writes the last lines of what it is answered.
-fn run_session<R: AllocGlobal + Threads + Wait + Sync>(
+fn run_session<R: AllocGlobal + RandomSource + Threads + Wait + Sync>(
     rt: &R,
     case: &mut Case,
     input: &[u8],
@@ -100,7 +101,7 @@ fn run_session<R: AllocGlobal + Threads + Wait + Sync>(
 }
 
 /// Writes the counts and totals of the dump.
-fn run_stat<R: AllocGlobal + Threads + Wait + Sync>(
+fn run_stat<R: AllocGlobal + RandomSource + Threads + Wait + Sync>(
     rt: &R,
     case: &mut Case,
 ) -> Result<(), CaseFault> {
@@ -111,7 +112,7 @@ fn run_stat<R: AllocGlobal + Threads + Wait + Sync>(
 }
 
 /// Writes how the dump opens.
-fn run_opens<R: AllocGlobal + Threads + Wait + Sync>(
+fn run_opens<R: AllocGlobal + RandomSource + Threads + Wait + Sync>(
     rt: &R,
     case: &mut Case,
 ) -> Result<(), CaseFault> {
@@ -122,7 +123,7 @@ fn run_opens<R: AllocGlobal + Threads + Wait + Sync>(
 }
 
 /// Writes how the dump opens with one other byte, behind the line that says which.
-fn run_change<R: AllocGlobal + Threads + Wait + Sync>(
+fn run_change<R: AllocGlobal + RandomSource + Threads + Wait + Sync>(
     rt: &R,
     case: &mut Case,
     rest: &str,
@@ -146,7 +147,7 @@ fn run_change<R: AllocGlobal + Threads + Wait + Sync>(
 }
 
 /// Writes how the dump opens that is cut to each length below its own.
-fn run_cuts<R: AllocGlobal + Threads + Wait + Sync>(
+fn run_cuts<R: AllocGlobal + RandomSource + Threads + Wait + Sync>(
     rt: &R,
     case: &mut Case,
     cut: Cut,

@@ -7,6 +7,7 @@ use hd_terms::Mode;
 use std::alloc::Global;
 use std::io::{self, BufRead, BufReader, Write};
 use std::net::{Ipv4Addr, Net, SocketAddr, TcpListener, TcpStream};
+use std::random::RandomSource;
 use std::sync::Wait;
 use std::thread::Threads;
 
@@ -20,7 +21,7 @@ pub fn listen<R: Net<Listener = TcpListener, Stream = TcpStream>>(
 }
 
 /// Serves two analysts over the two arrays, and answers what is printed; nothing where the dump can't be opened.
-pub fn serve_two<R: Threads + Wait + Sync>(
+pub fn serve_two<R: RandomSource + Threads + Wait + Sync>(
     rt: &R,
     alloc: Global,
     listener: TcpListener,

@@ -3,6 +3,7 @@ use crate::dumps::graph_of;
 use hd_state::State;
 use std::alloc::{AllocError, Global};
 use std::fmt::Write;
+use std::random::RandomSource;
 use std::test::Fail;
 use std::thread::Threads;
 
@@ -22,7 +23,7 @@ fn list_beside_a_short_way(alloc: Global) -> Result<String, AllocError> {
 }
 
 /// How many links the chain of an object of the opened dump has.
-fn links_of<R: Threads + Sync>(rt: &R, alloc: Global, text: &str, id: u64) -> Option<usize> {
+fn links_of<R: RandomSource + Threads + Sync>(rt: &R, alloc: Global, text: &str, id: u64) -> Option<usize> {
     let graph = graph_of(rt, alloc, text)?;
     let state = State::open(alloc, graph).ok()?;
     let o = state.graph().index_of(id)?;

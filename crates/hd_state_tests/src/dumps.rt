@@ -5,6 +5,7 @@ use hd_spell::spell;
 use hd_terms::{Mode, NoMemory};
 use std::alloc::Global;
 use std::fmt::Write as _;
+use std::random::RandomSource;
 use std::sync::Arc;
 use std::thread::Threads;
 
@@ -38,7 +39,7 @@ pub fn wide_array(alloc: Global) -> Result<String, NoMemory> {
 }
 
 /// The graph of the dump that a text spells, opened in a mode, if it opens.
-pub fn graph_in<R: Threads + Sync>(
+pub fn graph_in<R: RandomSource + Threads + Sync>(
     rt: &R,
     alloc: Global,
     text: &str,
@@ -49,6 +50,6 @@ pub fn graph_in<R: Threads + Sync>(
 }
 
 /// The graph of the dump that a text spells, if it opens.
-pub fn graph_of<R: Threads + Sync>(rt: &R, alloc: Global, text: &str) -> Option<Arc<Graph>> {
+pub fn graph_of<R: RandomSource + Threads + Sync>(rt: &R, alloc: Global, text: &str) -> Option<Arc<Graph>> {
     graph_in(rt, alloc, text, Mode::Direct)
 }

@@ -9,6 +9,7 @@ use hd_terms::{Edit, Event, Mode, NoMemory, RefKind, Slot, Strength, What};
 use hd_totals::GroupTotals;
 use std::alloc::Global;
 use std::fmt::Write as _;
+use std::random::RandomSource;
 use std::test::Fail;
 use std::thread::Threads;
 
@@ -201,7 +202,7 @@ fn taken_events(alloc: Global, opened: State, random: u64) -> Option<u32> {
 }
 
 /// How many events a random dump takes in a mode, if each state is as one computed afresh.
-fn taken_by_dump<R: Threads + Sync>(rt: &R, alloc: Global, random: u64, mode: Mode) -> Option<u32> {
+fn taken_by_dump<R: RandomSource + Threads + Sync>(rt: &R, alloc: Global, random: u64, mode: Mode) -> Option<u32> {
     let text = random_dump(alloc, random).ok()?;
     let graph = graph_in(rt, alloc, text.as_str(), mode)?;
     let state = State::open(alloc, graph).ok()?;

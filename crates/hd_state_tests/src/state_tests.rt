@@ -7,6 +7,7 @@ use hd_terms::{
     What,
 };
 use std::alloc::Global;
+use std::random::RandomSource;
 use std::test::Fail;
 use std::thread::Threads;
 
@@ -26,7 +27,7 @@ const UNDO: Event = Event {
 type Seen = (u32, Option<Strength>, Option<LogFault>);
 
 /// The state of the two arrays under the empty log.
-fn opened<R: Threads + Sync>(rt: &R, alloc: Global) -> Option<State> {
+fn opened<R: RandomSource + Threads + Sync>(rt: &R, alloc: Global) -> Option<State> {
     let graph = graph_of(rt, alloc, TWO_ARRAYS)?;
     State::open(alloc, graph).ok()
 }
@@ -87,7 +88,7 @@ fn strong_totals(state: &State) -> [(u64, u64); 3] {
 }
 
 /// The totals of the opened dump of groups.
-fn totals_of_groups_in<R: Threads + Sync>(rt: &R, alloc: Global) -> Option<[(u64, u64); 3]> {
+fn totals_of_groups_in<R: RandomSource + Threads + Sync>(rt: &R, alloc: Global) -> Option<[(u64, u64); 3]> {
     let graph = graph_of(rt, alloc, GROUPS)?;
     let state = State::open(alloc, graph).ok()?;
     Some(strong_totals(&state))

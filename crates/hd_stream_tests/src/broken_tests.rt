@@ -2,6 +2,7 @@
 use crate::serving::{Served, board_of};
 use crate::streams::{FailingReader, FailingWriter};
 use hd_protocol::{ServeFault, serve};
+use std::random::RandomSource;
 use std::sync::Wait;
 use std::test::Fail;
 use std::thread::Threads;
@@ -63,7 +64,7 @@ fn len_of_first(texts: &[&str], count: usize) -> usize {
 }
 
 /// What a session over a reader that fails after some bytes comes to, and how many events the desk has seen then.
-fn read_some<R: AllocGlobal + Threads + Wait + Sync>(
+fn read_some<R: AllocGlobal + RandomSource + Threads + Wait + Sync>(
     rt: &R,
     input: &[u8],
 ) -> Option<(Served, u32)> {
@@ -76,7 +77,7 @@ fn read_some<R: AllocGlobal + Threads + Wait + Sync>(
 }
 
 /// The same over a writer that fails after so many bytes.
-fn write_some<R: AllocGlobal + Threads + Wait + Sync>(
+fn write_some<R: AllocGlobal + RandomSource + Threads + Wait + Sync>(
     rt: &R,
     input: &[u8],
     room: usize,

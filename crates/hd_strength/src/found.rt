@@ -3,9 +3,12 @@ ghost use Rattle.std.specs.Prelude.{◌≡◌, ℕ, ◌<◌, length, set, IfOk};
 ghost use Rattle.hd_terms.specs.Settled.{reached_at, unreached};
 ghost use Rattle.hd_strength.specs.Found.{is_found};
 
+use crate::ahead::{BATCH, read_flags, read_rows, read_targets};
+use hd_graph::Graph;
 use hd_supports::PackedReached;
 use hd_terms::NoMemory;
 use std::alloc::Global;
+use std::collections::VecDeque;
 use std::marker::Model;
 
 /// What is kept of each object, and beside it a flag that says whether anything reaches the object.
@@ -16,6 +19,10 @@ use std::marker::Model;
 pub(crate) struct Found {
     kept: Vec<PackedReached>,
     reached: Vec<bool>,
+    /// How many of the objects that are taken next from the queue were looked at ahead.
+    ahead: usize,
+    /// The sum of what was read ahead.
+    read: u32,
 }
 
 impl Model for Found {
@@ -38,7 +45,12 @@ impl Found {
     {
         let kept = vec![in alloc; PackedReached::unreached(); objects as usize]?;
         let reached = vec![in alloc; false; objects as usize]?;
-        Ok(Found { kept, reached })
+        Ok(Found {
+            kept,
+            reached,
+            ahead: 0,
+            read: 0,
+        })
     }
 
     /// Whether anything reaches an object.
@@ -56,6 +68,24 @@ impl Found {
     {
         self.reached[o as usize] = reached.strength().rank() > 0;
         self.kept[o as usize] = reached;
+    }
+
+    /// Reads what the next objects of a queue will ask for, once for each batch of them. Call it after each object that is
+    /// taken from the queue. Nothing that is kept changes.
+    pub(crate) fn look_ahead(&mut self, graph: &Graph, queue: &VecDeque<u32>)
+        ensures { self.new ≡ self.old }
+    {
+        if self.ahead > 0 {
+            self.ahead -= 1;
+            return;
+        }
+        let (next, _) = queue.as_slices();
+        let next = next.get(..BATCH).unwrap_or(next);
+        self.ahead = next.len();
+        let rows = read_rows(graph, next);
+        let targets = read_targets(graph, next);
+        let flags = read_flags(graph, &self.reached, next);
+        self.read = rows.wrapping_add(targets).wrapping_add(flags);
     }
 
     /// What is kept of each object, in order.

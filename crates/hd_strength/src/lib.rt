@@ -1,6 +1,7 @@
 //! Strengths, supports and stamps of the objects of a graph.
 #![tactic(auto)]
 
+mod ahead;
 mod buckets;
 mod checking;
 mod cleared;

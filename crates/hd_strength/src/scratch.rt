@@ -263,6 +263,7 @@ fn spread_objects(
     ensures all { OnOk result (search.new.queue.items ≡ []) }
 {
     while let Some(o) = search.queue.pop_front() {
+        search.found.look_ahead(edited.graph, &search.queue);
         relax_edges(edited, search, o, strength)?;
     }
     Ok(())

@@ -16,6 +16,7 @@ use std::fs::File;
 use std::io::{self, BufWriter, IsTerminal, Write};
 use std::net::{Net, TcpListener, TcpStream};
 use std::process::ExitCode;
+use std::random::RandomSource;
 use std::rt::{Env, Files};
 use std::sync::Wait;
 use std::thread::Threads;
@@ -46,6 +47,7 @@ where
         + Input
         + Net<Listener = TcpListener, Stream = TcpStream>
         + Print
+        + RandomSource
         + Threads
         + Wait
         + Sync,

@@ -20,6 +20,7 @@ use hd_terms::Mode;
 use std::fs::File;
 use std::io::{BufRead, Write};
 use std::net::{Net, TcpListener, TcpStream};
+use std::random::RandomSource;
 use std::rt::Files;
 use std::sync::Wait;
 use std::thread::Threads;
@@ -106,7 +107,7 @@ fn report_usage<E: Write>(error: &Error, faults: &mut E) -> u8
 
 /// Serves one analyst's lines over the bytes of a file, which are given up before the first line. What is being done is shown
 /// until then.
-fn run_file<T: AllocGlobal + Clock + Threads + Wait + Sync, R: BufRead, W: Write, E: Write>(
+fn run_file<T: AllocGlobal + Clock + RandomSource + Threads + Wait + Sync, R: BufRead, W: Write, E: Write>(
     rt: &T,
     bytes: Vec<u8>,
     opening: Opening<'_>,
@@ -139,7 +140,7 @@ fn run<T, R: BufRead, W: Write, E: Write>(
     faults: &mut E,
 ) -> u8
 where
-    T: AllocGlobal + Clock + Files<File = File> + Threads + Wait + Sync,
+    T: AllocGlobal + Clock + Files<File = File> + RandomSource + Threads + Wait + Sync,
     requires { IsWorkers opening.workers }
     ensures no_usage { result ≢ USAGE }
     ensures runs { RunsFile opening.entry.mode (R.remaining input.old) (R.remaining input.new) (W.contents output.old) (W.contents output.new) result
@@ -172,6 +173,7 @@ where
         + Clock
         + Files<File = File>
         + Net<Listener = TcpListener, Stream = TcpStream>
+        + RandomSource
         + Threads
         + Wait
         + Sync,
@@ -207,6 +209,7 @@ where
         + Clock
         + Files<File = File>
         + Net<Listener = TcpListener, Stream = TcpStream>
+        + RandomSource
         + Threads
         + Wait
         + Sync,
@@ -252,6 +255,7 @@ where
         + Clock
         + Files<File = File>
         + Net<Listener = TcpListener, Stream = TcpStream>
+        + RandomSource
         + Threads
         + Wait
         + Sync,

@@ -15,6 +15,7 @@ use std::alloc::{AllocError, Global};
 use std::fmt::Write as _;
 use std::io::Write;
 use std::net::{Ipv4Addr, Net, SocketAddr, TcpListener, TcpStream};
+use std::random::RandomSource;
 use std::sync::{Arc, Wait};
 use std::thread::Threads;
 use std::time::Clock;
@@ -119,6 +120,7 @@ where
     T: AllocGlobal
         + Clock
         + Net<Listener = TcpListener, Stream = TcpStream>
+        + RandomSource
         + Threads
         + Wait
         + Sync,

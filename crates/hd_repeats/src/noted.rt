@@ -4,14 +4,18 @@ ghost use Rattle.hd_terms.specs.declared.Load.{Load};
 ghost use Rattle.hd_terms.specs.declared.Text.{Text};
 ghost use Rattle.hd_terms.specs.FirstRecords.{repeats};
 ghost use Rattle.hd_ids.specs.Noted.{is_noted};
-ghost use Rattle.hd_graph.specs.Noted.{NotesId};
+ghost use Rattle.hd_repeats.specs.Noted.{NotesId};
 
 use hd_ids::ObjectIds;
 use hd_records::{Loads, Texts};
 use std::alloc::{AllocError, Global};
 
 /// Notes an ID, and counts it if it was noted before. Answers whether it is new.
-pub(crate) fn note_id(ids: &mut ObjectIds, repeated: &mut u64, id: u64) -> Result<bool, AllocError>
+///
+/// # Errors
+///
+/// Memory ran out.
+pub fn note_id(ids: &mut ObjectIds, repeated: &mut u64, id: u64) -> Result<bool, AllocError>
     requires { repeated.old + 1 < 2 ^ 64 }
     ensures noted { OnOk result (NotesId id ids.old repeated.old ids.new repeated.new) }
     ensures is_new { IfOk result (λ new. new ≡ not (is_noted ids.old id)) }
@@ -23,11 +27,15 @@ pub(crate) fn note_id(ids: &mut ObjectIds, repeated: &mut u64, id: u64) -> Resul
     Ok(new)
 }
 
-/// How many texts have the ID of an earlier one.
-pub(crate) fn repeated_strings(alloc: Global, strings: &Texts) -> Result<u64, AllocError>
+/// How many texts have the ID of an earlier one. The secret is a random number, for the hashes of IDs: no answer depends on it.
+///
+/// # Errors
+///
+/// Memory ran out.
+pub fn repeated_strings(alloc: Global, strings: &Texts, secret: u64) -> Result<u64, AllocError>
     ensures { IfOk result (λ n. n ≡ repeats (λ (t : Text). t.id) strings.now) }
 {
-    let mut ids = ObjectIds::with_capacity(alloc, strings.len())?;
+    let mut ids = ObjectIds::with_capacity(alloc, strings.len(), secret)?;
     let mut repeated = 0;
     for text in strings.as_slice() {
         note_id(&mut ids, &mut repeated, text.id)?;
@@ -35,11 +43,16 @@ pub(crate) fn repeated_strings(alloc: Global, strings: &Texts) -> Result<u64, Al
     Ok(repeated)
 }
 
-/// How many loaded classes were loaded before, by the IDs of their class objects.
-pub(crate) fn repeated_loads(alloc: Global, loads: &Loads) -> Result<u64, AllocError>
+/// How many loaded classes were loaded before, by the IDs of their class objects. The secret is a random number, for the
+/// hashes of IDs: no answer depends on it.
+///
+/// # Errors
+///
+/// Memory ran out.
+pub fn repeated_loads(alloc: Global, loads: &Loads, secret: u64) -> Result<u64, AllocError>
     ensures { IfOk result (λ n. n ≡ repeats (λ (l : Load). l.class) loads.now) }
 {
-    let mut ids = ObjectIds::with_capacity(alloc, loads.len())?;
+    let mut ids = ObjectIds::with_capacity(alloc, loads.len(), secret)?;
     let mut repeated = 0;
     for load in loads.as_slice() {
         note_id(&mut ids, &mut repeated, load.class)?;

@@ -8,7 +8,7 @@ use Rattle.std.proofs.lemmas.List.FromFn.{length-enumerate_from}
 use Rattle.std.proofs.lemmas.List.Sums.{sum_by-cons, count_by-le-length}
 use Rattle.std.proofs.Math.Seq.{take-append_seam}
 use Rattle.hd_terms.specs.FirstRecords.{is_repeat, repeats}
-use Rattle.hd_graph.specs.Noted.{AreNoted, NotesId}
+use Rattle.hd_repeats.specs.Noted.{AreNoted, NotesId}
 use Rattle.hd_classes.proofs.FirstLemmas.{is_known, known-map}
 
 module _ {X : Type 0} (key : X → ℕ) where

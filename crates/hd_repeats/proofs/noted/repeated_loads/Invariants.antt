@@ -1,7 +1,7 @@
 use Rattle.std.proofs.Common.{take}
 use Rattle.hd_terms.specs.declared.Load.{Load}
-use Rattle.hd_graph.specs.Noted.{AreNoted}
-use Rattle.hd_graph.proofs.noted.repeated_loads.Given as goal
+use Rattle.hd_repeats.specs.Noted.{AreNoted}
+use Rattle.hd_repeats.proofs.noted.repeated_loads.Given as goal
 
 -- the IDs so far are noted
 abbrev pub invariant-loop-load : goal.invariant-loop-load

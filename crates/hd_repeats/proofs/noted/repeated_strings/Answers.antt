@@ -1,8 +1,8 @@
 use Rattle.std.proofs.Common.{◌∙◌, ap, arith}
 use Rattle.hd_terms.specs.declared.Text.{Text}
 use Rattle.hd_terms.specs.FirstRecords.{repeats}
-use Rattle.hd_graph.proofs.RepeatLemmas.{noted-next, noted-le, noted-all}
-use Rattle.hd_graph.proofs.noted.repeated_strings.Goals as goal
+use Rattle.hd_repeats.proofs.RepeatLemmas.{noted-next, noted-le, noted-all}
+use Rattle.hd_repeats.proofs.noted.repeated_strings.Goals as goal
 
 pub note_id-requires : goal.note_id-requires
 note_id-requires c = omega (arith, noted-le (λ (t : Text). t.id) c.as_slice-text-items.result.now c.loop-text.text-index _ _ c.loop-text.invariant)
