@@ -12,8 +12,6 @@ mod graph_tests;
 mod log_tests;
 pub mod random;
 #[cfg(test)]
-mod random_tests;
-#[cfg(test)]
 mod repair_tests;
 #[cfg(test)]
 mod settled_tests;

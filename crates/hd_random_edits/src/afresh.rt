@@ -1,0 +1,75 @@
+//! Whether a state is as one computed afresh.
+use hd_state::State;
+use hd_strength::{from_scratch, is_settled};
+use hd_supports::{PackedReached, Strengths, Supports};
+use hd_terms::{NoMemory, Strength};
+use hd_totals::GroupTotals;
+use std::alloc::Global;
+
+const STRENGTHS: [Strength; 6] = [
+    Strength::Unreachable,
+    Strength::Phantom,
+    Strength::Final,
+    Strength::Weak,
+    Strength::Soft,
+    Strength::Strong,
+];
+
+/// What a state keeps of each object, as a search leaves it.
+fn kept_of(alloc: Global, supports: &Supports) -> Result<Strengths, NoMemory> {
+    let mut kept = Vec::new(alloc);
+    for o in 0..supports.len() {
+        let reached = PackedReached::new(
+            supports.strength(o),
+            supports.support(o),
+            supports.stamp(o),
+        );
+        kept.push(reached)?;
+    }
+    if kept.len() >= 1 << 32 {
+        return Err(NoMemory);
+    }
+    Ok(Strengths::of(kept))
+}
+
+/// Whether the same strengths are kept of the same number of objects.
+fn have_same_strengths(a: &Strengths, b: &Strengths) -> bool {
+    if a.len() != b.len() {
+        return false;
+    }
+    for o in 0..a.len() {
+        if a.strength(o) != b.strength(o) {
+            return false;
+        }
+    }
+    true
+}
+
+/// Whether a state has the totals of what a search from scratch found.
+fn has_totals(alloc: Global, state: &State, found: Strengths) -> Result<bool, NoMemory> {
+    let supports = Supports::of(alloc, found)?;
+    if supports.len() != state.graph().objects() {
+        return Ok(false);
+    }
+    let totals = GroupTotals::of(alloc, state.graph(), &supports)?;
+    for strength in STRENGTHS {
+        if totals.classes(alloc, strength)? != state.classes(alloc, strength)? {
+            return Ok(false);
+        }
+    }
+    Ok(true)
+}
+
+/// Whether what a state keeps is settled under its log, with the strengths and totals of a search from scratch.
+pub fn is_as_afresh(alloc: Global, state: &State) -> Result<bool, NoMemory> {
+    let found = from_scratch(alloc, state.graph(), state.front())?;
+    let supports = state.supports(alloc)?;
+    let kept = kept_of(alloc, &supports)?;
+    if !is_settled(alloc, state.graph(), state.front(), &kept)? {
+        return Ok(false);
+    }
+    if !have_same_strengths(&found, &kept) {
+        return Ok(false);
+    }
+    has_totals(alloc, state, found)
+}
