@@ -1,12 +1,14 @@
 //! Opens a dump and answers the strength of one object, for measuring: `hd_bench FILE ID WORKERS`. With a fourth word, as in
 //! `hd_bench FILE ID 4 edits`, it also cuts the object's first reference to an object, and takes that back. With a fifth
-//! word, as in `hd_bench FILE ID 4 boards 16`, it opens a board of so many desks and appends to it instead (`boards.rt`).
+//! word, as in `hd_bench FILE ID 4 boards 16`, it opens a board of so many desks and appends to it instead (`boards.rt`); as in `hd_bench FILE ID 4 looks 40` it tells how many edges and
+//! roots the repairs of so many cuts look at (`looks.rt`).
 //!
 //! It prints the objects and roots of the dump, the strength, what fell and came back, and the microseconds that each
 //! part took. Without words it does nothing.
 #![tactic(auto)]
 
 mod boards;
+mod looks;
 
 ghost use Rattle.std.specs.Prelude.{IfOk};
 ghost use Rattle.hd_terms.specs.Workers.{IsWorkers};
@@ -18,6 +20,7 @@ use hd_graph::{Graph, open_dump};
 use hd_records::check_size;
 use hd_state::State;
 use hd_terms::{Edit, Event, MOST_WORKERS, Mode, Slot, What};
+use looks::measure_looks;
 use std::env;
 use std::fs::{self, File};
 use std::io::Read;
@@ -152,6 +155,21 @@ fn solved<R: Clock + Print + AllocGlobal>(rt: &R, graph: Arc<Graph>) -> Result<S
     Ok(state)
 }
 
+/// Computes the strengths of a graph's objects, and prints an object's; also cuts its first reference, and takes that back.
+fn measure_strength<R: Clock + Print + AllocGlobal>(
+    rt: &R,
+    graph: Arc<Graph>,
+    id: u64,
+    edits: bool,
+) -> Result<()> {
+    let state = solved(rt, graph)?;
+    answer(rt, &state, id)?;
+    if edits {
+        cut_and_undo(rt, &state, id)?;
+    }
+    Ok(())
+}
+
 fn main(rt: HostRuntime) -> Result<()> {
     let mut words = env::args(&rt)?;
     let _program = words.next();
@@ -161,14 +179,13 @@ fn main(rt: HostRuntime) -> Result<()> {
     let id = id_of(id.as_str())?;
     let workers = workers_of(workers.as_str())?;
     let graph = open_file(&rt, path.as_str(), workers)?;
-    let what = words.next();
-    if let Some(desks) = words.next() {
-        return measure_boards(&rt, graph, id, desks.as_str());
+    let (what, count) = (words.next(), words.next());
+    match (&what, &count) {
+        (Some(what), Some(cuts)) if what.as_str() == "looks" => {
+            let state = solved(&rt, graph)?;
+            measure_looks(&rt, &state, cuts.as_str())
+        }
+        (_, Some(desks)) => measure_boards(&rt, graph, id, desks.as_str()),
+        _ => measure_strength(&rt, graph, id, what.is_some()),
     }
-    let state = solved(&rt, graph)?;
-    answer(&rt, &state, id)?;
-    if what.is_some() {
-        cut_and_undo(&rt, &state, id)?;
-    }
-    Ok(())
 }

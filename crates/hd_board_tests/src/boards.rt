@@ -15,7 +15,10 @@ pub const CUT: Edit = Edit::Cut(1, Slot::Element(0));
 pub type Answer = Option<Result<(u32, u64, u64), Refusal>>;
 
 /// A board of two desks over the two arrays.
-pub fn two_desks<R: RandomSource + Threads + Sync>(rt: &R, alloc: Global) -> Option<(Board, Vec<Desk>)> {
+pub fn two_desks<R: RandomSource + Threads + Sync>(
+    rt: &R,
+    alloc: Global,
+) -> Option<(Board, Vec<Desk>)> {
     let graph = graph_of(rt, alloc, TWO_ARRAYS)?;
     open(alloc, graph, 2).ok()
 }

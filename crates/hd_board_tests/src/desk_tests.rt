@@ -49,7 +49,10 @@ fn two_cuts_of_one_slot(rt: HostRuntime) -> Result<(), Fail> {
 }
 
 /// A board of two desks over the array of 3,000 references.
-fn two_wide_desks<R: RandomSource + Threads + Sync>(rt: &R, alloc: Global) -> Option<(Board, Vec<Desk>)> {
+fn two_wide_desks<R: RandomSource + Threads + Sync>(
+    rt: &R,
+    alloc: Global,
+) -> Option<(Board, Vec<Desk>)> {
     let text = wide_array(alloc).ok()?;
     let graph = graph_of(rt, alloc, text.as_str())?;
     open(alloc, graph, 2).ok()
@@ -126,7 +129,10 @@ fn learn_from<R: RandomSource + Threads + Wait + Sync>(rt: &R, alloc: Global) ->
 }
 
 /// The first desk cuts, and the second is refreshed.
-fn refreshed_after_cut<R: RandomSource + Threads + Wait + Sync>(rt: &R, alloc: Global) -> Option<Learned> {
+fn refreshed_after_cut<R: RandomSource + Threads + Wait + Sync>(
+    rt: &R,
+    alloc: Global,
+) -> Option<Learned> {
     let (board, mut desks) = two_desks(rt, alloc)?;
     let (first, second) = desks.as_mut_slice().split_first_mut()?;
     let second = second.first_mut()?;

@@ -46,7 +46,10 @@ fn forked_desk(rt: HostRuntime) -> Result<(), Fail> {
 }
 
 /// The private board of the second desk, after a cut by its own desk; and the desks of the first board.
-fn private_board<R: RandomSource + Threads + Wait + Sync>(rt: &R, alloc: Global) -> Option<(Board, Vec<Desk>)> {
+fn private_board<R: RandomSource + Threads + Wait + Sync>(
+    rt: &R,
+    alloc: Global,
+) -> Option<(Board, Vec<Desk>)> {
     let (_, desks) = cut_and_refreshed(rt, alloc)?;
     let (private, mut desk) = Board::fork(desks.as_slice().get(1)?).ok()?;
     edit(rt, alloc, &private, &mut desk, CUT)?.ok()?;

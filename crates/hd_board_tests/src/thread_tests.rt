@@ -86,7 +86,10 @@ fn two_threads_cut_and_undo(rt: HostRuntime) -> Result<(), Fail> {
 }
 
 /// A board of four desks over the two arrays.
-fn four_desks<R: RandomSource + Threads + Sync>(rt: &R, alloc: Global) -> Option<(Board, Vec<Desk>)> {
+fn four_desks<R: RandomSource + Threads + Sync>(
+    rt: &R,
+    alloc: Global,
+) -> Option<(Board, Vec<Desk>)> {
     let graph = graph_of(rt, alloc, TWO_ARRAYS)?;
     open(alloc, graph, 4).ok()
 }

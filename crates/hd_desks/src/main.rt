@@ -15,7 +15,10 @@ use std::sync::Wait;
 use std::thread::Threads;
 
 /// A board of two desks over the two arrays.
-fn two_desks<R: RandomSource + Threads + Sync>(rt: &R, alloc: Global) -> Option<(Board, Vec<Desk>)> {
+fn two_desks<R: RandomSource + Threads + Sync>(
+    rt: &R,
+    alloc: Global,
+) -> Option<(Board, Vec<Desk>)> {
     let graph = graph_of(rt, alloc, TWO_ARRAYS)?;
     open(alloc, graph, 2).ok()
 }

@@ -23,7 +23,12 @@ fn list_beside_a_short_way(alloc: Global) -> Result<String, AllocError> {
 }
 
 /// How many links the chain of an object of the opened dump has.
-fn links_of<R: RandomSource + Threads + Sync>(rt: &R, alloc: Global, text: &str, id: u64) -> Option<usize> {
+fn links_of<R: RandomSource + Threads + Sync>(
+    rt: &R,
+    alloc: Global,
+    text: &str,
+    id: u64,
+) -> Option<usize> {
     let graph = graph_of(rt, alloc, text)?;
     let state = State::open(alloc, graph).ok()?;
     let o = state.graph().index_of(id)?;

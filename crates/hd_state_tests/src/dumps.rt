@@ -50,6 +50,10 @@ pub fn graph_in<R: RandomSource + Threads + Sync>(
 }
 
 /// The graph of the dump that a text spells, if it opens.
-pub fn graph_of<R: RandomSource + Threads + Sync>(rt: &R, alloc: Global, text: &str) -> Option<Arc<Graph>> {
+pub fn graph_of<R: RandomSource + Threads + Sync>(
+    rt: &R,
+    alloc: Global,
+    text: &str,
+) -> Option<Arc<Graph>> {
     graph_in(rt, alloc, text, Mode::Direct)
 }

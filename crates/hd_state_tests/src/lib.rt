@@ -10,6 +10,7 @@ pub mod dumps;
 mod graph_tests;
 #[cfg(test)]
 mod log_tests;
+pub mod looks;
 pub mod random;
 #[cfg(test)]
 mod repair_tests;

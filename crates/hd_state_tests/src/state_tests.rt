@@ -88,7 +88,10 @@ fn strong_totals(state: &State) -> [(u64, u64); 3] {
 }
 
 /// The totals of the opened dump of groups.
-fn totals_of_groups_in<R: RandomSource + Threads + Sync>(rt: &R, alloc: Global) -> Option<[(u64, u64); 3]> {
+fn totals_of_groups_in<R: RandomSource + Threads + Sync>(
+    rt: &R,
+    alloc: Global,
+) -> Option<[(u64, u64); 3]> {
     let graph = graph_of(rt, alloc, GROUPS)?;
     let state = State::open(alloc, graph).ok()?;
     Some(strong_totals(&state))

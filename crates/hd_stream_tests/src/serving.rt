@@ -15,7 +15,10 @@ pub struct Served {
 }
 
 /// A board of so many desks over the two arrays, 1 to 16, if it opens.
-pub fn board_of<R: AllocGlobal + RandomSource + Threads + Sync>(rt: &R, n: u8) -> Option<(Board, Vec<Desk>)> {
+pub fn board_of<R: AllocGlobal + RandomSource + Threads + Sync>(
+    rt: &R,
+    n: u8,
+) -> Option<(Board, Vec<Desk>)> {
     let graph = open_bytes(rt, &SAMPLE, 1, Mode::Direct).ok()?;
     open(rt.alloc(), graph, n.clamp(1, 16)).ok()
 }

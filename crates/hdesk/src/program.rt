@@ -107,7 +107,12 @@ fn report_usage<E: Write>(error: &Error, faults: &mut E) -> u8
 
 /// Serves one analyst's lines over the bytes of a file, which are given up before the first line. What is being done is shown
 /// until then.
-fn run_file<T: AllocGlobal + Clock + RandomSource + Threads + Wait + Sync, R: BufRead, W: Write, E: Write>(
+fn run_file<
+    T: AllocGlobal + Clock + RandomSource + Threads + Wait + Sync,
+    R: BufRead,
+    W: Write,
+    E: Write,
+>(
     rt: &T,
     bytes: Vec<u8>,
     opening: Opening<'_>,
