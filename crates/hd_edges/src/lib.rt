@@ -16,7 +16,7 @@ pub struct EdgeMark {
     pub slot: Slot,
     /// The number of the object that it leads to.
     pub target: u32,
-    /// What it goes through.
+    /// The kind of the reference.
     pub kind: EdgeKind,
     /// Whether no live edit takes it away.
     pub stands: bool,

@@ -36,6 +36,10 @@ impl<T> Model for Pages<T> {
 
 impl<T: Copy> Pages<T> {
     /// The list of the items of a `Vec`.
+    ///
+    /// # Errors
+    ///
+    /// Memory ran out.
     pub fn of_vec(alloc: Global, items: Vec<T>) -> Result<Pages<T>, NoMemory>
         requires { length items.items < 2 ^ 32 }
         ensures { IfOk result (λ p. p ≡ items.items) }
@@ -69,7 +73,10 @@ impl<T: Copy> Pages<T> {
     }
 
     /// Puts an item at a place. What another version shares is copied first: a page, and the group's list of its pages.
-    /// Where memory runs out, the list is as it was.
+    ///
+    /// # Errors
+    ///
+    /// Memory ran out. The list is as it was.
     pub fn with(&mut self, i: u32, item: T) -> Result<(), NoMemory>
         requires { i < length self.old }
         ensures ok { OnOk result (self.new ≡ slice_set self.old i item) }
@@ -82,6 +89,10 @@ impl<T: Copy> Pages<T> {
     }
 
     /// An equal version: a further owner of each group.
+    ///
+    /// # Errors
+    ///
+    /// Memory ran out.
     pub fn share(&self, alloc: Global) -> Result<Pages<T>, NoMemory>
         ensures { IfOk result (λ p. p ≡ self.now) }
     {

@@ -48,8 +48,11 @@ fn root_numbers(alloc: Global, graph: &Graph) -> Result<Vec<NumberOn>, NoMemory>
 }
 
 impl ReverseRows {
-    /// The slots and roots of a graph by the objects that they refer to. Where there are 2^32 references or more there is
-    /// no memory for them.
+    /// The slots and roots of a graph by the objects that they refer to.
+    ///
+    /// # Errors
+    ///
+    /// Memory ran out, or there are 2^32 references or more, which no file has.
     pub fn of(alloc: Global, graph: &Graph) -> Result<ReverseRows, NoMemory>
         ensures { IfOk result (λ r. IsReverseOf graph.now r) }
     {

@@ -26,6 +26,10 @@ impl Model for Supports {
 
 impl Supports {
     /// What a search left, in pages.
+    ///
+    /// # Errors
+    ///
+    /// Memory ran out.
     pub fn of(alloc: Global, strengths: Strengths) -> Result<Supports, NoMemory>
         ensures { IfOk result (λ s. s ≡ strengths) }
     {
@@ -34,6 +38,10 @@ impl Supports {
     }
 
     /// An equal version.
+    ///
+    /// # Errors
+    ///
+    /// Memory ran out.
     pub fn share(&self, alloc: Global) -> Result<Supports, NoMemory>
         ensures { IfOk result (λ s. s ≡ self.now) }
     {
@@ -48,7 +56,7 @@ impl Supports {
         self.kept.len()
     }
 
-    /// There are no more objects than 32 bits number.
+    /// There are fewer than 2^32 objects.
     pub fn are_few(&self)
         ensures { length self.now < 2 ^ 32 }
     {
@@ -79,8 +87,11 @@ impl Supports {
         self.kept.get(o).stamp()
     }
 
-    /// Gives an object a strength, what it owes it to, and a stamp. What another version shares is copied first. Where memory
-    /// runs out, nothing changes.
+    /// Gives an object a strength, what it owes it to, and a stamp. What another version shares is copied first.
+    ///
+    /// # Errors
+    ///
+    /// Memory ran out. Nothing has changed.
     pub fn put(
         &mut self,
         o: u32,

@@ -313,7 +313,7 @@ pub record RepliesDone (dump : Dump) (before after : List Event) (reply : List �
 abbrev pub accepted_reply : ℕ → List ℕ
 accepted_reply event = refused (codes "Accepted " ++ decimal event)
 
--- the reply to a command for which there is not enough memory
+-- the reply to a command for which memory ran out
 abbrev pub out_of_memory_reply : List ℕ
 out_of_memory_reply = refused (log_fault_name faults.OutOfMemory)
 

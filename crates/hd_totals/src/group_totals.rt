@@ -138,8 +138,7 @@ impl GroupTotals {
         }
     }
 
-    /// Moves an object of a group, and of so many bytes, from the total of one strength to that of another. After an error
-    /// nothing has changed.
+    /// Moves an object of a group, and of so many bytes, from the total of one strength to that of another.
     fn move_object(
         &mut self,
         group: Group,

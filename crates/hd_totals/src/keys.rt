@@ -90,7 +90,7 @@ impl GroupKeys {
         self.set.get_index_of(&key)
     }
 
-    /// Adds a key, if it isn't there, and gives its index. After an error nothing is added.
+    /// Adds a key, if it isn't there, and gives its index.
     pub(crate) fn add(&mut self, key: u128) -> Result<usize, NoMemory>
         requires { key ≤ 18446744073709551872 }
         ensures keys { OnOk result (self.new ≡ with_key self.old key) }
