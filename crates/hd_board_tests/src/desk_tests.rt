@@ -63,51 +63,10 @@ fn desks_share_pages(rt: HostRuntime) -> Result<(), Fail> {
     let (board, mut desks) = two_wide_desks(&rt, rt.alloc()).ok_or("the board opens")?;
     let (first, second) = desks.as_mut_slice().split_first_mut().ok_or("desks")?;
     let second = second.first_mut().ok_or("desks")?;
-    assert!(rt; edit(&rt, rt.alloc(), &board, first, LAST_CUT) == Some(Ok((0, 1, 0))));
+    let cut = Edit::Cut(1, Slot::Element(2999));
+    assert!(rt; edit(&rt, rt.alloc(), &board, first, cut) == Some(Ok((0, 1, 0))));
     assert!(rt; strength_at(first, 3001) == Some(Strength::Unreachable));
     assert!(rt; strength_at(second, 3001) == Some(Strength::Strong));
-    Ok(())
-}
-
-/// A cut of the last reference of the array of 3,000.
-const LAST_CUT: Edit = Edit::Cut(1, Slot::Element(2999));
-
-/// What has fallen since a desk's state before its last edit was taken back.
-fn fallen_by_undo<R: Wait>(
-    rt: &R,
-    alloc: Global,
-    board: &Board,
-    desk: &mut Desk,
-) -> Option<Vec<u64>> {
-    let between = desk.state().mark().ok()?;
-    undo(rt, alloc, board, desk, None)?.ok()?;
-    desk.state().fell(alloc, &between).ok()
-}
-
-/// What has fallen since a desk's opening, once it has cut; since then, once that is taken back; and since the opening.
-fn fallen_in_turn<R: Wait>(
-    rt: &R,
-    alloc: Global,
-    board: &Board,
-    desk: &mut Desk,
-) -> Option<[Vec<u64>; 3]> {
-    let opening = desk.state().mark().ok()?;
-    edit(rt, alloc, board, desk, LAST_CUT)?.ok()?;
-    let by_cut = desk.state().fell(alloc, &opening).ok()?;
-    let by_undo = fallen_by_undo(rt, alloc, board, desk)?;
-    let in_all = desk.state().fell(alloc, &opening).ok()?;
-    Some([by_cut, by_undo, in_all])
-}
-
-#[test]
-fn fell_between_versions(rt: HostRuntime) -> Result<(), Fail> {
-    let (board, mut desks) = two_wide_desks(&rt, rt.alloc()).ok_or("the board opens")?;
-    let first = desks.first_mut().ok_or("desks")?;
-    let [by_cut, by_undo, in_all] = fallen_in_turn(&rt, rt.alloc(), &board, first).ok_or(
-        "the desk cuts",
-    )?;
-    assert_eq!(rt; by_cut.as_slice(), [0xbb9].as_slice());
-    assert!(rt; by_undo.is_empty() && in_all.is_empty());
     Ok(())
 }
 
