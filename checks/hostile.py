@@ -3,11 +3,10 @@
 
     checks/hostile.py PROGRAM [BYTES..]
 
-PROGRAM is hdesk. Each dump is made at each size, 5, 10 and 20 million bytes by default, and counted by `PROGRAM stat`. Those of
-chains of classes have a fortieth of that, since they take long. A line has the dump, its bytes, the least seconds of three runs,
-the most memory, nanoseconds and bytes of memory for each byte of the dump, and by what the time has grown since the size
-before. A pass that isn't linear shows there. The files lie in a temporary folder, which is removed. Needed are Python 3.8 or
-later, and GNU time as /usr/bin/time.
+PROGRAM is hdesk. Each dump is made at each size, 5, 10 and 20 million bytes by default, and counted by `PROGRAM stat`. A line
+has the dump, its bytes, the least seconds of three runs, the most memory, nanoseconds and bytes of memory for each byte of the
+dump, and by what the time has grown since the size before. A pass that isn't linear shows there. The files lie in a temporary
+folder, which is removed. Needed are Python 3.8 or later, and GNU time as /usr/bin/time.
 """
 import os
 import random
@@ -70,13 +69,24 @@ def ids_of_few_pages(size):
     return in_segments([array(id) for id in ids])
 
 
+def ids_in_turns(size):
+    """Empty arrays at all addresses of some pages, one of each page after the other, so that no two of a page are near."""
+    pages = max(size // 25 // 512, 300)
+    return in_segments([array((1 << 32) + (i % pages << 12) + i // pages % 512 * 8) for i in range(size // 25)])
+
+
 def chain_of_classes(size):
     """Classes, each the super class of the next."""
     return in_segments([class_dump(i + 1, i) for i in range(size // 75)])
 
 
+def chain_with_fields(size):
+    """The same, and each has a field."""
+    return in_segments([class_dump(i + 1, i, (0x77,)) for i in range(size // 84)])
+
+
 def chain_with_instances(size):
-    """The same; the first has a field, and each has an instance."""
+    """Classes, each the super class of the next; the first has a field, and each has an instance."""
     parts = []
     for i in range(size // 104):
         parts.append(class_dump(i + 1, i, (0x77,) if i == 0 else ()))
@@ -114,18 +124,19 @@ def one_list(size):
     return in_segments(parts)
 
 
-# The dumps, and what part of each size they get.
 DUMPS = [
-    (colliding_ids, 1),
-    (ids_far_apart, 1),
-    (ids_of_few_pages, 1),
-    (chain_of_classes, 40),
-    (chain_with_instances, 40),
-    (names, 1),
-    (one_array, 1),
-    (empty_segments, 1),
-    (roots, 1),
-    (one_list, 1),
+    colliding_ids,
+    ids_far_apart,
+    ids_of_few_pages,
+    ids_in_turns,
+    chain_of_classes,
+    chain_with_fields,
+    chain_with_instances,
+    names,
+    one_array,
+    empty_segments,
+    roots,
+    one_list,
 ]
 
 
@@ -151,12 +162,12 @@ def main():
     program = os.path.abspath(sys.argv[1])
     sizes = [int(word) for word in sys.argv[2:]] or [5_000_000, 10_000_000, 20_000_000]
     with tempfile.TemporaryDirectory() as folder:
-        for make, part in DUMPS:
+        for make in DUMPS:
             before = None
             for size in sizes:
                 path = os.path.join(folder, make.__name__)
                 with open(path, "wb") as file:
-                    file.write(make(size // part))
+                    file.write(make(size))
                 length = os.path.getsize(path)
                 took, memory = measured(program, path, folder)
                 grown = "" if before is None else f", {took / before:.1f} times"

@@ -17,7 +17,8 @@ use crate::faults::{
 };
 use hd_graph::Graph;
 use hd_log::Front;
-use hd_state::{Done, State, edit_refusal};
+use hd_queries::edit_refusal;
+use hd_state::{Done, State};
 use hd_terms::{Edit, Event, NoMemory, What};
 use std::alloc::Global;
 use std::marker::Model;

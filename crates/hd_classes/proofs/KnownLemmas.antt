@@ -1,171 +1,43 @@
--- Lemmas on what is known of classes.
-use Rattle.std.proofs.Common.{◌≡◌, ◌≢◌, ◌∙◌, ◌⊎◌, inl, inr, ℕ, ◌+◌, ◌<◌, ◌≤◌, ◌^◌, List, [], ◌∷◌, ◌++◌, length, map, take, Option, Some, None, Bool, true, false, ◌||◌, cond, eqb, refl, sym, ap, subst, arith, ne_eqb, eq-eqb, eqb-true, All}
-use Rattle.std.specs.Prelude.{unwrap_or}
-use Rattle.std.specs.List.{filter_map, cons_option, find, slice_get}
-use Rattle.std.specs.Option.{option_map, option_and_then, is_some}
-use Rattle.std.specs.Map.{lookup, values_of}
+-- Lemmas on what is known of all classes.
+use Rattle.std.proofs.Common.{◌≡◌, ◌∙◌, ◌⊎◌, inl, inr, ℕ, ◌+◌, ◌≤◌, List, [], ◌∷◌, ◌++◌, length, map, take, Option, Some, None, Bool, true, false, ◌||◌, cond, eqb, eqb-true, refl, sym, ap, subst, arith}
+use Rattle.std.specs.List.{filter_map, find, list_any, slice_get}
+use Rattle.std.specs.Option.{option_map, option_and_then}
+use Rattle.std.specs.Map.{lookup, keys_of, values_of}
 use Rattle.std.proofs.lemmas.Bool.{or_parts}
-use Rattle.std.proofs.lemmas.Bool.Decides.{eqb_tells}
-use Rattle.std.proofs.lemmas.List.{take_all, length_push}
-use Rattle.std.proofs.lemmas.List.Elements.{All-nil, All-cons, All-head, All-tail}
+use Rattle.std.proofs.lemmas.Cmp.{nat_eq_equiv}
+use Rattle.std.proofs.lemmas.List.{take_all}
 use Rattle.std.proofs.lemmas.List.Folds.{list_any-append}
-use Rattle.std.proofs.lemmas.Map.Made.{lookup-map_values}
+use Rattle.std.proofs.lemmas.Map.Made.{is_some-lookup, length-le_from_is_member}
 use Rattle.std.proofs.lemmas.Option.{slice_get-map}
-use Rattle.indexmap.specs.IndexMap.{insert_entry}
-use Rattle.hd_terms.specs.declared.EdgeKind.{EdgeKind}
-use Rattle.hd_terms.specs.declared.EdgeKind.TheVariants as kinds
 use Rattle.hd_terms.specs.declared.errors.Cause.TheVariants as causes
 use Rattle.hd_terms.specs.declared.errors.ReadFault.{ReadFault}
 use Rattle.hd_terms.specs.declared.Load.{Load}
 use Rattle.hd_terms.specs.ReadFaults.{fault}
 use Rattle.hd_terms.specs.SubRecords.{ClassItem, Sub}
-use Rattle.hd_terms.specs.Classes.{ClassTable, ChainPrefix, LayoutField, ResolvedClass, class_at, longest_prefix, never_ends, chain_of, resolved_class, resolved_by, layout_of, referent_in, reference_kind, text_of_id, first_classes, class_table}
+use Rattle.hd_terms.specs.Classes.{ClassTable, ResolvedClass, never_ends, resolved_class, text_of_id, first_classes, class_table}
 use Rattle.hd_terms.specs.HeapFaults.{class_faults}
 use Rattle.hd_records.specs.declared.records.Records.{Records}
-use Rattle.hd_classes.specs.declared.known.ResolvedClass as declared_class
-use Rattle.hd_classes.specs.declared.known.LayoutField as declared_field
-use Rattle.hd_classes.specs.declared.chains.Walk.{Walk}
 use Rattle.hd_classes.specs.declared.source.Source.{Source}
 use Rattle.hd_classes.specs.declared.first_class.FirstClass as declared_first
-use Rattle.hd_classes.specs.Known.{AreClassesOf, IsClassFaultOrMemory, known_view, field_view}
+use Rattle.hd_classes.specs.Known.{AreClassesOf, IsClassFaultOrMemory}
 use Rattle.hd_classes.specs.FirstClass.{PlacedClass, placed_classes, entry_of, first_class_view, HasFirstClasses}
-use Rattle.hd_classes.specs.Sources.{IsSource, IsSourceOf, table_of, kind_among, known_of_walk}
-use Rattle.hd_classes.specs.Walks.{IsChainPrefix}
-use Rattle.hd_classes.specs.Building.{HasKnown, HasAllKnown, AddsClass, rows_view, is_among, cycle_at, IsCycleOrMemory, IsFirstCycleOrMemory}
+use Rattle.hd_classes.specs.Sources.{IsSource, IsSourceOf, table_of}
+use Rattle.hd_classes.specs.Links.{Row, views, is_kept}
+use Rattle.hd_classes.specs.Building.{IsSettled, AddsClass, AreResolved, HasAllKnown, is_among, cycle_at, IsCycleOrMemory, IsFirstCycleOrMemory}
 use Rattle.hd_classes.proofs.FirstClassLemmas.{first_classes-places, class_faults-places, length-places}
 use Rattle.hd_classes.proofs.SearchLemmas.{map-twice, first-at, none-at}
 use Rattle.hd_classes.proofs.NameLemmas.{take-next}
-use Rattle.hd_classes.proofs.PrefixLemmas.{chain_prefix-none}
+use Rattle.hd_classes.proofs.LinkLemmas.{views-length}
+use Rattle.hd_classes.proofs.ChainLemmas.{absent-chain}
+use Rattle.hd_classes.proofs.ResolvedLemmas.{resolved-none}
+use Rattle.hd_classes.proofs.KeptLemmas.{kept-known}
+use Rattle.hd_classes.proofs.PathLemmas.{or-cases}
 
--- the ID 0
-pub zero-ends : (classes : List ClassItem) (id : ℕ) → id ≡ 0 → never_ends classes id ≡ false
-zero-ends classes id zero =
-    let none : class_at classes id ≡ None = ap (class_at classes) zero in
-    ap (λ (n : ℕ). is_some (class_at classes n)) (chain_prefix-none classes (length classes) id none) ∙ ap is_some none
+none-some : {A : Type 0} (a : A) → ◌≡◌ {A = Option A} None (Some a) → ⊥
+none-some a e = cc
 
-pub zero-unknown : (t : ClassTable) (id : ℕ) → id ≡ 0 → resolved_class t id ≡ None
-zero-unknown t id zero = ap (resolved_class t) zero
-
--- the kind of a chain by the IDs
-kinds-by : (t : ClassTable) (cs : List ClassItem) → filter_map (λ (c : ClassItem). reference_kind t c.id) cs ≡ filter_map (reference_kind t) (map (λ (c : ClassItem). c.id) cs)
-kinds-by t [] = refl
-kinds-by t (c ∷ cs) = ap (cons_option (reference_kind t c.id)) (kinds-by t cs)
-
--- a walk to the end
-module _ (t : ClassTable) (id : ℕ) (w : Walk) (some : id ≡ 0 → ⊥) (h : IsChainPrefix (longest_prefix t.classes id) w) where
-  abbrev up : ChainPrefix
-  up = longest_prefix t.classes id
-
-  chain-by : (b : Bool) → eqb up.end 0 ≡ b → chain_of t.classes id ≡ cond b (Some up.classes) None
-  chain-by b e = ap (λ (x : Bool). cond x None (cond (eqb up.end 0) (Some up.classes) None)) (ne_eqb id 0 some) ∙ ap (λ (x : Bool). cond x (Some up.classes) None) e
-
-  known-walk : known_of_walk t w ≡ resolved_by t up.classes
-  known-walk =
-      let of : List ℕ → List LayoutField → ResolvedClass = λ (ids : List ℕ) (fs : List LayoutField). record { chain = ids; layout = fs; referent = referent_in t fs; kind = kind_among t ids } in
-      ap (λ (ids : List ℕ). of ids (map field_view w.layout.items)) h.chain
-      ∙ ap (λ (fs : List LayoutField). of (map (λ (c : ClassItem). c.id) up.classes) fs) h.layout
-      ∙ ap (λ (ks : List EdgeKind). record { chain = map (λ (c : ClassItem). c.id) up.classes; layout = layout_of up.classes; referent = referent_in t (layout_of up.classes); kind = unwrap_or (slice_get ks 0) kinds.Strong }) (sym (kinds-by t up.classes))
-
-  pub whole-known : w.end ≡ 0 → resolved_class t id ≡ Some (known_of_walk t w)
-  whole-known end =
-      ap (option_map (resolved_by t)) (chain-by true (eq-eqb up.end 0 (sym h.end ∙ end))) ∙ ap (λ (k : ResolvedClass). Some k) (sym known-walk)
-
-  pub whole-ends : w.end ≡ 0 → never_ends t.classes id ≡ false
-  whole-ends end = ap (λ (n : ℕ). is_some (class_at t.classes n)) (sym h.end ∙ end)
-
--- a chain by the ID at which it ends
-module _ (t : ClassTable) (id end : ℕ) (some : id ≡ 0 → ⊥) (is_end : end ≡ (longest_prefix t.classes id).end) where
-  pub end-unknown : (end ≡ 0 → ⊥) → resolved_class t id ≡ None
-  end-unknown other =
-      let up : ChainPrefix = longest_prefix t.classes id in
-      ap (option_map (resolved_by t))
-      (ap (λ (x : Bool). cond x None (cond (eqb up.end 0) (Some up.classes) None)) (ne_eqb id 0 some)
-      ∙ ap (λ (x : Bool). let o : Option (List ClassItem) = cond x (Some up.classes) None in o) (ne_eqb up.end 0 (λ (e : up.end ≡ 0). other (is_end ∙ e))))
-
-  pub end-ends : None ≡ class_at t.classes end → never_ends t.classes id ≡ false
-  end-ends none = ap (λ (n : ℕ). is_some (class_at t.classes n)) (sym is_end) ∙ ap is_some (sym none)
-
-  pub end-cycle : (c : ClassItem) → Some c ≡ class_at t.classes end → never_ends t.classes id ≡ true
-  end-cycle c is = ap (λ (n : ℕ). is_some (class_at t.classes n)) (sym is_end) ∙ ap is_some (sym is)
-
-pub cycle-found : (t : ClassTable) (x : PlacedClass) → never_ends t.classes x.class.id ≡ true → cycle_at t x ≡ Some (fault causes.ClassCycle x.offset)
-cycle-found t x never = ap (λ (b : Bool). cond b (Some (fault causes.ClassCycle x.offset)) None) never
-
-pub cycle-none : (t : ClassTable) (x : PlacedClass) → never_ends t.classes x.class.id ≡ false → cycle_at t x ≡ None
+cycle-none : (t : ClassTable) (x : PlacedClass) → never_ends t.classes x.class.id ≡ false → cycle_at t x ≡ None
 cycle-none t x ends = ap (λ (b : Bool). cond b (Some (fault causes.ClassCycle x.offset)) None) ends
-
-abbrev pub Rows : Type 0
-Rows = List (ℕ × declared_class.ResolvedClass)
-
--- one class more
-module _ (t : ClassTable) (before : List PlacedClass) (x : PlacedClass) where
-  among-push : (q : ℕ) → is_among (before ++ x ∷ []) q ≡ (is_among before q || (eqb q x.class.id || false))
-  among-push q = list_any-append (λ (y : PlacedClass). eqb q y.class.id) before (x ∷ [])
-
-  case-skips : (a b : Bool) (k : Option ResolvedClass) → (b ≡ true → k ≡ None) → cond a k None ≡ cond (a || (b || false)) k None
-  case-skips true b k h = refl
-  case-skips false true k h = sym (h refl)
-  case-skips false false k h = refl
-
-  pub known-skips : (rows : Rows) → resolved_class t x.class.id ≡ None → HasKnown t before rows → HasKnown t (before ++ x ∷ []) rows
-  known-skips rows none h = record {
-    known = λ (q : ℕ).
-        h.known q ∙ case-skips (is_among before q) (eqb q x.class.id) (resolved_class t q) (λ (e : eqb q x.class.id ≡ true). ap (resolved_class t) (eqb-true q x.class.id e) ∙ none)
-        ∙ ap (λ (b : Bool). cond b (resolved_class t q) None) (sym (among-push q));
-    few = omega (arith, h.few, length_push before x);
-    short = h.short;
-  }
-
-  case-adds : (q : ℕ) (a : Bool) (k : ResolvedClass) → resolved_class t x.class.id ≡ Some k → ((eqb x.class.id q ≡ true) × (x.class.id ≡ q)) ⊎ ((eqb x.class.id q ≡ false) × (x.class.id ≢ q))
-      → cond (eqb x.class.id q) (Some k) (cond a (resolved_class t q) None) ≡ cond (a || (eqb q x.class.id || false)) (resolved_class t q) None
-  case-adds q a k is (inl (e, same)) =
-      ap (λ (b : Bool). cond b (Some k) (cond a (resolved_class t q) None)) e
-      ∙ sym is ∙ ap (resolved_class t) same
-      ∙ by a (eqb q x.class.id) (eq-eqb q x.class.id (sym same))
-    where
-      by : (a b : Bool) → b ≡ true → resolved_class t q ≡ cond (a || (b || false)) (resolved_class t q) None
-      by true b e = refl
-      by false b e = ap (λ (v : Bool). cond (v || false) (resolved_class t q) None) (sym e)
-  case-adds q a k is (inr (e, other)) =
-      ap (λ (b : Bool). cond b (Some k) (cond a (resolved_class t q) None)) e
-      ∙ by a (eqb q x.class.id) (ne_eqb q x.class.id (λ (s : q ≡ x.class.id). other (sym s)))
-    where
-      by : (a b : Bool) → b ≡ false → cond a (resolved_class t q) None ≡ cond (a || (b || false)) (resolved_class t q) None
-      by true b e = refl
-      by false b e = ap (λ (v : Bool). cond (v || false) (resolved_class t q) None) (sym e)
-
-  case-view : (b : Bool) (v : declared_class.ResolvedClass) (o : Option declared_class.ResolvedClass) → option_map known_view (cond b (Some v) o) ≡ cond b (Some (known_view v)) (option_map known_view o)
-  case-view true v o = refl
-  case-view false v o = refl
-
-  abbrev IsShort : ℕ × ResolvedClass → Type 0
-  IsShort p = length p.1.layout < 2 ^ 29
-
-  case-short : (e : ℕ × declared_class.ResolvedClass) (es more : Rows) (k : ℕ) (v : declared_class.ResolvedClass) (b : Bool) → IsShort (k, known_view v) → All IsShort (rows_view (e ∷ es)) → All IsShort (rows_view more)
-      → All IsShort (rows_view (cond b ((e.0, v) ∷ es) (e ∷ more)))
-  case-short e es more k v true short all rest = All-cons IsShort (e.0, known_view v) (rows_view es) short (All-tail IsShort (e.0, known_view e.1) (rows_view es) all)
-  case-short e es more k v false short all rest = All-cons IsShort (e.0, known_view e.1) (rows_view more) (All-head IsShort (e.0, known_view e.1) (rows_view es) all) rest
-
-  short-insert : (k : ℕ) (v : declared_class.ResolvedClass) (es : Rows) → IsShort (k, known_view v) → All IsShort (rows_view es) → All IsShort (rows_view (insert_entry eqb es k v))
-  short-insert k v [] short all = All-cons IsShort (k, known_view v) [] short (All-nil IsShort)
-  short-insert k v (e ∷ es) short all =
-      case-short e es (insert_entry eqb es k v) k v (eqb k e.0) short all (short-insert k v es short (All-tail IsShort (e.0, known_view e.1) (rows_view es) all))
-
-  pub known-adds : (rows rows' : Rows) (v : declared_class.ResolvedClass) → resolved_class t x.class.id ≡ Some (known_view v) → length (known_view v).layout < 2 ^ 29
-      → ((q : ℕ) → lookup (λ (y : ℕ). eqb q y) rows' ≡ cond (eqb x.class.id q) (Some v) (lookup (λ (y : ℕ). eqb q y) rows))
-      → rows' ≡ insert_entry eqb rows x.class.id v → length rows' ≤ length rows + 1 → HasKnown t before rows → HasKnown t (before ++ x ∷ []) rows'
-  known-adds rows rows' v is short more grown longer h = record {
-    known = λ (q : ℕ).
-        let test : ℕ → Bool = λ (y : ℕ). eqb q y in
-        lookup-map_values known_view test rows'
-        ∙ ap (option_map known_view) (more q)
-        ∙ case-view (eqb x.class.id q) v (lookup test rows)
-        ∙ ap (cond (eqb x.class.id q) (Some (known_view v))) (sym (lookup-map_values known_view test rows) ∙ h.known q)
-        ∙ case-adds q (is_among before q) (known_view v) is (eqb_tells x.class.id q)
-        ∙ ap (λ (b : Bool). cond b (resolved_class t q) None) (sym (among-push q));
-    few = omega (arith, h.few, length_push before x);
-    short = subst (λ (es : Rows). All IsShort (rows_view es)) (sym grown) (short-insert x.class.id v rows short h.short);
-  }
 
 -- the class at a place
 map-same : {X : Type 0} (xs : List X) → map (λ (x : X). x) xs ≡ xs
@@ -184,7 +56,38 @@ place-at list entries i x kept at =
     ∙ map-same (placed_classes list) in
     ap (λ (xs : List PlacedClass). slice_get xs i) (sym places) ∙ slice_get-map first_class_view (values_of entries) i ∙ ap (option_map first_class_view) at
 
--- all classes
+-- the class at a place, after those before it
+module _ (t : ClassTable) (before : List PlacedClass) (x : PlacedClass) (rows rows' : List Row) (ids ids' : List ℕ) where
+  settled-next : AreResolved t before rows ids → AddsClass t x rows rows' ids' → (id : ℕ) → is_among (before ++ x ∷ []) id ≡ true → IsSettled t rows' id
+  settled-next h more id among k is =
+      by (or-cases (is_among before id) (eqb id x.class.id) (sym (list_any-append (λ (y : PlacedClass). eqb id y.class.id) before (x ∷ [])) ∙ among))
+    where
+      by : (is_among before id ≡ true) ⊎ (eqb id x.class.id ≡ true) → is_kept rows' id ≡ true
+      by (inl old) = more.more id (h.settled id old k is)
+      by (inr new) =
+          let same : id ≡ x.class.id = eqb-true id x.class.id new in
+          ap (is_kept rows') same ∙ more.settled k (sym (ap (resolved_class t) same) ∙ is)
+
+pub resolved-next : (s : Source) (i : ℕ) (x : PlacedClass) (rows rows' : List Row) (ids ids' : List ℕ) → slice_get (placed_classes s.list.now) i ≡ Some x
+    → AreResolved (table_of s) (take i (placed_classes s.list.now)) rows ids → AddsClass (table_of s) x rows rows' ids' → AreResolved (table_of s) (take (i + 1) (placed_classes s.list.now)) rows' ids'
+resolved-next s i x rows rows' ids ids' at h more =
+    let t = table_of s in
+    let before = take i (placed_classes s.list.now) in
+    let grown : take (i + 1) (placed_classes s.list.now) ≡ before ++ x ∷ [] = take-next (placed_classes s.list.now) i x at in
+    record {
+      kept = more.kept;
+      broken = more.broken;
+      settled = λ id among. settled-next t before x rows rows' ids ids' h more id (sym (ap (λ (xs : List PlacedClass). is_among xs id) grown) ∙ among);
+      no_cycle = none-at (cycle_at t) (placed_classes s.list.now) i x at h.no_cycle (cycle-none t x more.ends);
+    }
+
+-- one fault is the first of all
+pub fault-first : (s : Source) (i : ℕ) (x : PlacedClass) (f : ReadFault) → slice_get (placed_classes s.list.now) i ≡ Some x → filter_map (cycle_at (table_of s)) (take i (placed_classes s.list.now)) ≡ []
+    → IsCycleOrMemory (table_of s) x f → IsFirstCycleOrMemory s f
+fault-first s i x f at none (inl memory) = inl memory
+fault-first s i x f at none (inr cycle) = inr (first-at (cycle_at (table_of s)) (placed_classes s.list.now) i x at f none cycle)
+
+-- no class has an ID that none of them has
 none-among : (id : ℕ) (xs : List PlacedClass) → is_among xs id ≡ false → find (λ (c : ClassItem). eqb id c.id) (map (λ (x : PlacedClass). x.class) xs) ≡ None
 none-among id [] none = refl
 none-among id (x ∷ xs) none =
@@ -195,55 +98,78 @@ absent-class : (b : Bool) (o : Option ClassItem) → o ≡ None → cond b None 
 absent-class true o e = refl
 absent-class false o e = e
 
-absent-chain : (t : ClassTable) (id : ℕ) → class_at t.classes id ≡ None → ((eqb id 0 ≡ true) × (id ≡ 0)) ⊎ ((eqb id 0 ≡ false) × (id ≢ 0)) → resolved_class t id ≡ None
-absent-chain t id none (inl (e, zero)) = zero-unknown t id zero
-absent-chain t id none (inr (e, some)) =
-    let end : (longest_prefix t.classes id).end ≡ id = chain_prefix-none t.classes (length t.classes) id none in
-    ap (λ (b : Bool). option_map (resolved_by t) (cond b None (cond (eqb (longest_prefix t.classes id).end 0) (Some (longest_prefix t.classes id).classes) None))) e
-    ∙ ap (λ (n : ℕ). option_map (resolved_by t) (cond (eqb n 0) (Some (longest_prefix t.classes id).classes) None)) end
-    ∙ ap (λ (b : Bool). option_map (resolved_by t) (cond b (Some (longest_prefix t.classes id).classes) None)) e
+unknown : (s : Source) (id : ℕ) → is_among (placed_classes s.list.now) id ≡ false → resolved_class (table_of s) id ≡ None
+unknown s id none =
+    let missing : find (λ (c : ClassItem). eqb id c.id) (first_classes s.list.now) ≡ None =
+    ap (find (λ (c : ClassItem). eqb id c.id)) (first_classes-places s.list.now) ∙ none-among id (placed_classes s.list.now) none in
+    resolved-none (table_of s) id (absent-chain (first_classes s.list.now) id (absent-class (eqb id 0) _ missing))
 
-length-map : {X Y : Type 0} (f : X → Y) (xs : List X) → length (map f xs) ≡ length xs
-length-map f [] = refl
-length-map f (x ∷ xs) = omega (arith, length-map f xs)
+among-known : (s : Source) (id : ℕ) (k : ResolvedClass) → resolved_class (table_of s) id ≡ Some k → (b : Bool) → is_among (placed_classes s.list.now) id ≡ b → b ≡ true
+among-known s id k is true e = refl
+among-known s id k is false e = absurd (none-some k (sym (unknown s id e) ∙ is))
 
-length-rows : (rows : Rows) → length (rows_view rows) ≡ length rows
-length-rows [] = refl
-length-rows (p ∷ rows) = omega (arith, length-rows rows)
+-- all classes are resolved
+module _ (s : Source) (rows : List Row) (ids : List ℕ) (h : AreResolved (table_of s) (placed_classes s.list.now) rows ids) where
+  looked-none : (id : ℕ) → lookup (λ (x : ℕ). eqb id x) (views rows) ≡ None → (o : Option ResolvedClass) → resolved_class (table_of s) id ≡ o → o ≡ None
+  looked-none id none None is = refl
+  looked-none id none (Some k) is =
+      let known = kept-known rows id (h.settled id (among-known s id k is (is_among (placed_classes s.list.now) id) refl) k is) in
+      absurd (none-some known.0 (sym none ∙ known.1))
 
-pub length-layout : (fs : List declared_field.LayoutField) → length (map field_view fs) ≡ length fs
-length-layout fs = length-map field_view fs
+  looked : (id : ℕ) (o : Option ResolvedClass) → lookup (λ (x : ℕ). eqb id x) (views rows) ≡ o → o ≡ resolved_class (table_of s) id
+  looked id None e = sym (looked-none id e (resolved_class (table_of s) id) refl)
+  looked id (Some k) e = sym (h.kept.known id k e)
 
-module _ (s : Source) (rows : Rows) (is : IsSource s) (h : HasAllKnown s rows) where
+  pub all-known : HasAllKnown s rows
+  all-known = record { kept = h.kept; known = λ id. looked id (lookup (λ (x : ℕ). eqb id x) (views rows)) refl; no_cycle = h.no_cycle }
+
+pub known-all : (s : Source) (i : ℕ) (rows : List Row) (ids : List ℕ) → length s.classes.entries ≤ i → HasFirstClasses s.list.now s.classes.entries
+    → AreResolved (table_of s) (take i (placed_classes s.list.now)) rows ids → HasAllKnown s rows
+known-all s i rows ids le kept h =
+    let all : take i (placed_classes s.list.now) ≡ placed_classes s.list.now = take_all i (placed_classes s.list.now) (omega (arith, length-places s.list.now s.classes.entries kept, le)) in
+    let P : List PlacedClass → Type 0 = λ (xs : List PlacedClass). AreResolved (table_of s) xs rows ids in
+    all-known s rows ids (subst P all h)
+
+-- each class that is kept is one of the file's, so they are no more than these
+module _ (s : Source) (rows : List Row) (is : IsSource s) (h : HasAllKnown s rows) where
   abbrev places : List PlacedClass
   places = placed_classes s.list.now
 
-  unknown : (id : ℕ) → is_among places id ≡ false → resolved_class (table_of s) id ≡ None
-  unknown id none =
-      let missing : find (λ (c : ClassItem). eqb id c.id) (first_classes s.list.now) ≡ None = ap (find (λ (c : ClassItem). eqb id c.id)) (first_classes-places s.list.now) ∙ none-among id places none in
-      absent-chain (table_of s) id (absent-class (eqb id 0) _ missing) (eqb_tells id 0)
+  among-ids : (id : ℕ) (xs : List PlacedClass) → list_any (λ (x : ℕ). eqb id x) (map (λ (x : PlacedClass). x.class.id) xs) ≡ is_among xs id
+  among-ids id [] = refl
+  among-ids id (x ∷ xs) = ap (λ (b : Bool). eqb id x.class.id || b) (among-ids id xs)
 
-  case-known : (id : ℕ) (b : Bool) → is_among places id ≡ b → cond b (resolved_class (table_of s) id) None ≡ resolved_class (table_of s) id
-  case-known id true e = refl
-  case-known id false e = sym (unknown id e)
+  length-map : {X Y : Type 0} (f : X → Y) (xs : List X) → length (map f xs) ≡ length xs
+  length-map f [] = refl
+  length-map f (x ∷ xs) = omega (arith, length-map f xs)
+
+  member : (id : ℕ) → list_any (λ (x : ℕ). eqb id x) (keys_of rows) ≡ true → list_any (λ (x : ℕ). eqb id x) (map (λ (x : PlacedClass). x.class.id) places) ≡ true
+  member id there =
+      let known = kept-known rows id (is_some-lookup (λ (x : ℕ). eqb id x) rows ∙ there) in
+      among-ids id places ∙ among-known s id known.0 (h.kept.known id known.0 known.1) (is_among places id) refl
+
+  few : length (views rows) ≤ length (first_classes s.list.now)
+  few = omega (
+    arith,
+    length-le_from_is_member nat_eq_equiv (keys_of rows) (map (λ (x : PlacedClass). x.class.id) places) h.kept.distinct member,
+    length-map (λ (r : Row). r.0) rows,
+    length-map (λ (x : PlacedClass). x.class.id) places,
+    views-length rows [],
+    ap (λ (cs : List ClassItem). length cs) (first_classes-places s.list.now),
+    length-map (λ (x : PlacedClass). x.class) places,
+  )
 
   case-name : (o : Option Load) → option_and_then (λ (name : ℕ). lookup (λ (x : ℕ). eqb name x) s.texts.entries) (option_map (λ (l : Load). l.name) o) ≡ option_and_then (λ (l : Load). text_of_id (table_of s) l.name) o
   case-name None = refl
   case-name (Some l) = is.texts l.name
 
-  pub are-classes : AreClassesOf (table_of s) (record { texts = s.texts.entries; names = s.names.entries; classes = rows_view rows })
+  pub are-classes : AreClassesOf (table_of s) (record { texts = s.texts.entries; names = s.names.entries; classes = views rows })
   are-classes = record {
     names = λ (id : ℕ).
         ap (option_and_then (λ (name : ℕ). lookup (λ (x : ℕ). eqb name x) s.texts.entries)) (is.names id) ∙ case-name (find (λ (l : Load). eqb id l.class) s.records.now.loads);
-    known = λ (id : ℕ). h.known.known id ∙ case-known id (is_among places id) refl;
-    few = omega (
-      arith,
-      h.known.few,
-      length-rows rows,
-      ap (λ (cs : List ClassItem). length cs) (first_classes-places s.list.now),
-      length-map (λ (x : PlacedClass). x.class) places,
-    );
-    short = h.known.short;
+    known = h.known;
+    few = few;
+    short = h.kept.short;
   }
 
 -- the classes of a file
@@ -261,41 +187,14 @@ module _ (bytes : List ℕ) (records : Records) (list : List Sub) (s : Source) (
   faults-are =
       sym (class_faults-places (table_of s) s.list.now) ∙ ap (λ (t : ClassTable). class_faults t s.list.now) table-is ∙ ap (class_faults table) is.of_list
 
-  pub classes-of_file : (rows : Rows) → HasAllKnown s rows → AreClassesOf table (record { texts = s.texts.entries; names = s.names.entries; classes = rows_view rows })
+  pub classes-of_file : (rows : List Row) → HasAllKnown s rows → AreClassesOf table (record { texts = s.texts.entries; names = s.names.entries; classes = views rows })
   classes-of_file rows h =
-      let P : ClassTable → Type 0 = λ (t : ClassTable). AreClassesOf t (record { texts = s.texts.entries; names = s.names.entries; classes = rows_view rows }) in
+      let P : ClassTable → Type 0 = λ (t : ClassTable). AreClassesOf t (record { texts = s.texts.entries; names = s.names.entries; classes = views rows }) in
       subst P table-is (are-classes s rows is.kept h)
 
-  pub no-faults : (rows : Rows) → HasAllKnown s rows → class_faults table list ≡ []
+  pub no-faults : (rows : List Row) → HasAllKnown s rows → class_faults table list ≡ []
   no-faults rows h = sym faults-are ∙ h.no_cycle
 
   pub fault-of_file : (f : ReadFault) → IsFirstCycleOrMemory s f → IsClassFaultOrMemory table list f
   fault-of_file f (inl memory) = inl memory
   fault-of_file f (inr first) = inr (ap (λ (fs : List ReadFault). slice_get fs 0) (sym faults-are) ∙ first)
-
--- one fault is the first of all
-pub fault-first : (s : Source) (i : ℕ) (x : PlacedClass) (f : ReadFault) → slice_get (placed_classes s.list.now) i ≡ Some x → filter_map (cycle_at (table_of s)) (take i (placed_classes s.list.now)) ≡ []
-    → IsCycleOrMemory (table_of s) x f → IsFirstCycleOrMemory s f
-fault-first s i x f at none (inl memory) = inl memory
-fault-first s i x f at none (inr cycle) = inr (first-at (cycle_at (table_of s)) (placed_classes s.list.now) i x at f none cycle)
-
--- the class at a place, after those before it
-pub known-next : (s : Source) (i : ℕ) (x : PlacedClass) (rows rows' : Rows) → slice_get (placed_classes s.list.now) i ≡ Some x
-    → HasKnown (table_of s) (take i (placed_classes s.list.now)) rows × (filter_map (cycle_at (table_of s)) (take i (placed_classes s.list.now)) ≡ []) → AddsClass (table_of s) x rows rows'
-    → HasKnown (table_of s) (take (i + 1) (placed_classes s.list.now)) rows' × (filter_map (cycle_at (table_of s)) (take (i + 1) (placed_classes s.list.now)) ≡ [])
-known-next s i x rows rows' at h more =
-    let P : List PlacedClass → Type 0 = λ (xs : List PlacedClass). HasKnown (table_of s) xs rows' in (
-      subst P (sym (take-next (placed_classes s.list.now) i x at)) (more.more (take i (placed_classes s.list.now)) h.0),
-      none-at (cycle_at (table_of s)) (placed_classes s.list.now) i x at h.1 (cycle-none (table_of s) x more.ends),
-    )
-
-pub known-all : (s : Source) (i : ℕ) (rows : Rows) → length s.classes.entries ≤ i → HasFirstClasses s.list.now s.classes.entries
-    → HasKnown (table_of s) (take i (placed_classes s.list.now)) rows × (filter_map (cycle_at (table_of s)) (take i (placed_classes s.list.now)) ≡ []) → HasAllKnown s rows
-known-all s i rows le kept h =
-    let all : take i (placed_classes s.list.now) ≡ placed_classes s.list.now = take_all i (placed_classes s.list.now) (omega (arith, length-places s.list.now s.classes.entries kept)) in
-    let P : List PlacedClass → Type 0 = λ (xs : List PlacedClass). HasKnown (table_of s) xs rows in
-    record { known = subst P all h.0; no_cycle = ap (filter_map (cycle_at (table_of s))) (sym all) ∙ h.1 }
-
-pub one-longer : (b : Bool) (m n : ℕ) → m ≡ n + cond b 0 1 → m ≤ n + 1
-one-longer true m n e = omega arith
-one-longer false m n e = omega arith

@@ -1,7 +1,11 @@
+pub mod LinkLemmas
 pub mod LookLemmas
 pub mod FirstLemmas
 pub mod NameLemmas
 pub mod FirstClassLemmas
-pub mod PrefixLemmas
 pub mod SearchLemmas
+pub mod ChainLemmas
+pub mod ResolvedLemmas
+pub mod KeptLemmas
+pub mod PathLemmas
 pub mod KnownLemmas

@@ -1,44 +1,63 @@
 -- Lemmas on looking classes up.
-use Rattle.std.proofs.Common.{◌≡◌, ◌∙◌, ℕ, zero, suc, ◌+◌, List, [], ◌∷◌, map, length, Some, None, Bool, not, cond, eqb, ltb, refl, sym, ap}
+use Rattle.std.proofs.Common.{◌≡◌, ◌∙◌, ℕ, suc, ◌+◌, ◌<◌, List, [], ◌∷◌, length, Option, Some, None, Bool, not, cond, eqb, ltb, refl, sym, ap, arith}
 use Rattle.std.specs.List.{slice_get, position, prefix_len}
-use Rattle.std.specs.Map.{lookup, keys_of, values_of}
-use Rattle.std.specs.Option.{option_map}
-use Rattle.std.proofs.lemmas.Map.Made.{lookup-map_values}
-use Rattle.hd_classes.specs.declared.classes.Classes.TheInside.{Inside}
-use Rattle.hd_classes.specs.declared.known.ResolvedClass.{ResolvedClass}
-use Rattle.hd_classes.specs.Known.{Known, known_view, known_at}
-use Rattle.hd_classes.specs.Inside.{known_of}
+use Rattle.std.specs.Map.{lookup, keys_of}
+use Rattle.std.specs.Option.{option_map, option_map_or, option_and_then}
+use Rattle.std.proofs.lemmas.Option.{slice_get-get_or}
+use Rattle.hd_terms.specs.declared.EdgeKind.TheVariants as kinds
+use Rattle.hd_terms.specs.Classes.{ResolvedClass}
+use Rattle.hd_classes.specs.declared.linked.LinkedClass.{LinkedClass}
+use Rattle.hd_classes.specs.Links.{Row, View, views, nothing, numbered}
+use Rattle.hd_classes.proofs.LinkLemmas.{Facts, view_facts, row_facts, lookup-facts, lookup-place, views-keys, views-length}
 
--- what is known of an ID, by the entries that are kept
-pub known-by_entries : (a : Inside) (k : Known) (id : ℕ) → known_of a ≡ k → known_at k id ≡ option_map known_view (lookup (λ (x : ℕ). eqb id x) a.known.entries)
-known-by_entries a k id is =
-    ap (λ (x : Known). known_at x id) (sym is) ∙ lookup-map_values known_view (λ (x : ℕ). eqb id x) a.known.entries
+-- the place of an ID among entries is that among their keys
+module _ {X : Type 0} (test : ℕ → Bool) where
+  prefix-keys : (es : List (ℕ × X)) → prefix_len (λ (p : ℕ × X). test p.0) es ≡ prefix_len test (keys_of es)
+  prefix-keys [] = refl
+  prefix-keys (e ∷ es) = ap (λ (n : ℕ). cond (test e.0) (1 + n) 0) (prefix-keys es)
 
-pub known-some : (a : Inside) (k : Known) (id : ℕ) (x : ResolvedClass) → known_of a ≡ k → Some x ≡ lookup (λ (y : ℕ). eqb id y) a.known.entries → known_at k id ≡ Some (known_view x)
-known-some a k id x is found = known-by_entries a k id is ∙ ap (option_map known_view) (sym found)
+  length-keys : (es : List (ℕ × X)) → length es ≡ length (keys_of es)
+  length-keys [] = refl
+  length-keys (e ∷ es) = ap suc (length-keys es)
 
-pub known-none : (a : Inside) (k : Known) (id : ℕ) → known_of a ≡ k → None ≡ lookup (λ (y : ℕ). eqb id y) a.known.entries → known_at k id ≡ None
-known-none a k id is found = known-by_entries a k id is ∙ ap (option_map known_view) (sym found)
+pub position-keys : {X : Type 0} (test : ℕ → Bool) (es : List (ℕ × X)) → position (λ (p : ℕ × X). test p.0) es ≡ position test (keys_of es)
+position-keys test es =
+    ap (λ (n : ℕ). cond (ltb n (length es)) (Some n) None) (prefix-keys (λ (id : ℕ). not (test id)) es)
+    ∙ ap (λ (n : ℕ). cond (ltb (prefix_len (λ (id : ℕ). not (test id)) (keys_of es)) n) (Some (prefix_len (λ (id : ℕ). not (test id)) (keys_of es))) None) (length-keys (λ (id : ℕ). not (test id)) es)
 
--- entries at other values have the same places
-module _ {X Y : Type 0} (f : X → Y) where
-  abbrev with_values : List (ℕ × X) → List (ℕ × Y)
-  with_values es = map (λ (p : ℕ × X). (p.0, f p.1)) es
+-- the referent and the kind by an ID
+case-referent : (o : Option ResolvedClass) (l : LinkedClass) → option_map view_facts o ≡ Some (row_facts l) → l.referent ≡ option_and_then (λ (x : ResolvedClass). x.referent) o
+case-referent None l e = cc
+case-referent (Some k) l e = let same : view_facts k ≡ row_facts l = cc in sym (ap (λ (f : Facts). f.0) same)
 
-  prefix-map_values : (test : ℕ → Bool) (es : List (ℕ × X)) → prefix_len (λ (p : ℕ × Y). test p.0) (with_values es) ≡ prefix_len test (keys_of es)
-  prefix-map_values test [] = refl
-  prefix-map_values test (e ∷ es) = ap (λ (n : ℕ). cond (test e.0) (1 + n) 0) (prefix-map_values test es)
+case-kind : (o : Option ResolvedClass) (l : LinkedClass) → option_map view_facts o ≡ Some (row_facts l) → l.kind ≡ option_map_or (λ (x : ResolvedClass). x.kind) o kinds.Strong
+case-kind None l e = cc
+case-kind (Some k) l e = let same : view_facts k ≡ row_facts l = cc in sym (ap (λ (f : Facts). f.1) same)
 
-  length-map_values : (es : List (ℕ × X)) → length (with_values es) ≡ length (keys_of es)
-  length-map_values [] = refl
-  length-map_values (e ∷ es) = ap suc (length-map_values es)
+module _ (rows : List Row) (id : ℕ) where
+  found-facts : (l : LinkedClass) → Some l ≡ lookup (λ (x : ℕ). eqb id x) rows → option_map view_facts (lookup (λ (x : ℕ). eqb id x) (views rows)) ≡ Some (row_facts l)
+  found-facts l is = lookup-facts (λ (x : ℕ). eqb id x) rows ∙ ap (option_map row_facts) (sym is)
 
-  pub position-map_values : (test : ℕ → Bool) (es : List (ℕ × X)) → position (λ (p : ℕ × Y). test p.0) (with_values es) ≡ position test (keys_of es)
-  position-map_values test es =
-      ap (λ (n : ℕ). cond (ltb n (length (with_values es))) (Some n) None) (prefix-map_values (λ (id : ℕ). not (test id)) es)
-      ∙ ap (λ (n : ℕ). cond (ltb (prefix_len (λ (id : ℕ). not (test id)) (keys_of es)) n) (Some (prefix_len (λ (id : ℕ). not (test id)) (keys_of es))) None) (length-map_values es)
+  pub referent-of : (l : LinkedClass) → Some l ≡ lookup (λ (x : ℕ). eqb id x) rows → l.referent ≡ option_and_then (λ (x : ResolvedClass). x.referent) (lookup (λ (x : ℕ). eqb id x) (views rows))
+  referent-of l is = case-referent (lookup (λ (x : ℕ). eqb id x) (views rows)) l (found-facts l is)
 
-  pub at-map_values : (es : List (ℕ × X)) (i : ℕ) → option_map (λ (p : ℕ × Y). p.1) (slice_get (with_values es) i) ≡ option_map f (slice_get (values_of es) i)
-  at-map_values [] i = refl
-  at-map_values (e ∷ es) zero = refl
-  at-map_values (e ∷ es) (suc i) = at-map_values es i
+  pub kind-of : (l : LinkedClass) → Some l ≡ lookup (λ (x : ℕ). eqb id x) rows → l.kind ≡ option_map_or (λ (x : ResolvedClass). x.kind) (lookup (λ (x : ℕ). eqb id x) (views rows)) kinds.Strong
+  kind-of l is = case-kind (lookup (λ (x : ℕ). eqb id x) (views rows)) l (found-facts l is)
+
+  case-none : (o : Option ResolvedClass) → option_map view_facts o ≡ None → o ≡ None
+  case-none None e = refl
+  case-none (Some k) e = cc
+
+  pub none-known : None ≡ lookup (λ (x : ℕ). eqb id x) rows → lookup (λ (x : ℕ). eqb id x) (views rows) ≡ None
+  none-known is = case-none (lookup (λ (x : ℕ). eqb id x) (views rows)) (lookup-facts (λ (x : ℕ). eqb id x) rows ∙ ap (option_map row_facts) (sym is))
+
+  -- what is known of the ID of a number
+  at-number : (i : ℕ) → i < length (views rows) → option_map (λ (p : View). p.1) (slice_get (views rows) i) ≡ Some (numbered (views rows) (Some i))
+  at-number i lt =
+      let is = slice_get-get_or (views rows) i (0, nothing) lt in
+      ap (option_map (λ (p : View). p.1)) is ∙ sym (ap (λ (o : Option View). Some (option_map_or (λ (p : View). p.1) o nothing)) is)
+
+  pub known-number : (i : ℕ) → Some i ≡ position (λ (x : ℕ). eqb id x) (keys_of rows) → i < length rows → lookup (λ (x : ℕ). eqb id x) (views rows) ≡ Some (numbered (views rows) (Some i))
+  known-number i is lt =
+      lookup-place (λ (x : ℕ). eqb id x) (views rows) i (is ∙ ap (position (λ (x : ℕ). eqb id x)) (sym (views-keys rows [])))
+      ∙ at-number i (omega (arith, lt, views-length rows []))

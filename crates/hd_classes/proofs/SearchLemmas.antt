@@ -43,10 +43,6 @@ module _ {X Y : Type 0} (f : X → Option Y) (xs : List X) (i : ℕ) (x : X) (at
   pub none-at : filter_map f (take i xs) ≡ [] → f x ≡ None → filter_map f (take (i + 1) xs) ≡ []
   none-at none is = none-given f xs i x (slice_get_within xs i x at) none (ap f same-at ∙ is)
 
-pub none-from_not : {X : Type 0} (o : Option X) → ((x : X) → o ≡ Some x → ⊥) → o ≡ None
-none-from_not None h = refl
-none-from_not (Some x) h = absurd (h x refl)
-
 -- the place of the first that passes
 module _ {X : Type 0} (p : X → Bool) where
   prefix-is : (xs : List X) (i : ℕ) (x : X) → slice_get xs i ≡ Some x → p x ≡ true → ((k : ℕ) (y : X) → k < i → slice_get xs k ≡ Some y → p y ≡ false)

@@ -1,5 +1,5 @@
 -- What is kept of classes: their names, and what is known of those whose chains are whole.
-use Rattle.std.specs.Prelude.{◌≡◌, ◌⊎◌, ℕ, ◌==◌, ◌+◌, ◌<◌, ◌≤◌, ◌^◌, List, length, map, position, slice_get, Option, Some, All}
+use Rattle.std.specs.Prelude.{◌≡◌, ◌⊎◌, ℕ, ◌==◌, ◌+◌, ◌<◌, ◌≤◌, ◌^◌, List, length, position, slice_get, Option, Some, All}
 use Rattle.std.specs.Option.{option_map, option_map_or, option_and_then}
 use Rattle.std.specs.Map.{lookup}
 use Rattle.hd_terms.specs.declared.Span.{Span}
@@ -12,15 +12,12 @@ use Rattle.hd_terms.specs.SubRecords.{Sub}
 use Rattle.hd_terms.specs.Classes.{ClassTable, LayoutField, ResolvedClass, name_of, resolved_class}
 use Rattle.hd_terms.specs.HeapFaults.{class_faults}
 use Rattle.hd_terms.specs.ReadFaults.{fault}
-use Rattle.hd_classes.specs.declared.known.LayoutField as declared_field
 use Rattle.hd_classes.specs.declared.known.ResolvedClass as declared_class
+pub use Rattle.hd_classes.specs.Fields.{field_view}
 
--- a field of a layout, and what is known of a class, as the definitions say them
-abbrev pub field_view : declared_field.LayoutField → LayoutField
-field_view f = record { owner = f.owner; name = f.name; code = f.code }
-
+-- a class as it is read, as the definitions say it
 abbrev pub known_view : declared_class.ResolvedClass → ResolvedClass
-known_view k = record { chain = k.chain.items; layout = map field_view k.layout.items; referent = k.referent; kind = k.kind }
+known_view k = record { chain = k.chain; layout = k.layout; referent = k.referent; kind = k.kind }
 
 -- where texts lie, by their IDs; the IDs of classes' names, by the IDs of the classes; and the classes whose chains are whole,
 -- by their IDs

@@ -1,7 +1,11 @@
 pub mod Firsts
+pub mod Fields
+pub mod Links
+pub mod LinksInside
 pub mod Known
 pub mod Inside
 pub mod FirstClass
 pub mod Sources
-pub mod Walks
+pub mod Paths
+pub mod Linking
 pub mod Building

@@ -1,20 +1,16 @@
 -- What classes are resolved from: the file, and its texts and classes by their IDs.
-use Rattle.std.specs.Prelude.{◌≡◌, ℕ, ◌==◌, List, length, codes, map, slice_get, unwrap_or, if◌then◌else◌, Option, Some, None, All}
+use Rattle.std.specs.Prelude.{◌≡◌, ℕ, ◌==◌, List, length, All}
 use Rattle.std.specs.Option.{option_map}
-use Rattle.std.specs.List.{filter_map, find}
+use Rattle.std.specs.List.{find}
 use Rattle.std.specs.Map.{lookup}
-use Rattle.std.specs.Str.{bytes_eq}
 use Rattle.hd_terms.specs.declared.Span.{Span}
 use Rattle.hd_terms.specs.declared.Text.{Text}
 use Rattle.hd_terms.specs.declared.Load.{Load}
-use Rattle.hd_terms.specs.declared.EdgeKind.{EdgeKind}
-use Rattle.hd_terms.specs.declared.EdgeKind.TheVariants as kinds
 use Rattle.hd_terms.specs.SubRecords.{Sub}
-use Rattle.hd_terms.specs.Classes.{ClassTable, ResolvedClass, class_table, slashed, reference_kind, referent_in}
+use Rattle.hd_terms.specs.Classes.{ClassTable, class_table}
 use Rattle.hd_records.specs.declared.records.Records.{Records}
 use Rattle.hd_classes.specs.declared.source.Source.{Source}
-use Rattle.hd_classes.specs.declared.chains.Walk.{Walk}
-use Rattle.hd_classes.specs.Known.{field_view, IsTextWithin}
+use Rattle.hd_classes.specs.Known.{IsTextWithin}
 use Rattle.hd_classes.specs.FirstClass.{HasFirstClasses}
 
 -- the first text of each ID is kept by the ID
@@ -42,16 +38,3 @@ pub record IsSourceOf (bytes : List ℕ) (records : Records) (list : List Sub) (
   pub of_records : s.records.now ≡ records
   pub of_list : s.list.now ≡ list
   pub kept : IsSource s
-
--- the kind of a chain, by the IDs of its classes
-abbrev pub kind_among : ClassTable → List ℕ → EdgeKind
-kind_among t chain = unwrap_or (slice_get (filter_map (reference_kind t) chain) 0) kinds.Strong
-
--- what is known of a class whose chain is walked to its end
-abbrev pub known_of_walk : ClassTable → Walk → ResolvedClass
-known_of_walk t w = record {
-  chain = w.chain.items;
-  layout = map field_view w.layout.items;
-  referent = referent_in t (map field_view w.layout.items);
-  kind = kind_among t w.chain.items;
-}

@@ -1,87 +1,112 @@
-//! Resolving the classes of a dump, one after another: the chain, layout, referent field and reference kind of each.
-ghost use Rattle.std.specs.Prelude.{◌≡◌, ◌<◌, ◌^◌, [], length, All, IfOk, IfErr, OnOk};
+//! Resolving the classes of a dump, one after another: the chain, layout, referent field and reference kind of each. Each
+//! class is visited a fixed number of times.
+ghost use Rattle.std.specs.Prelude.{◌≡◌, [], length, All, IfOk, IfErr, OnOk};
+ghost use Rattle.hd_terms.specs.declared.errors.Cause.TheVariants.{OutOfMemory};
 ghost use Rattle.hd_terms.specs.Classes.{class_table};
 ghost use Rattle.hd_terms.specs.HeapFaults.{class_faults};
-ghost use Rattle.hd_classes.specs.Known.{AreClassesOf, IsClassFaultOrMemory, IsTextWithin, known_view};
-ghost use Rattle.hd_classes.specs.Sources.{IsSource, table_of, known_of_walk};
+ghost use Rattle.hd_terms.specs.ReadFaults.{fault};
+ghost use Rattle.hd_classes.specs.Known.{AreClassesOf, IsClassFaultOrMemory, IsTextWithin};
+ghost use Rattle.hd_classes.specs.Sources.{IsSource, table_of};
 ghost use Rattle.hd_classes.specs.FirstClass.{first_class_view};
-ghost use Rattle.hd_classes.specs.Building.{AddsClass, HasAllKnown, IsCycleOrMemory, IsFirstCycleOrMemory};
+ghost use Rattle.hd_classes.specs.Linking.{AreKept, IsTop, KeepsPath};
+ghost use Rattle.hd_classes.specs.Paths.{Leads};
+ghost use Rattle.hd_classes.specs.Building.{AreBroken, NotesPath, AddsClass, HasAllKnown, IsCycleOrMemory, IsFirstCycleOrMemory};
 
-use crate::chains::{Walk, end_of_chain, walk_up};
 use crate::classes::Classes;
 use crate::first_class::FirstClass;
-use crate::known::ResolvedClass;
+use crate::linked::LinkedClass;
+use crate::linking::keep_class;
+use crate::path::{Path, climb};
 use crate::source::{Source, source_of};
+use hd_ids::IdHasher;
 use hd_records::Records;
 use hd_subs::DumpSubs;
-use hd_terms::{Cause, ReadFault};
-use indexmap::IndexMap;
-use std::alloc::Global;
+use hd_terms::{Cause, ReadFault, class_chains};
+use indexmap::{IndexMap, IndexSet};
+use std::alloc::{AllocError, Global};
 
-/// What is known of a class of which this is the whole chain.
-fn known_of_walk(source: &Source<'_>, walk: Walk) -> ResolvedClass
-    requires kept { IsSource source.now }
-    requires short { length walk.layout.items < 2 ^ 29 }
-    ensures { known_view result ≡ known_of_walk (table_of source.now) walk }
+/// Keeps the classes of a path that ends at a class that is kept, or at the ID 0: the last one first.
+fn keep_path(
+    alloc: Global,
+    known: &mut IndexMap<u64, LinkedClass, IdHasher>,
+    source: &Source<'_>,
+    path: Path<'_>,
+) -> Result<(), ReadFault>
+    requires source { IsSource source.now }
+    requires kept { AreKept (table_of source.now) known.old.entries }
+    requires leads { Leads (table_of source.now) path }
+    requires top { IsTop known.old.entries path.end }
+    ensures ok { OnOk result (KeepsPath (table_of source.now) path.entry.start known.old.entries known.new.entries) }
+    ensures err { IfErr result (λ f. f ≡ fault OutOfMemory 0) }
 {
-    let referent = source.referent_in(walk.layout.as_slice());
-    let kind = source.kind_in(walk.chain.as_slice());
-    ResolvedClass {
-        chain: walk.chain,
-        layout: walk.layout,
-        referent,
-        kind,
+    let mut classes = path.classes;
+    while let Some(class) = classes.pop() {
+        keep_class(alloc, known, source, class)?;
     }
+    Ok(())
 }
 
-/// Adds what is known of a class, if its chain is whole. A chain that never ends is a fault.
+/// Notes the classes of a path that ends at a broken chain.
+fn note_path(broken: &mut IndexSet<u64, IdHasher>, path: Path<'_>) -> Result<(), AllocError>
+    ensures { OnOk result (NotesPath path.entry broken.old.keys broken.new.keys) }
+{
+    class_chains();
+    let mut classes = path.classes;
+    while let Some(class) = classes.pop() {
+        broken.insert(class.id)?;
+    }
+    Ok(())
+}
+
+/// Keeps a class and those above it, if its chain is whole; else notes them as broken. A chain that never ends is a fault.
 fn add_class(
     alloc: Global,
-    known: &mut IndexMap<u64, ResolvedClass>,
+    known: &mut IndexMap<u64, LinkedClass, IdHasher>,
+    broken: &mut IndexSet<u64, IdHasher>,
     source: &Source<'_>,
     class: FirstClass<'_>,
 ) -> Result<(), ReadFault>
-    requires { IsSource source.now }
-    ensures ok { OnOk result (AddsClass (table_of source.now) (first_class_view class.entry) known.old.entries known.new.entries) }
+    requires source { IsSource source.now }
+    requires kept { AreKept (table_of source.now) known.old.entries }
+    requires broken { AreBroken (table_of source.now) broken.old.keys }
+    ensures ok { OnOk result (AddsClass (table_of source.now) (first_class_view class.entry) known.old.entries known.new.entries broken.new.keys) }
     ensures err { IfErr result (λ f. IsCycleOrMemory (table_of source.now) (first_class_view class.entry) f) }
 {
-    let id = class.class.id;
-    if id == 0 {
-        return Ok(());
+    let path = climb(alloc, source, known, broken, class.class.id)?;
+    if path.end == 0 || known.contains_key(&path.end) {
+        return keep_path(alloc, known, source, path);
     }
-    let end = end_of_chain(source, id);
-    if end == 0 {
-        let walk = walk_up(alloc, source, id)?;
-        known.insert(id, known_of_walk(source, walk))?;
-        return Ok(());
-    }
-    match source.class_of(end) {
-        Some(_) => Err(ReadFault {
+    if !broken.contains(&path.end) && source.class_of(path.end).is_some() {
+        return Err(ReadFault {
             cause: Cause::ClassCycle,
             offset: class.offset,
-        }),
-        None => Ok(()),
+        });
     }
+    note_path(broken, path)?;
+    Ok(())
 }
 
-/// What is known of each class whose chain is whole, by the classes' IDs.
+/// What is kept of each class whose chain is whole, by the classes' IDs.
 fn resolved_classes(
     alloc: Global,
     source: &Source<'_>,
-) -> Result<IndexMap<u64, ResolvedClass>, ReadFault>
+    hasher: IdHasher,
+) -> Result<IndexMap<u64, LinkedClass, IdHasher>, ReadFault>
     requires { IsSource source.now }
     ensures ok { IfOk result (λ known. HasAllKnown source.now known.entries) }
     ensures err { IfErr result (λ f. IsFirstCycleOrMemory source.now f) }
 {
-    let mut known = IndexMap::new(alloc);
+    let mut known = IndexMap::with_hasher(alloc, hasher);
+    let mut broken = IndexSet::with_hasher(alloc, hasher);
     for i in 0..source.classes.len() {
-        add_class(alloc, &mut known, source, source.classes[i])?;
+        add_class(alloc, &mut known, &mut broken, source, source.classes[i])?;
     }
     Ok(known)
 }
 
 impl Classes {
-    /// The classes of a file, of which these are the records and the sub-records.
+    /// The classes of a file, of which these are the records and the sub-records. The secret is a random number, for the
+    /// hashes of IDs: no answer depends on it.
     ///
     /// # Errors
     ///
@@ -91,15 +116,17 @@ impl Classes {
         alloc: Global,
         bytes: &[u8],
         records: &Records,
-        list: &DumpSubs,
+        list: &DumpSubs<'_>,
+        secret: u64,
     ) -> Result<Classes, ReadFault>
         requires { All (IsTextWithin (length bytes.now)) records.now.strings }
         ensures ok { IfOk result (λ classes. AreClassesOf (class_table bytes.now records.now.strings records.now.loads list.now) classes) }
         ensures no_cycle { OnOk result (class_faults (class_table bytes.now records.now.strings records.now.loads list.now) list.now ≡ []) }
         ensures err { IfErr result (λ f. IsClassFaultOrMemory (class_table bytes.now records.now.strings records.now.loads list.now) list.now f) }
     {
-        let source = source_of(alloc, bytes, records, list)?;
-        let known = resolved_classes(alloc, &source)?;
+        let hasher = IdHasher::new(secret);
+        let source = source_of(alloc, bytes, records, list, hasher)?;
+        let known = resolved_classes(alloc, &source, hasher)?;
         Ok(Classes::new(source.texts, source.names, known))
     }
 }

@@ -1,9 +1,13 @@
 //! Looking classes up by ID or number.
 ghost use Rattle.std.specs.Prelude.{◌≡◌, ◌<◌, ◌↔◌, [], length, map, None, Some, MatchOption, IsTrue};
-ghost use Rattle.hd_classes.specs.Known.{name_at, number_of, known_by_number, chain_at, layout_at, referent_at, kind_at, field_view, known_view};
-ghost use Rattle.hd_classes.specs.Building.{rows_view};
+ghost use Rattle.hd_classes.specs.Known.{name_at, number_of, known_by_number, chain_at, layout_at, referent_at, kind_at, known_view};
+ghost use Rattle.hd_classes.specs.Links.{IsLinked, views};
 
-use crate::known::{LayoutField, ResolvedClass};
+use crate::chain::Chain;
+use crate::known::ResolvedClass;
+use crate::layout::Layout;
+use crate::linked::{LinkedClass, first_declaring};
+use hd_ids::IdHasher;
 use hd_terms::{EdgeKind, Span};
 use indexmap::IndexMap;
 use std::marker::Model;
@@ -12,10 +16,10 @@ use std::marker::Model;
 #[derive(Drop)]
 pub struct Classes {
     /// Where the first text of each ID lies.
-    texts: IndexMap<u64, Span>,
+    texts: IndexMap<u64, Span, IdHasher>,
     /// The ID of the text that is a class's name, by the class's ID.
-    names: IndexMap<u64, u64>,
-    known: IndexMap<u64, ResolvedClass>,
+    names: IndexMap<u64, u64, IdHasher>,
+    known: IndexMap<u64, LinkedClass, IdHasher>,
 }
 
 impl Model for Classes {
@@ -23,19 +27,22 @@ impl Model for Classes {
 
     ghost Value = { Known };
 
-    ghost use Rattle.hd_classes.specs.Inside.{known_of};
+    ghost use Rattle.hd_classes.specs.Inside.{known_of, AreLinked};
 
     ghost view = { known_of };
+
+    ghost invariant = { AreLinked };
 }
 
 impl Classes {
     /// Classes of which this is known.
     pub(crate) fn new(
-        texts: IndexMap<u64, Span>,
-        names: IndexMap<u64, u64>,
-        known: IndexMap<u64, ResolvedClass>,
+        texts: IndexMap<u64, Span, IdHasher>,
+        names: IndexMap<u64, u64, IdHasher>,
+        known: IndexMap<u64, LinkedClass, IdHasher>,
     ) -> Classes
-        ensures { result ≡ record { texts = texts.entries; names = names.entries; classes = rows_view known.entries } }
+        requires { IsLinked known.entries }
+        ensures { result ≡ record { texts = texts.entries; names = names.entries; classes = views known.entries } }
     {
         Classes {
             texts,
@@ -66,29 +73,35 @@ impl Classes {
     }
 
     /// What is known of the class of a number.
-    pub fn get(&self, i: usize) -> &ResolvedClass
+    pub fn get(&self, i: usize) -> ResolvedClass<'_>
         requires { i < length self.now.classes }
-        ensures { known_by_number self.now i ≡ Some (known_view result.now) }
+        ensures { known_by_number self.now i ≡ Some (known_view result) }
     {
-        &self.known[i]
+        let class = &self.known[i];
+        ResolvedClass {
+            chain: Chain::new(&self.known, Some(i)),
+            layout: Layout::new(&self.known, first_declaring(i, class)),
+            referent: class.referent,
+            kind: class.kind,
+        }
     }
 
     /// The IDs of a class's chain, its own first, if the chain is whole.
-    pub fn chain(&self, id: u64) -> Option<&[u64]>
-        ensures { MatchOption result (chain_at self.now id ≡ None) (λ chain. chain_at self.now id ≡ Some chain.now) }
+    pub fn chain(&self, id: u64) -> Option<Chain<'_>>
+        ensures { MatchOption result (chain_at self.now id ≡ None) (λ chain. chain_at self.now id ≡ Some chain) }
     {
-        match self.known.get(&id) {
-            Some(class) => Some(class.chain.as_slice()),
+        match self.known.get_index_of(&id) {
+            Some(i) => Some(Chain::new(&self.known, Some(i))),
             None => None,
         }
     }
 
     /// The instance fields of a class's chain, its own first, if the chain is whole.
-    pub fn layout(&self, id: u64) -> Option<&[LayoutField]>
-        ensures { MatchOption result (layout_at self.now id ≡ None) (λ layout. layout_at self.now id ≡ Some (map field_view layout.now)) }
+    pub fn layout(&self, id: u64) -> Option<Layout<'_>>
+        ensures { MatchOption result (layout_at self.now id ≡ None) (λ layout. layout_at self.now id ≡ Some layout) }
     {
-        match self.known.get(&id) {
-            Some(class) => Some(class.layout.as_slice()),
+        match self.known.get_full(&id) {
+            Some((i, _, class)) => Some(Layout::new(&self.known, first_declaring(i, class))),
             None => None,
         }
     }

@@ -4,6 +4,7 @@ ghost use Rattle.std.specs.List.{filter_map};
 ghost use Rattle.hd_subs.specs.Views.{sub_view};
 ghost use Rattle.hd_classes.specs.FirstClass.{placed_class, HasFirstClasses, NotesOneMore};
 
+use hd_ids::IdHasher;
 use hd_subs::{ClassDump, DumpSubs, Item, Sub};
 use indexmap::{IndexMap, IndexSet};
 use std::alloc::{AllocError, Global};
@@ -17,7 +18,7 @@ pub(crate) struct FirstClass<'a> {
 }
 
 /// How many sub-records there are up to the last class.
-fn classes_end(list: &DumpSubs) -> usize
+fn classes_end(list: &DumpSubs<'_>) -> usize
     ensures within { result ≤ length list.now }
     ensures none_after { filter_map placed_class (drop result list.now) ≡ [] }
 {
@@ -33,8 +34,8 @@ fn classes_end(list: &DumpSubs) -> usize
 
 /// Notes the ID of a sub-record's object, and its class if it is the first of its ID.
 fn note_sub<'a>(
-    ids: &mut IndexSet<u64>,
-    classes: &mut IndexMap<u64, FirstClass<'a>>,
+    ids: &mut IndexSet<u64, IdHasher>,
+    classes: &mut IndexMap<u64, FirstClass<'a>, IdHasher>,
     sub: Sub<'a>,
 ) -> Result<(), AllocError>
     ensures { OnOk result (NotesOneMore (sub_view sub.entry) ids.old.keys classes.old.entries ids.new.keys classes.new.entries) }
@@ -65,12 +66,13 @@ fn note_sub<'a>(
 /// Dumps have their classes at the front, so only the IDs of the objects before the last class are noted.
 pub(crate) fn first_classes<'a>(
     alloc: Global,
-    list: &'a DumpSubs,
-) -> Result<IndexMap<u64, FirstClass<'a>>, AllocError>
+    list: &'a DumpSubs<'a>,
+    hasher: IdHasher,
+) -> Result<IndexMap<u64, FirstClass<'a>, IdHasher>, AllocError>
     ensures { IfOk result (λ m. HasFirstClasses list.now m.entries) }
 {
-    let mut ids = IndexSet::new(alloc);
-    let mut classes = IndexMap::new(alloc);
+    let mut ids = IndexSet::with_hasher(alloc, hasher);
+    let mut classes = IndexMap::with_hasher(alloc, hasher);
     for i in 0..classes_end(list) {
         note_sub(&mut ids, &mut classes, list.get(i))?;
     }

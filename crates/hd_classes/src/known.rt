@@ -1,4 +1,6 @@
 //! A resolved class: its chain, its layout, its referent field and the kind of the reference in it.
+use crate::chain::Chain;
+use crate::layout::Layout;
 use hd_terms::EdgeKind;
 
 /// An instance field in a layout.
@@ -13,12 +15,12 @@ pub struct LayoutField {
 }
 
 /// A class whose chain goes up to a class without a super class.
-#[derive(Debug, Drop)]
-pub struct ResolvedClass {
+#[derive(Drop)]
+pub struct ResolvedClass<'a> {
     /// The IDs of the classes of its chain: its own, its super class's, and so on.
-    pub chain: Vec<u64>,
+    pub chain: Chain<'a>,
     /// The instance fields of these classes, its own before its super class's.
-    pub layout: Vec<LayoutField>,
+    pub layout: Layout<'a>,
     /// The number of the referent field in the layout, if it has one.
     pub referent: Option<u32>,
     /// The kind of the reference in that field.

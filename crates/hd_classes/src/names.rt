@@ -4,16 +4,21 @@ ghost use Rattle.std.specs.Str.{bytes_eq};
 ghost use Rattle.hd_terms.specs.Classes.{bytes_of_span, slashed};
 ghost use Rattle.hd_classes.specs.Sources.{HasFirstTexts, HasFirstNames};
 
+use hd_ids::IdHasher;
 use hd_records::{Loads, Texts};
 use hd_terms::Span;
 use indexmap::IndexMap;
 use std::alloc::{AllocError, Global};
 
 /// Where the first text of each ID lies.
-pub(crate) fn first_texts(alloc: Global, strings: &Texts) -> Result<IndexMap<u64, Span>, AllocError>
+pub(crate) fn first_texts(
+    alloc: Global,
+    strings: &Texts,
+    hasher: IdHasher,
+) -> Result<IndexMap<u64, Span, IdHasher>, AllocError>
     ensures { IfOk result (λ m. HasFirstTexts strings.now m.entries) }
 {
-    let mut texts = IndexMap::with_capacity(alloc, strings.len())?;
+    let mut texts = IndexMap::with_capacity_and_hasher(alloc, strings.len(), hasher)?;
     for text in strings.as_slice() {
         if !texts.contains_key(&text.id) {
             texts.insert(text.id, text.text)?;
@@ -23,10 +28,14 @@ pub(crate) fn first_texts(alloc: Global, strings: &Texts) -> Result<IndexMap<u64
 }
 
 /// The ID of the text that names each class: the first LOAD CLASS of the class says it.
-pub(crate) fn first_names(alloc: Global, loads: &Loads) -> Result<IndexMap<u64, u64>, AllocError>
+pub(crate) fn first_names(
+    alloc: Global,
+    loads: &Loads,
+    hasher: IdHasher,
+) -> Result<IndexMap<u64, u64, IdHasher>, AllocError>
     ensures { IfOk result (λ m. HasFirstNames loads.now m.entries) }
 {
-    let mut names = IndexMap::with_capacity(alloc, loads.len())?;
+    let mut names = IndexMap::with_capacity_and_hasher(alloc, loads.len(), hasher)?;
     for load in loads.as_slice() {
         if !names.contains_key(&load.class) {
             names.insert(load.class, load.name)?;

@@ -1,10 +1,11 @@
 //! Referent fields, and the kinds of the references in them.
-ghost use Rattle.std.specs.Prelude.{◌≡◌, ◌<◌, ◌^◌, length, map, slice_get, unwrap_or};
-ghost use Rattle.std.specs.List.{filter_map};
+ghost use Rattle.std.specs.Prelude.{◌≡◌, ℕ, ◌+◌, ◌<◌, ◌^◌, length, map, unwrap_or};
+ghost use Rattle.std.specs.Option.{option_map, option_or};
 ghost use Rattle.hd_terms.specs.declared.EdgeKind.TheVariants as kinds;
 ghost use Rattle.hd_terms.specs.Classes as classes;
 ghost use Rattle.hd_classes.specs.Known.{field_view};
-ghost use Rattle.hd_classes.specs.Sources.{IsSource, table_of, kind_among};
+ghost use Rattle.hd_classes.specs.Links.{IsBelow};
+ghost use Rattle.hd_classes.specs.Sources.{IsSource, table_of};
 
 use crate::known::LayoutField;
 use crate::names::is_named;
@@ -78,7 +79,7 @@ impl<'a> Source<'a> {
     }
 
     /// The number of the referent field of a layout, if it has one: the first such.
-    pub(crate) fn referent_in(&self, layout: &[LayoutField]) -> Option<u32>
+    fn referent_in(&self, layout: &[LayoutField]) -> Option<u32>
         requires kept { IsSource self.now }
         requires short { length layout.now < 2 ^ 29 }
         ensures { result ≡ classes.referent_in (table_of self.now) (map field_view layout.now) }
@@ -89,6 +90,21 @@ impl<'a> Source<'a> {
             }
         }
         None
+    }
+
+    /// The number of the referent field where these fields stand before a layout: the first of them that is one, or the
+    /// layout's, which is this in the layout alone.
+    pub(crate) fn referent_above(&self, fields: &[LayoutField], above: Option<u32>) -> Option<u32>
+        requires kept { IsSource self.now }
+        requires short { length fields.now < 2 ^ 29 }
+        requires above { IsBelow (2 ^ 29) above }
+        ensures { result ≡ option_or (classes.referent_in (table_of self.now) (map field_view fields.now)) (option_map (λ (i : ℕ). i + length fields.now) above) }
+    {
+        match (self.referent_in(fields), above) {
+            (Some(i), _) => Some(i),
+            (None, Some(i)) => Some(fields.len() as u32 + i),
+            (None, None) => None,
+        }
     }
 
     /// The kind of the class of an ID, if it is one of the four.
@@ -102,16 +118,14 @@ impl<'a> Source<'a> {
         }
     }
 
-    /// The kind of a chain: that of its first class that is one of the four, strong where none is.
-    pub(crate) fn kind_in(&self, chain: &[u64]) -> EdgeKind
+    /// The kind of a class whose super class has this kind: its own if it is one of the four.
+    pub(crate) fn kind_above(&self, id: u64, above: EdgeKind) -> EdgeKind
         requires { IsSource self.now }
-        ensures { result ≡ kind_among (table_of self.now) chain.now }
+        ensures { result ≡ unwrap_or (classes.reference_kind (table_of self.now) id) above }
     {
-        for id in chain {
-            if let Some(kind) = self.reference_kind(*id) {
-                return kind;
-            }
+        match self.reference_kind(id) {
+            Some(kind) => kind,
+            None => above,
         }
-        EdgeKind::Strong
     }
 }

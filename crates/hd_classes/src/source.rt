@@ -8,6 +8,7 @@ ghost use Rattle.hd_classes.specs.Sources.{IsSourceOf, IsSource, table_of};
 
 use crate::first_class::{FirstClass, first_classes};
 use crate::names::{bytes_of, first_names, first_texts};
+use hd_ids::IdHasher;
 use hd_records::Records;
 use hd_subs::{ClassDump, DumpSubs};
 use hd_terms::Span;
@@ -19,13 +20,13 @@ use std::alloc::{AllocError, Global};
 pub(crate) struct Source<'a> {
     pub(crate) bytes: &'a [u8],
     pub(crate) records: &'a Records,
-    pub(crate) list: &'a DumpSubs,
+    pub(crate) list: &'a DumpSubs<'a>,
     /// Where the first text of each ID lies.
-    pub(crate) texts: IndexMap<u64, Span>,
+    pub(crate) texts: IndexMap<u64, Span, IdHasher>,
     /// The ID of the text that is a class's name, by the class's ID.
-    pub(crate) names: IndexMap<u64, u64>,
+    pub(crate) names: IndexMap<u64, u64, IdHasher>,
     /// The class objects, in file order.
-    pub(crate) classes: IndexMap<u64, FirstClass<'a>>,
+    pub(crate) classes: IndexMap<u64, FirstClass<'a>, IdHasher>,
 }
 
 /// The file as classes are resolved from it.
@@ -33,14 +34,15 @@ pub(crate) fn source_of<'a>(
     alloc: Global,
     bytes: &'a [u8],
     records: &'a Records,
-    list: &'a DumpSubs,
+    list: &'a DumpSubs<'a>,
+    hasher: IdHasher,
 ) -> Result<Source<'a>, AllocError>
     requires { All (IsTextWithin (length bytes.now)) records.now.strings }
     ensures { IfOk result (λ s. IsSourceOf bytes.now records.now list.now s) }
 {
-    let texts = first_texts(alloc, &records.strings)?;
-    let names = first_names(alloc, &records.loads)?;
-    let classes = first_classes(alloc, list)?;
+    let texts = first_texts(alloc, &records.strings, hasher)?;
+    let names = first_names(alloc, &records.loads, hasher)?;
+    let classes = first_classes(alloc, list, hasher)?;
     Ok(Source {
         bytes,
         records,

@@ -17,7 +17,12 @@ use std::thread;
 use std::thread::Threads;
 
 /// Adds the sub-records of one segment, whose body is a span of the file.
-fn read_body(list: &mut Subs, bytes: &[u8], id_size: IdSize, span: Span) -> Result<(), ReadFault>
+fn read_body(
+    list: &mut Subs<'_>,
+    bytes: &[u8],
+    id_size: IdSize,
+    span: Span,
+) -> Result<(), ReadFault>
     requires { IsSpanWithin bytes.now span }
     ensures ok { OnOk result (AppendsSegment id_size span.start (bytes_of_span bytes.now span) list.old list.new) }
     ensures err { IfErr result (λ f. IsSegmentFaultOrMemory id_size span.start (bytes_of_span bytes.now span) f) }
@@ -28,16 +33,16 @@ fn read_body(list: &mut Subs, bytes: &[u8], id_size: IdSize, span: Span) -> Resu
 }
 
 /// The sub-records of a worker's share of the segments, in file order.
-fn read_share(
+fn read_share<'a>(
     alloc: Global,
-    bytes: &[u8],
+    bytes: &'a [u8],
     id_size: IdSize,
     share: &[Span],
-) -> Result<Subs, ReadFault>
+) -> Result<Subs<'a>, ReadFault>
     requires { All (IsSpanWithin bytes.now) share.now }
     ensures { IsPart id_size bytes.now share.now result }
 {
-    let mut list = Subs::new(alloc);
+    let mut list = Subs::new(alloc, bytes, id_size);
     for span in share {
         read_body(&mut list, bytes, id_size, *span)?;
     }
@@ -45,10 +50,13 @@ fn read_share(
 }
 
 /// What workers read, one part after another, or the fault of the first part that has one.
-fn join_parts(alloc: Global, parts: Vec<Result<Subs, ReadFault>>) -> Result<DumpSubs, ReadFault>
+fn join_parts<'a>(
+    alloc: Global,
+    parts: Vec<Result<Subs<'a>, ReadFault>>,
+) -> Result<DumpSubs<'a>, ReadFault>
     requires { subs_in parts.items < 2 ^ 64 }
-    ensures ok { IfOk result (λ list. AreJoined parts.items list) }
-    ensures err { IfErr result (λ f. IsFirstFaultOrMemory parts.items f) }
+    ensures ok { IfOk result (λ list. AreJoined parts.entry.items list) }
+    ensures err { IfErr result (λ f. IsFirstFaultOrMemory parts.entry.items f) }
 {
     let mut list = DumpSubs::new(alloc);
     for part in parts {
@@ -66,14 +74,14 @@ fn join_parts(alloc: Global, parts: Vec<Result<Subs, ReadFault>>) -> Result<Dump
 ///
 /// The fault of the first segment that has one, an offset into the file in bytes (`ShortSub`, `UnknownSub` or
 /// `UnknownType`); or out of memory, at 0.
-pub fn decode<R: Threads + Sync, G: Gate>(
+pub fn decode<'a, R: Threads + Sync, G: Gate>(
     rt: &R,
     alloc: Global,
-    bytes: &[u8],
+    bytes: &'a [u8],
     records: &Records,
     workers: u32,
     gate: &G,
-) -> Result<DumpSubs, ReadFault>
+) -> Result<DumpSubs<'a>, ReadFault>
     requires records { ReadsRecords bytes.now records.now.id_size records.now.strings records.now.loads records.now.segments }
     requires workers { IsWorkers workers }
     ensures ok { IfOk result (λ list. ReadsBodies records.now.id_size bytes.now records.now.segments list) }
@@ -82,7 +90,7 @@ pub fn decode<R: Threads + Sync, G: Gate>(
     let id_size = records.id_size;
     let shares = shares_of(alloc, records.segments.as_slice(), workers)?;
     let shares = shares.as_slice();
-    let read = |worker: usize| -> Result<Subs, ReadFault>
+    let read = |worker: usize| -> Result<Subs<'_>, ReadFault>
         requires few { length shares.now ≤ 16 }
         requires worker { worker < length shares.now }
         requires within { All (IsSpanWithin bytes.now) (share_at shares.now worker) }

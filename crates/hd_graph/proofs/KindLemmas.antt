@@ -27,6 +27,11 @@ use Rattle.hd_graph.specs.Kinds.{kept_of, kept_edge, of_kind, AreKept, edges_at,
 use Rattle.hd_graph.proofs.ShapeLemmas.{differs, slot-at, slot_of, few-names}
 use Rattle.hd_graph.proofs.ArrayLemmas.{any_shape, length-row_objects, slots-at, fit-at, index_of-row_objects}
 
+-- an option that is no something
+pub none-from_not : {X : Type 0} (o : Option X) → ((x : X) → o ≡ Some x → ⊥) → o ≡ None
+none-from_not None h = refl
+none-from_not (Some x) h = absurd (h x refl)
+
 -- strong slots give no edge of a kind
 abbrev IsStrong : SlotEntry → Type 0
 IsStrong s = s.kind ≡ kinds.Strong

@@ -1,10 +1,11 @@
 -- What is known of a class by its ID, and by its number.
-use Rattle.std.proofs.Common.{◌≡◌, ◌∙◌, ℕ, zero, suc, ◌+◌, ◌<◌, ◌≤◌, ◌^◌, inl, inr, List, [], ◌∷◌, ◌++◌, length, take, map, Option, Some, None, Bool, true, false, cond, eqb, eq-eqb, ne_eqb, true≢false, refl, sym, ap, arith, All}
+use Rattle.std.proofs.Common.{◌≡◌, ◌∙◌, ℕ, zero, suc, ◌<◌, ◌≤◌, ◌^◌, inl, inr, List, [], ◌∷◌, length, get_or, map, Option, Some, None, Bool, true, false, cond, eqb, eq-eqb, ne_eqb, true≢false, refl, sym, ap, arith, All}
 use Rattle.std.specs.Prelude.{not}
 use Rattle.std.specs.Option.{option_map, option_map_or}
 use Rattle.std.specs.List.{position_or_len, find, slice_get}
 use Rattle.std.specs.Map.{lookup}
 use Rattle.std.proofs.lemmas.Bool.{cases_lt, lt-ltb}
+use Rattle.std.proofs.lemmas.Option.{slice_get-get_or}
 use Rattle.std.proofs.lemmas.List.Folds.{find_at}
 use Rattle.std.proofs.lemmas.List.Sums.{position_or_len_is}
 use Rattle.std.proofs.lemmas.List.Quantifiers.{position-Some}
@@ -63,6 +64,21 @@ unnumbered k id is =
     some_or_none : (n : ℕ) → Some n ≡ None → ⊥
     some_or_none n e = cc
 
+-- the class of a number
+abbrev pub any_class : ℕ × ResolvedClass
+any_class = (0, record { chain = []; layout = []; referent = None; kind = kinds.Strong })
+
+abbrev pub class_at : Known → ℕ → ResolvedClass
+class_at k i = (get_or k.classes i any_class).1
+
+pub at-number : (k : Known) (i : ℕ) → i < length k.classes → known_by_number k i ≡ Some (class_at k i)
+at-number k i lt = ap (option_map second) (slice_get-get_or k.classes i any_class lt)
+
+pub same-class : (size : IdSize) (k : Known) (i n : ℕ) (x y : ResolvedClass) → known_by_number k i ≡ Some x → known_by_number k i ≡ Some y → n ≡ layout_len size x.layout → n ≡ layout_len size y.layout
+same-class size k i n x y at_x at_y is =
+    let same : x ≡ y = cc in
+    is ∙ ap (λ (z : ResolvedClass). layout_len size z.layout) same
+
 -- the fields of a class of a number are few
 pub few-fields : (es : List (ℕ × ResolvedClass)) (i : ℕ) (x : ResolvedClass) → All (λ (p : ℕ × ResolvedClass). length p.1.layout < 2 ^ 29) es → option_map second (slice_get es i) ≡ Some x → length x.layout < 2 ^ 29
 few-fields [] i x all is = absurd cc
@@ -91,17 +107,6 @@ pub number-small : (es : List (ℕ × ResolvedClass)) (i : ℕ) (x : ResolvedCla
 number-small [] i x is = absurd cc
 number-small (e ∷ es) zero x is = omega arith
 number-small (e ∷ es) (suc i) x is = omega (arith, number-small es i x is)
-
--- one more shape
-more-shapes : (f : ResolvedClass → ObjectShape) (es : List (ℕ × ResolvedClass)) (i : ℕ) (x : ResolvedClass) → option_map second (slice_get es i) ≡ Some x
-    → map (λ (p : ℕ × ResolvedClass). f p.1) (take (suc i) es) ≡ map (λ (p : ℕ × ResolvedClass). f p.1) (take i es) ++ f x ∷ []
-more-shapes f [] i x is = absurd cc
-more-shapes f (e ∷ es) zero x is = let same : e.1 ≡ x = cc in ap (λ (y : ResolvedClass). f y ∷ []) same
-more-shapes f (e ∷ es) (suc i) x is = ap (λ (ss : List ObjectShape). f e.1 ∷ ss) (more-shapes f es i x is)
-
-pub shapes-more : (f : ResolvedClass → ObjectShape) (es : List (ℕ × ResolvedClass)) (i : ℕ) (x : ResolvedClass) → option_map second (slice_get es i) ≡ Some x
-    → map (λ (p : ℕ × ResolvedClass). f p.1) (take (i + 1) es) ≡ map (λ (p : ℕ × ResolvedClass). f p.1) (take i es) ++ f x ∷ []
-shapes-more f es i x is = let more : i + 1 ≡ suc i = omega arith in ap (λ (n : ℕ). map (λ (p : ℕ × ResolvedClass). f p.1) (take n es)) more ∙ more-shapes f es i x is
 
 -- an instance that doesn't fit its class
 pub size_mismatch-is : (size : IdSize) (len n : ℕ) (known : Option ResolvedClass) → Some n ≡ length_of size known → eqb n len ≡ false → option_map_or (λ (x : ResolvedClass). not (eqb len (layout_len size x.layout))) known false ≡ true

@@ -14,7 +14,7 @@ use Rattle.hd_classes.specs.Known.{field_view}
 use Rattle.hd_slots.specs.Table.{Table}
 use Rattle.hd_graph.specs.ArrayRows.{IsValueWithin, placed_fields, value_ids, field_names}
 use Rattle.hd_graph.specs.Building.{GrowsBy}
-use Rattle.hd_graph.proofs.GrownLemmas.{IsOver, grown-over, ids-over, value-over}
+use Rattle.hd_graph.proofs.GrownLemmas.{IsOver, grown-over, over-same, over-new, value-over}
 use Rattle.hd_graph.proofs.ValueLemmas.{ids-append, ids-le}
 use Rattle.hd_graph.proofs.InstanceLemmas.{layout_len-cons}
 
@@ -30,64 +30,66 @@ one-more xs i d lt = ap (map field_view) (take_more xs i d lt) ∙ map-append fi
 pub all-fields : (xs : List LayoutField) (i : ℕ) → length xs ≤ i → first_fields xs i ≡ map field_view xs
 all-fields xs i past = ap (map field_view) (take_all i xs past)
 
-length-first : (xs : List LayoutField) (i : ℕ) → i < length xs → length (first_fields xs i) ≡ i
+pub length-first : (xs : List LayoutField) (i : ℕ) → i < length xs → length (first_fields xs i) ≡ i
 length-first xs i lt = omega (arith, length-map (take i xs) field_view, length-take i xs)
 
--- their bytes
+-- the bytes of fields and of those behind them
+pub len-append : (size : IdSize) (xs ys : List classes_of.LayoutField) → layout_len size (xs ++ ys) ≡ layout_len size xs + layout_len size ys
+len-append size xs ys = sum_by-append (λ (f : classes_of.LayoutField). value_len size f.code) xs ys
+
+len-one : (size : IdSize) (f : classes_of.LayoutField) → layout_len size (f ∷ []) ≡ value_len size f.code
+len-one size f = layout_len-cons size f [] ∙ add-zero (value_len size f.code)
+
+-- one more field's
 pub bytes-more : (size : IdSize) (xs : List LayoutField) (i : ℕ) (d : LayoutField) → i < length xs → layout_len size (first_fields xs (i + 1)) ≡ layout_len size (first_fields xs i) + value_len size (get_or xs i d).code
 bytes-more size xs i d lt =
     ap (layout_len size) (one-more xs i d lt)
-    ∙ sum_by-append (λ (f : classes_of.LayoutField). value_len size f.code) (first_fields xs i) (field_view (get_or xs i d) ∷ [])
-    ∙ ap (λ (n : ℕ). layout_len size (first_fields xs i) + n) (layout_len-cons size (field_view (get_or xs i d)) [] ∙ add-zero (value_len size (get_or xs i d).code))
+    ∙ len-append size (first_fields xs i) (field_view (get_or xs i d) ∷ [])
+    ∙ ap (λ (n : ℕ). layout_len size (first_fields xs i) + n) (len-one size (field_view (get_or xs i d)))
 
 -- no more than those of all
-pub bytes-within : (size : IdSize) (xs : List LayoutField) (i : ℕ) → layout_len size (first_fields xs i) ≤ layout_len size (map field_view xs)
+bytes-within : (size : IdSize) (xs : List LayoutField) (i : ℕ) → layout_len size (first_fields xs i) ≤ layout_len size (map field_view xs)
 bytes-within size xs i =
     omega (
       arith,
       ap (λ (ys : List LayoutField). layout_len size (map field_view ys)) (take-append-drop i xs),
       ap (layout_len size) (map-append field_view (take i xs) (drop i xs)),
-      sum_by-append (λ (f : classes_of.LayoutField). value_len size f.code) (map field_view (take i xs)) (map field_view (drop i xs)),
+      len-append size (map field_view (take i xs)) (map field_view (drop i xs)),
     )
 
--- the name of one field
-abbrev name_of : ℕ → ℕ → List Slot
-name_of i code = cond (is_id_type code) (slots.Field i ∷ []) []
-
-names-push : (k : ℕ) (fs : List classes_of.LayoutField) (f : classes_of.LayoutField) → field_names k (fs ++ f ∷ []) ≡ field_names k fs ++ name_of (k + length fs) f.code
-names-push k [] f = ap (λ (n : ℕ). name_of n f.code) (sym (add-zero k))
-names-push k (x ∷ fs) f =
-    let index : k + 1 + length fs ≡ k + suc (length fs) = omega arith in
-    by_type (is_id_type x.code) (names-push (k + 1) fs f ∙ ap (λ (n : ℕ). field_names (k + 1) fs ++ name_of n f.code) index)
+-- the names of fields and of those behind them
+pub names-append : (k : ℕ) (xs ys : List classes_of.LayoutField) → field_names k (xs ++ ys) ≡ field_names k xs ++ field_names (k + length xs) ys
+names-append k [] ys = ap (λ (n : ℕ). field_names n ys) (sym (add-zero k))
+names-append k (x ∷ xs) ys =
+    let number : k + 1 + length xs ≡ k + suc (length xs) = omega arith in
+    by_type (is_id_type x.code) (names-append (k + 1) xs ys ∙ ap (λ (n : ℕ). field_names (k + 1) xs ++ field_names n ys) number)
   where
-    by_type : (b : Bool) → field_names (k + 1) (fs ++ f ∷ []) ≡ field_names (k + 1) fs ++ name_of (k + suc (length fs)) f.code
-        → cond b (slots.Field k ∷ field_names (k + 1) (fs ++ f ∷ [])) (field_names (k + 1) (fs ++ f ∷ [])) ≡ cond b (slots.Field k ∷ field_names (k + 1) fs) (field_names (k + 1) fs) ++ name_of (k + suc (length fs)) f.code
+    by_type : (b : Bool) → field_names (k + 1) (xs ++ ys) ≡ field_names (k + 1) xs ++ field_names (k + suc (length xs)) ys
+        → cond b (slots.Field k ∷ field_names (k + 1) (xs ++ ys)) (field_names (k + 1) (xs ++ ys)) ≡ cond b (slots.Field k ∷ field_names (k + 1) xs) (field_names (k + 1) xs) ++ field_names (k + suc (length xs)) ys
     by_type true e = ap (λ (ns : List Slot). slots.Field k ∷ ns) e
     by_type false e = e
 
 -- one more name, or none
-pub names-more : (xs : List LayoutField) (i : ℕ) (d : LayoutField) → i < length xs → (b : Bool) → is_id_type (get_or xs i d).code ≡ b
-    → field_names 0 (first_fields xs (i + 1)) ≡ field_names 0 (first_fields xs i) ++ cond b (slots.Field i ∷ []) []
-names-more xs i d lt b is =
-    let index : 0 + length (first_fields xs i) ≡ i = omega (arith, length-first xs i lt) in
-    ap (field_names 0) (one-more xs i d lt)
-    ∙ names-push 0 (first_fields xs i) (field_view (get_or xs i d))
-    ∙ ap (λ (n : ℕ). field_names 0 (first_fields xs i) ++ name_of n (get_or xs i d).code) index
-    ∙ ap (λ (c : Bool). field_names 0 (first_fields xs i) ++ cond c (slots.Field i ∷ []) []) is
+pub names-more : (k : ℕ) (xs : List LayoutField) (i : ℕ) (d : LayoutField) → i < length xs → (b : Bool) → is_id_type (get_or xs i d).code ≡ b
+    → field_names k (first_fields xs (i + 1)) ≡ field_names k (first_fields xs i) ++ cond b (slots.Field (k + i) ∷ []) []
+names-more k xs i d lt b is =
+    ap (field_names k) (one-more xs i d lt)
+    ∙ names-append k (first_fields xs i) (field_view (get_or xs i d) ∷ [])
+    ∙ ap (λ (n : ℕ). field_names k (first_fields xs i) ++ field_names (k + n) (field_view (get_or xs i d) ∷ [])) (length-first xs i lt)
+    ∙ ap (λ (c : Bool). field_names k (first_fields xs i) ++ cond c (slots.Field (k + i) ∷ []) []) is
 
 module _ (bytes : List ℕ) (size : IdSize) where
-  placed-push : (at : ℕ) (fs : List classes_of.LayoutField) (f : classes_of.LayoutField)
-      → placed_fields size at (fs ++ f ∷ []) ≡ placed_fields size at fs ++ (f.code, record { start = at + layout_len size fs; len = value_len size f.code }) ∷ []
-  placed-push at [] f = ap (λ (n : ℕ). (let p : ℕ × Span = (f.code, record { start = n; len = value_len size f.code }) in p) ∷ []) (sym (add-zero at))
-  placed-push at (x ∷ fs) f =
-      let offset : at + value_len size x.code + layout_len size fs ≡ at + layout_len size (x ∷ fs) = omega (arith, layout_len-cons size x fs) in
+  placed-append : (at : ℕ) (xs ys : List classes_of.LayoutField) → placed_fields size at (xs ++ ys) ≡ placed_fields size at xs ++ placed_fields size (at + layout_len size xs) ys
+  placed-append at [] ys = ap (λ (n : ℕ). placed_fields size n ys) (sym (add-zero at))
+  placed-append at (x ∷ xs) ys =
+      let offset : at + value_len size x.code + layout_len size xs ≡ at + layout_len size (x ∷ xs) = omega (arith, layout_len-cons size x xs) in
       let here : ℕ × Span = (x.code, record { start = at; len = value_len size x.code }) in
-      ap (λ (ps : List (ℕ × Span)). here ∷ ps) (placed-push (at + value_len size x.code) fs f)
-      ∙ ap (λ (n : ℕ). here ∷ (placed_fields size (at + value_len size x.code) fs ++ (f.code, record { start = n; len = value_len size f.code }) ∷ [])) offset
+      ap (λ (ps : List (ℕ × Span)). here ∷ ps) (placed-append (at + value_len size x.code) xs ys)
+      ∙ ap (λ (n : ℕ). here ∷ (placed_fields size (at + value_len size x.code) xs ++ placed_fields size n ys)) offset
 
-  -- the IDs in the first fields
-  abbrev pub ids_so_far : ℕ → List LayoutField → ℕ → List ℕ
-  ids_so_far start xs i = value_ids bytes size (placed_fields size start (first_fields xs i))
+  -- the IDs in fields
+  abbrev pub ids_of_fields : ℕ → List classes_of.LayoutField → List ℕ
+  ids_of_fields start fs = value_ids bytes size (placed_fields size start fs)
 
   pub placed-few : (at : ℕ) (fs : List classes_of.LayoutField) → length (value_ids bytes size (placed_fields size at fs)) ≤ length fs
   placed-few at fs = omega (arith, ids-le bytes size (placed_fields size at fs), length-placed at fs)
@@ -96,63 +98,115 @@ module _ (bytes : List ℕ) (size : IdSize) where
       length-placed at [] = refl
       length-placed at (f ∷ fs) = ap suc (length-placed (at + value_len size f.code) fs)
 
--- they were added
-pub record ArePushed (start : ℕ) (xs : List LayoutField) (i : ℕ) (first now : Table) (at : ℕ) : Type 0 where
-  pub table : GrowsBy (ids_so_far first.bytes first.size start xs i) first now
-  pub at_is : at ≡ start + layout_len first.size (first_fields xs i)
-  pub few : length (ids_so_far first.bytes first.size start xs i) ≤ i
+-- the IDs in the first fields were added
+pub record ArePushed (start : ℕ) (front : List classes_of.LayoutField) (first now : Table) (at : ℕ) : Type 0 where
+  pub table : GrowsBy (ids_of_fields first.bytes first.size start front) first now
+  pub at_is : at ≡ start + layout_len first.size front
 
-pub none-pushed : (start : ℕ) (xs : List LayoutField) (first : Table) → ArePushed start xs 0 first first start
-none-pushed start xs first = record {
+pub none-pushed : (start : ℕ) (first : Table) → ArePushed start [] first first start
+none-pushed start first = record {
   table = ap (λ (f : List ℕ). record first { filling = f; count = first.count }) (sym (append-nil first.filling)) ∙ ap (λ (n : ℕ). record first { filling = first.filling ++ []; count = n }) (sym (add-zero first.count));
   at_is = sym (add-zero start);
-  few = omega arith;
 }
 
 -- they are over the same file
-over-so-far : (start : ℕ) (xs : List LayoutField) (i : ℕ) (first now : Table) (at : ℕ) → ArePushed start xs i first now at → IsOver first now
-over-so-far start xs i first now at h = grown-over (ids_so_far first.bytes first.size start xs i) first now h.table
+over-so-far : (start : ℕ) (front : List classes_of.LayoutField) (first now : Table) (at : ℕ) → ArePushed start front first now at → IsOver first now
+over-so-far start front first now at h = grown-over (ids_of_fields first.bytes first.size start front) first now h.table
 
--- one more field
-pub pushed-more : (start : ℕ) (xs : List LayoutField) (i : ℕ) (d : LayoutField) (first now new : Table) (at at' : ℕ) → i < length xs → ArePushed start xs i first now at
-    → at' ≡ at + value_len first.size (get_or xs i d).code → GrowsBy (value_ids now.bytes now.size (((get_or xs i d).code, record { start = at; len = value_len first.size (get_or xs i d).code }) ∷ [])) now new
-    → ArePushed start xs (i + 1) first new at'
-pushed-more start xs i d first now new at at' lt h next grows =
-    let f = field_view (get_or xs i d) in
-    let old = ids_so_far first.bytes first.size start xs i in
-    let one = value_ids first.bytes first.size ((f.code, record { start = at; len = value_len first.size f.code }) ∷ []) in
-    let more : ids_so_far first.bytes first.size start xs (i + 1) ≡ old ++ one =
-    ap (λ (fs : List classes_of.LayoutField). value_ids first.bytes first.size (placed_fields first.size start fs)) (one-more xs i d lt)
-    ∙ ap (value_ids first.bytes first.size) (placed-push first.bytes first.size start (first_fields xs i) f)
-    ∙ ids-append first.bytes first.size (placed_fields first.size start (first_fields xs i)) ((f.code, record { start = start + layout_len first.size (first_fields xs i); len = value_len first.size f.code }) ∷ [])
-    ∙ ap (λ (n : ℕ). old ++ value_ids first.bytes first.size ((f.code, record { start = n; len = value_len first.size f.code }) ∷ [])) (sym h.at_is) in
-    let count : first.count + length old + length one ≡ first.count + length (old ++ one) = omega (arith, length-append old one) in
+-- some more fields
+pub pushed-more : (start : ℕ) (front more : List classes_of.LayoutField) (first now new : Table) (at at' : ℕ) → ArePushed start front first now at → GrowsBy (ids_of_fields now.bytes now.size at more) now new
+    → at' ≡ at + layout_len first.size more → ArePushed start (front ++ more) first new at'
+pushed-more start front more first now new at at' h grows next =
+    let bytes = first.bytes in
+    let size = first.size in
+    let old = ids_of_fields bytes size start front in
+    let others = ids_of_fields bytes size at more in
+    let over = over-so-far start front first now at h in
+    let whole : ids_of_fields bytes size start (front ++ more) ≡ old ++ others =
+    ap (value_ids bytes size) (placed-append bytes size start front more)
+    ∙ ids-append bytes size (placed_fields size start front) (placed_fields size (start + layout_len size front) more)
+    ∙ ap (λ (n : ℕ). old ++ ids_of_fields bytes size n more) (sym h.at_is) in
+    let count : first.count + length old + length others ≡ first.count + length (old ++ others) = omega (arith, length-append old others) in
     record {
-      table = ids-over ((f.code, record { start = at; len = value_len first.size f.code }) ∷ []) first now new (over-so-far start xs i first now at h) grows
-          ∙ ap (λ (t : Table). record t { filling = t.filling ++ one; count = t.count + length one }) h.table
-          ∙ ap (λ (x : List ℕ). record first { filling = x; count = first.count + length old + length one }) (append_assoc first.filling old one)
-          ∙ ap (λ (n : ℕ). record first { filling = first.filling ++ (old ++ one); count = n }) count
-          ∙ ap (λ (ids : List ℕ). record first { filling = first.filling ++ ids; count = first.count + length ids }) (sym more);
-      at_is = omega (arith, next, h.at_is, bytes-more first.size xs i d lt);
-      few = omega (arith, ap (λ (ids : List ℕ). length ids) more, length-append old one, ids-le first.bytes first.size ((f.code, record { start = at; len = value_len first.size f.code }) ∷ []), h.few);
+      table = over-same (λ (bs : List ℕ) (n : IdSize). GrowsBy (ids_of_fields bs n at more) now new) first now over grows
+          ∙ ap (λ (t : Table). record t { filling = t.filling ++ others; count = t.count + length others }) h.table
+          ∙ ap (λ (x : List ℕ). record first { filling = x; count = first.count + length old + length others }) (append_assoc first.filling old others)
+          ∙ ap (λ (n : ℕ). record first { filling = first.filling ++ (old ++ others); count = n }) count
+          ∙ ap (λ (ids : List ℕ). record first { filling = first.filling ++ ids; count = first.count + length ids }) (sym whole);
+      at_is = omega (arith, next, h.at_is, len-append size front more);
     }
 
--- a field's value lies in the file
-pub field-within : (start : ℕ) (xs : List LayoutField) (i : ℕ) (d : LayoutField) (first now : Table) (at : ℕ) → i < length xs → ArePushed start xs i first now at → start + layout_len first.size (map field_view xs) ≤ length first.bytes
-    → at + value_len first.size (get_or xs i d).code ≤ length first.bytes
+-- one more field
+pub field-pushed : (start : ℕ) (xs : List LayoutField) (i : ℕ) (d : LayoutField) (first now new : Table) (at at' : ℕ) → i < length xs → ArePushed start (first_fields xs i) first now at
+    → GrowsBy (ids_of_fields now.bytes now.size at (field_view (get_or xs i d) ∷ [])) now new → at' ≡ at + value_len first.size (get_or xs i d).code
+    → ArePushed start (first_fields xs (i + 1)) first new at'
+field-pushed start xs i d first now new at at' lt h grows next =
+    subst (λ (fs : List classes_of.LayoutField). ArePushed start fs first new at') (sym (one-more xs i d lt))
+    (pushed-more start (first_fields xs i) (field_view (get_or xs i d) ∷ []) first now new at at' h grows (omega (arith, next, len-one first.size (field_view (get_or xs i d)))))
+
+-- its value lies in the file
+pub field-within : (start : ℕ) (xs : List LayoutField) (i : ℕ) (d : LayoutField) (first now : Table) (at : ℕ) → i < length xs → ArePushed start (first_fields xs i) first now at
+    → start + layout_len first.size (map field_view xs) ≤ length first.bytes → at + value_len first.size (get_or xs i d).code ≤ length first.bytes
 field-within start xs i d first now at lt h within = omega (arith, h.at_is, bytes-more first.size xs i d lt, bytes-within first.size xs (i + 1), within)
 
-pub value-within : (start : ℕ) (xs : List LayoutField) (i : ℕ) (d : LayoutField) (first now : Table) (at n : ℕ) → i < length xs → ArePushed start xs i first now at → start + layout_len first.size (map field_view xs) ≤ length first.bytes
-    → n ≡ value_len first.size (get_or xs i d).code → IsValueWithin now.size (length now.bytes) ((get_or xs i d).code, record { start = at; len = n })
+pub value-within : (start : ℕ) (xs : List LayoutField) (i : ℕ) (d : LayoutField) (first now : Table) (at n : ℕ) → i < length xs → ArePushed start (first_fields xs i) first now at
+    → start + layout_len first.size (map field_view xs) ≤ length first.bytes → n ≡ value_len first.size (get_or xs i d).code → IsValueWithin now.size (length now.bytes) ((get_or xs i d).code, record { start = at; len = n })
 value-within start xs i d first now at n lt h within is =
-    value-over first now ((get_or xs i d).code, record { start = at; len = n }) (over-so-far start xs i first now at h)
+    value-over first now ((get_or xs i d).code, record { start = at; len = n }) (over-so-far start (first_fields xs i) first now at h)
     (record { within = omega (arith, field-within start xs i d first now at lt h within, is); typed = is })
 
--- all of them
-pub all-pushed : (start : ℕ) (xs : List LayoutField) (i : ℕ) (first now : Table) (at : ℕ) → length xs ≤ i → ArePushed start xs i first now at
-    → GrowsBy (value_ids first.bytes first.size (placed_fields first.size start (map field_view xs))) first now
-all-pushed start xs i first now at past h = subst (λ (fs : List classes_of.LayoutField). GrowsBy (value_ids first.bytes first.size (placed_fields first.size start fs)) first now) (all-fields xs i past) h.table
-
 -- how many there are
-pub count-so-far : (start : ℕ) (xs : List LayoutField) (i : ℕ) (first now : Table) (at : ℕ) → ArePushed start xs i first now at → (length now.ids ≡ length first.ids) × (now.count ≤ first.count + i)
-count-so-far start xs i first now at h = (ap (λ (t : Table). length t.ids) h.table, omega (arith, ap (λ (t : Table). t.count) h.table, h.few))
+pub count-so-far : (start : ℕ) (front : List classes_of.LayoutField) (first now : Table) (at : ℕ) → ArePushed start front first now at → (length now.ids ≡ length first.ids) × (now.count ≤ first.count + length front)
+count-so-far start front first now at h = (ap (λ (t : Table). length t.ids) h.table, omega (arith, ap (λ (t : Table). t.count) h.table, placed-few first.bytes first.size start front))
+
+-- those before the rest of a layout were added
+pub record AreBefore (start : ℕ) (layout rest : List classes_of.LayoutField) (first now : Table) (at : ℕ) : Type 0 where
+  pub front : List classes_of.LayoutField
+  pub whole : layout ≡ front ++ rest
+  pub pushed : ArePushed start front first now at
+
+-- and one more class's
+pub class-pushed : (start : ℕ) (layout rest own above : List classes_of.LayoutField) (first now new : Table) (at at' : ℕ) → AreBefore start layout rest first now at → rest ≡ own ++ above
+    → GrowsBy (ids_of_fields now.bytes now.size at own) now new → at' ≡ at + layout_len now.size own → AreBefore start layout above first new at'
+class-pushed start layout rest own above first now new at at' h split grows next =
+    let over = over-so-far start h.front first now at h.pushed in
+    record {
+      front = h.front ++ own;
+      whole = h.whole ∙ ap (λ (fs : List classes_of.LayoutField). h.front ++ fs) split ∙ sym (append_assoc h.front own above);
+      pushed = pushed-more start h.front own first now new at at' h.pushed grows (next ∙ ap (λ (n : IdSize). at + layout_len n own) over.size);
+    }
+
+-- its values lie in the file, and there's room for its IDs
+pub class-within : (start : ℕ) (layout rest own above : List classes_of.LayoutField) (first now : Table) (at : ℕ) → AreBefore start layout rest first now at → rest ≡ own ++ above
+    → start + layout_len first.size layout ≤ length first.bytes → at + layout_len now.size own ≤ length now.bytes
+class-within start layout rest own above first now at h split within =
+    let over = over-so-far start h.front first now at h.pushed in
+    over-new (λ (bytes : List ℕ) (size : IdSize). at + layout_len size own ≤ length bytes) first now over
+    (omega (
+      arith,
+      within,
+      h.pushed.at_is,
+      ap (layout_len first.size) (h.whole ∙ ap (λ (fs : List classes_of.LayoutField). h.front ++ fs) split),
+      len-append first.size h.front (own ++ above),
+      len-append first.size own above,
+    ))
+
+pub class-room : (start : ℕ) (layout rest own above : List classes_of.LayoutField) (first now : Table) (at limit : ℕ) → AreBefore start layout rest first now at → rest ≡ own ++ above
+    → length first.ids + first.count + length layout < limit → length now.ids + now.count + length own < limit
+class-room start layout rest own above first now at limit h split room =
+    let so_far = count-so-far start h.front first now at h.pushed in
+    omega (
+      arith,
+      room,
+      so_far.0,
+      so_far.1,
+      ap (λ (fs : List classes_of.LayoutField). length fs) (h.whole ∙ ap (λ (fs : List classes_of.LayoutField). h.front ++ fs) split),
+      length-append h.front (own ++ above),
+      length-append own above,
+    )
+
+-- all of a layout's were added
+pub all-pushed : (start : ℕ) (layout rest : List classes_of.LayoutField) (first now : Table) (at : ℕ) → AreBefore start layout rest first now at → rest ≡ [] → GrowsBy (ids_of_fields first.bytes first.size start layout) first now
+all-pushed start layout rest first now at h none =
+    let all : h.front ≡ layout = sym (h.whole ∙ ap (λ (fs : List classes_of.LayoutField). h.front ++ fs) none ∙ append-nil h.front) in
+    subst (λ (fs : List classes_of.LayoutField). GrowsBy (ids_of_fields first.bytes first.size start fs) first now) all h.pushed.table

@@ -1,6 +1,7 @@
 pub mod RowSlots
 pub mod ShapeLemmas
 pub mod PackedLemmas
+pub mod MadeLemmas
 pub mod RisingLemmas
 pub mod ClassLemmas
 pub mod ValueLemmas

@@ -8,6 +8,7 @@ use Rattle.hd_terms.specs.Classes.{ResolvedClass, KnownClasses}
 use Rattle.hd_terms.specs.ReadFaults.{fault, IsReadFault}
 use Rattle.hd_classes.specs.Known.{Known}
 use Rattle.hd_graph.specs.Shapes.{ObjectShape}
+use Rattle.hd_graph.specs.PackedShapes.{shape_at, made_layout}
 use Rattle.hd_slots.specs.Table.{Table}
 use Rattle.hd_graph.specs.ArrayRows.{ObjectEntry, object_ids, entry_of_item, entries_of, item_weight, layout_shape}
 
@@ -65,7 +66,12 @@ pub record AreFewAndShort (classes : Known) : Type 0 where
   pub few : length classes.classes < 2 ^ 32
   pub short : All (λ (p : ℕ × ResolvedClass). length p.1.layout < 2 ^ 29) classes.classes
 
--- and these are the shapes of their instances
-pub record AreLayouts (size : IdSize) (classes : Known) (layouts : List ObjectShape) : Type 0 where
+-- the shape of the instances of the class of a number
+abbrev pub shape_by_number : IdSize → Known → ℕ → ObjectShape
+shape_by_number size classes i = shape_at (map (λ (p : ℕ × ResolvedClass). layout_shape size p.1) classes.classes) i
+
+-- of each class that is known the shape of its instances, if it was made
+pub record AreLayouts (size : IdSize) (classes : Known) (layouts : List (Option ObjectShape)) : Type 0 where
   pub bounds : AreFewAndShort classes
-  pub shapes : layouts ≡ map (λ (p : ℕ × ResolvedClass). layout_shape size p.1) classes.classes
+  pub count : length layouts ≡ length classes.classes
+  pub made : (i : ℕ) (shape : ObjectShape) → made_layout layouts i ≡ Some shape → shape ≡ shape_by_number size classes i

@@ -8,7 +8,6 @@ ghost use Rattle.hd_graph.specs.Building.{HasNoRows, HasRowsOf, FillsItem, colum
 use crate::array_rows::{bytes_of_elements, push_array};
 use crate::class_rows::push_class;
 use crate::instance_rows::push_instance;
-use crate::layouts::shapes_of_classes;
 use crate::shape::Shapes;
 use hd_classes::Classes;
 use hd_ids::ObjectIds;
@@ -38,7 +37,7 @@ fn fill_one(
     requires filled { slot_table.old.filling ≡ [] }
     requires classes { AreLayouts slot_table.old.size classes.now shapes.old.layouts }
     ensures filled { OnOk result (FillsItem (known_at classes.now) slot_table.old.bytes slot_table.old.size (item_view sub.entry.item) (columns slot_table.old shapes.old.objects) (columns slot_table.new shapes.new.objects)) }
-    ensures kept { OnOk result (shapes.new.layouts ≡ shapes.old.layouts) }
+    ensures classes { OnOk result (AreLayouts slot_table.old.size classes.now shapes.new.layouts) }
 {
     let offset = sub.offset;
     match sub.item {
@@ -50,7 +49,7 @@ fn fill_one(
         }
         Item::Instance { id, class, values } => {
             if slot_table.is_next(id) {
-                push_instance(slot_table, shapes, classes, class, values, offset)?;
+                push_instance(alloc, slot_table, shapes, classes, class, values, offset)?;
             }
         }
         Item::ObjArray { id, elements, .. } => {
@@ -77,7 +76,7 @@ fn fill_rows(
     slot_table: &mut UnresolvedSlots<'_>,
     shapes: &mut Shapes,
     classes: &Classes,
-    list: &DumpSubs,
+    list: &DumpSubs<'_>,
 ) -> Result<(), AllocError>
     requires within { AreWithin slot_table.old.size slot_table.old.bytes list.now }
     requires ids { slot_table.old.ids ≡ object_ids list.now }
@@ -99,7 +98,7 @@ pub(crate) fn rows_of<'a>(
     classes: &Classes,
     id_size: IdSize,
     bytes: &'a [u8],
-    list: &DumpSubs,
+    list: &DumpSubs<'_>,
 ) -> Result<Rows<'a>, AllocError>
     requires within { AreWithin id_size bytes.now list.now }
     requires small { length bytes.now < 2 ^ 31 }
@@ -109,8 +108,7 @@ pub(crate) fn rows_of<'a>(
     requires classes { AreFewAndShort classes.now }
     ensures { IfOk result (λ rows. HasRowsOf (known_at classes.now) bytes.now id_size list.now (columns rows.slot_table rows.shapes.objects)) }
 {
-    let layouts = shapes_of_classes(alloc, id_size, classes)?;
-    let mut shapes = Shapes::with_capacity(alloc, ids.len(), layouts)?;
+    let mut shapes = Shapes::with_capacity(alloc, ids.len(), classes.len())?;
     let mut slot_table = UnresolvedSlots::new(alloc, bytes, id_size, ids)?;
     fill_rows(alloc, &mut slot_table, &mut shapes, classes, list)?;
     Ok(Rows { slot_table, shapes })

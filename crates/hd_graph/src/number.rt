@@ -41,7 +41,7 @@ fn length_of_values(classes: &Classes, id_size: IdSize, class: u64) -> Option<u6
 {
     match classes.index_of(class) {
         Some(i) => {
-            let layout = classes.get(i).layout.as_slice();
+            let layout = classes.get(i).layout;
             Some(u64::from(bytes_of_layout(id_size, layout)))
         }
         None => None,
@@ -144,7 +144,7 @@ fn number_one(
 /// with ID 0, and an instance that doesn't fit its class's layout, are faults. The secret is for the hashes of IDs.
 pub(crate) fn number(
     alloc: Global,
-    list: &DumpSubs,
+    list: &DumpSubs<'_>,
     classes: &Classes,
     id_size: IdSize,
     secret: u64,

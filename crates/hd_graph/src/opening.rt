@@ -40,7 +40,7 @@ impl Graph {
         alloc: Global,
         bytes: &[u8],
         records: &Records,
-        list: &DumpSubs,
+        list: &DumpSubs<'_>,
         classes: &Classes,
         mode: Mode,
     ) -> Result<Graph, ReadFault>
@@ -55,7 +55,7 @@ impl Graph {
         let secret = secret(rt);
         let strings = repeated_strings(alloc, &records.strings, secret)?;
         let loads = repeated_loads(alloc, &records.loads, secret)?;
-        let names = names_of(alloc, bytes, &records.loads, classes)?;
+        let names = names_of(alloc, bytes, &records.loads, classes, secret)?;
         let Numbered { ids, roots, tally } = number(alloc, list, classes, id_size, secret)?;
         let Rows { slot_table, shapes } = rows_of(alloc, ids, classes, id_size, bytes, list)?;
         let slot_table = slot_table.resolve(rt, alloc)?;
@@ -100,7 +100,7 @@ pub fn open_dump<R: RandomSource + Threads + Sync, G: Gate>(
 {
     let records = read_records(alloc, bytes)?;
     let list = decode(rt, alloc, bytes, &records, workers, gate)?;
-    let classes = Classes::build(alloc, bytes, &records, &list)?;
+    let classes = Classes::build(alloc, bytes, &records, &list, secret(rt))?;
     let graph = Graph::build(rt, alloc, bytes, &records, &list, &classes, mode)?;
     let graph = Arc::new(alloc, graph)?;
     Ok(graph)

@@ -1,7 +1,8 @@
 //! What is kept of each object beside its references: its kind, its recorded bytes and the names of its slots.
-ghost use Rattle.std.specs.Prelude.{◌≡◌, ◌<◌, ◌-◌, ◌^◌, [], ◌∷◌, ◌++◌, length, map, slice_get, Some, IfOk, OnOk};
-ghost use Rattle.hd_graph.specs.Shapes.{ObjectArray, PrimitiveArray};
-ghost use Rattle.hd_graph.specs.PackedShapes.{shape_view, class_shape_view, layout_view, shape_at, IsPackedOver, kept_shape};
+ghost use Rattle.std.specs.Prelude.{◌≡◌, ◌<◌, ◌-◌, ◌^◌, [], ◌∷◌, ◌++◌, length, replicate, set, slice_get, IsSome, Some, None, IfOk, OnOk};
+ghost use Rattle.std.specs.Option.{option_map};
+ghost use Rattle.hd_graph.specs.Shapes.{ObjectShape, ObjectArray, PrimitiveArray, shape_bytes};
+ghost use Rattle.hd_graph.specs.PackedShapes.{shape_view, class_shape_view, layout_view, made_layout, IsPackedOver, kept_shape};
 
 use crate::layouts::LayoutShape;
 use hd_terms::Slot;
@@ -9,14 +10,14 @@ use std::alloc::{AllocError, Global};
 use std::marker::Model;
 
 /// A class object: its recorded bytes, and the names of its slots in their order.
-#[derive(Debug, Drop)]
+#[derive(Drop)]
 pub(crate) struct ClassShape {
     pub(crate) bytes: u32,
     pub(crate) names: Vec<Slot>,
 }
 
 /// What an object is, and how many bytes are recorded of it.
-#[derive(Clone, Copy, Debug)]
+#[derive(Clone, Copy)]
 pub(crate) enum Shape<'a> {
     /// An object array, or an instance of a class that isn't known.
     ObjectArray { bytes: u32 },
@@ -26,35 +27,38 @@ pub(crate) enum Shape<'a> {
     Instance(&'a LayoutShape),
 }
 
-/// A shape in eight bytes. Of a class it is its index among the classes, of an instance the number of its class among those
-/// that are known.
-#[derive(Clone, Copy, Debug)]
+/// A shape in eight bytes. Of a class it is its index among the classes, of an instance the index of its class's layout among
+/// those that were made.
+#[derive(Clone, Copy)]
 pub(crate) enum PackedShape {
     ObjectArray { bytes: u32 },
     PrimitiveArray { element: u8, bytes: u32 },
     Class { index: u32 },
-    Instance { class: u32 },
+    Instance { index: u32 },
 }
 
 const _: () = prove!(size_of::<PackedShape>() <= 8);
 
-/// The shapes of objects, in the order of their numbers.
-#[derive(Debug, Drop)]
+/// The shapes of objects, in the order of their numbers. The shape that all instances of a class share is made with the first
+/// of them, so a class without instances takes four bytes.
+#[derive(Drop)]
 pub(crate) struct Shapes {
     kept: Vec<PackedShape>,
     classes: Vec<ClassShape>,
     layouts: Vec<LayoutShape>,
+    /// Of each class that is known: 0 if no shape of its instances was made, and else the index of that shape plus one.
+    numbers: Vec<u32>,
 }
 
 impl Model for Shapes {
     ghost use Rattle.std.specs.Prelude.{map, length};
-    ghost use Rattle.hd_graph.specs.PackedShapes.{ShapeLists, kept_shape, layout_view, ArePacked};
+    ghost use Rattle.hd_graph.specs.PackedShapes.{ShapeLists, kept_shape, numbered_layout, ArePacked};
 
     ghost Value = { ShapeLists };
 
-    ghost view = { λ s. record { objects = map (kept_shape s.classes.items s.layouts.items) s.kept.items; layouts = map layout_view s.layouts.items } };
+    ghost view = { λ s. record { objects = map (kept_shape s.classes.items s.layouts.items) s.kept.items; layouts = map (numbered_layout s.layouts.items) s.numbers.items } };
 
-    ghost invariant = { λ s. ArePacked s.kept.items (length s.classes.items) (length s.layouts.items) };
+    ghost invariant = { λ s. ArePacked s.kept.items (length s.classes.items) (length s.layouts.items) s.numbers.items };
 }
 
 /// What is kept says, over the classes and the layouts.
@@ -70,24 +74,27 @@ fn shape_of<'a>(
         PackedShape::ObjectArray { bytes } => Shape::ObjectArray { bytes },
         PackedShape::PrimitiveArray { element, bytes } => Shape::PrimitiveArray { element, bytes },
         PackedShape::Class { index } => Shape::Class(&classes[index as usize]),
-        PackedShape::Instance { class } => Shape::Instance(&layouts[class as usize]),
+        PackedShape::Instance { index } => Shape::Instance(&layouts[index as usize]),
     }
 }
 
 impl Shapes {
-    /// No objects yet, with room for so many, over the shapes of the instances of the classes that are known.
+    /// No objects yet, with room for so many, and no shape of the instances of any of so many classes.
     pub(crate) fn with_capacity(
         alloc: Global,
         objects: usize,
-        layouts: Vec<LayoutShape>,
+        known: usize,
     ) -> Result<Shapes, AllocError>
-        ensures { IfOk result (λ s. s ≡ record { objects = []; layouts = map layout_view layouts.items }) }
+        ensures { IfOk result (λ s. s ≡ record { objects = []; layouts = replicate known None }) }
     {
         let kept = Vec::with_capacity(alloc, objects)?;
+        let mut numbers = Vec::with_capacity(alloc, known)?;
+        numbers.resize(known, 0)?;
         Ok(Shapes {
             kept,
             classes: Vec::new(alloc),
-            layouts,
+            layouts: Vec::new(alloc),
+            numbers,
         })
     }
 
@@ -120,12 +127,45 @@ impl Shapes {
         Ok(())
     }
 
-    /// An instance of the class of a number comes next.
-    pub(crate) fn push_instance(&mut self, class: u32) -> Result<(), AllocError>
-        requires { class < length self.old.layouts }
-        ensures { OnOk result (self.new ≡ record self.old { objects = self.old.objects ++ shape_at self.old.layouts class ∷ [] }) }
+    /// How many bytes the values of instances of the class of a number have, if the shape of these instances was made.
+    pub(crate) fn instance_bytes(&self, class: usize) -> Option<u32>
+        requires { class < length self.now.layouts }
+        ensures { result ≡ option_map shape_bytes (made_layout self.now.layouts class) }
     {
-        self.kept.push(PackedShape::Instance { class })?;
+        match self.numbers[class] {
+            0 => None,
+            number => Some(self.layouts[number as usize - 1].bytes),
+        }
+    }
+
+    /// An instance of the class of a number comes next, with the shape that was made for the class.
+    pub(crate) fn push_instance(&mut self, class: usize) -> Result<(), AllocError>
+        requires { IsSome (made_layout self.old.layouts class) }
+        ensures { OnOk result ((shape : ObjectShape) → made_layout self.old.layouts class ≡ Some shape → self.new ≡ record self.old { objects = self.old.objects ++ shape ∷ [] }) }
+    {
+        let index = self.numbers[class] - 1;
+        self.kept.push(PackedShape::Instance { index })?;
+        Ok(())
+    }
+
+    /// An instance comes next, with the shape of its class's instances, which is kept by the number of the class.
+    pub(crate) fn push_first_instance(
+        &mut self,
+        class: usize,
+        shape: LayoutShape,
+    ) -> Result<(), AllocError>
+        requires within { class < length self.old.layouts }
+        requires few { length self.old.objects < 2 ^ 32 - 1 }
+        ensures { OnOk result (self.new ≡ record self.old {
+          objects = self.old.objects ++ layout_view shape ∷ [];
+          layouts = set self.old.layouts class (Some (layout_view shape));
+        }) }
+    {
+        let index = self.layouts.len() as u32;
+        self.kept.reserve(1)?;
+        self.layouts.push(shape)?;
+        self.kept.push_reserved(PackedShape::Instance { index });
+        self.numbers[class] = index + 1;
         Ok(())
     }
 

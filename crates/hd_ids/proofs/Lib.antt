@@ -1,3 +1,4 @@
 pub mod DistinctLemmas
 pub mod PlainLemmas
+pub mod NumberLemmas
 pub mod RowLemmas

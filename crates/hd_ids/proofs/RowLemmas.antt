@@ -195,6 +195,19 @@ module _ (pages numbers ids : List ℕ) (last_page last_row : ℕ) (h : AreRows 
         few_ids = omega (arith, few, length-append ids (id ∷ []));
       }
 
+  -- the row alone, where its first ID isn't added
+  pub row-noted : length numbers ≤ slot → (n : ℕ) → n ≡ 512 → length numbers + n ≤ length ids * 8 + 2 ^ 16 → AreRows (pages ++ page_of id ∷ []) (numbers ++ replicate n 0) ids (page_of id) row
+  row-noted le n size small =
+      let new : row_of pages (page_of id) ≡ length pages = sym row_is ∙ new-page le in
+      let here : row_of (pages ++ page_of id ∷ []) (page_of id) ≡ length pages = row-here pages (page_of id) new in
+      record {
+        numbers_are = row-added pages numbers ids h.numbers_are (page_of id) n size;
+        last = here ∙ sym new ∙ sym row_is;
+        within = omega (arith, length-append pages (page_of id ∷ []), row_is, new);
+        small = omega (arith, small, length-append numbers (replicate n 0), length-replicate {A = ℕ} n 0);
+        few_ids = h.few_ids;
+      }
+
 -- an ID at a place of distinct ones has that position
 pub position-of-place : (ids : List ℕ) (id o : ℕ) → IsDistinct nat_eq ids → o < length ids → slice_index ids o ≡ id → position (λ k. eqb id k) ids ≡ Some o
 position-of-place ids id o distinct lt is =

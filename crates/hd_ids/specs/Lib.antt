@@ -2,5 +2,6 @@ pub mod IdHash
 pub mod Index
 pub mod Noted
 pub mod PageHash
+pub mod Numbers
 pub mod Rows
 pub mod Scatter

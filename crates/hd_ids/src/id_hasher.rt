@@ -11,14 +11,14 @@ use std::hash::{BuildHasher, Hasher};
 /// the heap begin their search at one place, and the places of such blocks are scattered
 /// by the secret, so that who makes a dump can't foresee which blocks meet.
 #[derive(Clone, Copy)]
-pub(crate) struct IdHasher {
+pub struct IdHasher {
     secret: u64,
     state: u64,
 }
 
 impl IdHasher {
     /// The secret is made odd.
-    pub(crate) fn new(secret: u64) -> IdHasher {
+    pub fn new(secret: u64) -> IdHasher {
         IdHasher {
             secret: secret | 1,
             state: 0,

@@ -3,6 +3,7 @@
 
 mod id_hasher;
 mod ids;
+mod numbers;
 mod page_hasher;
 mod paged;
 mod plain;
@@ -10,5 +11,6 @@ mod rows;
 mod scatter;
 mod seed;
 
+pub use id_hasher::IdHasher;
 pub use ids::ObjectIds;
 pub use seed::secret;

@@ -3,9 +3,10 @@ ghost use Rattle.std.specs.Prelude.{◌≡◌, nat_eq, ◌<◌, ◌==◌, ℕ, [
 ghost use Rattle.std.specs.List.{IsDistinct};
 ghost use Rattle.hd_ids.specs.Noted.{is_noted, noted};
 
+use crate::numbers::{Numbers, ROW};
 use crate::page_hasher::PageHasher;
 use crate::plain::PlainIds;
-use crate::rows::{ROW, add_id, add_row, number_at, page_of, place_of, row_after};
+use crate::rows::{add_id, add_row, number_at, page_of, place_of, row_after};
 use indexmap::IndexSet;
 use std::alloc::{AllocError, Global};
 use std::marker::Model;
@@ -21,7 +22,7 @@ pub(crate) struct PagedIds {
     /// The pages of the IDs, in the order of their rows.
     pages: IndexSet<u64, PageHasher>,
     /// Rows of 512: one more than the number of each ID of a page, 0 where there is none.
-    numbers: Vec<u32>,
+    numbers: Numbers,
     /// The page that was noted last, and its row.
     last_page: u64,
     last_row: usize,
@@ -35,7 +36,7 @@ impl Model for PagedIds {
 
     ghost view = { λ a. a.ids.items };
 
-    ghost invariant = { λ a. AreRows a.pages.keys a.numbers.items a.ids.items a.last_page a.last_row };
+    ghost invariant = { λ a. AreRows a.pages.keys a.numbers a.ids.items a.last_page a.last_row };
 }
 
 impl PagedIds {
@@ -53,7 +54,7 @@ impl PagedIds {
             secret,
             ids,
             pages: IndexSet::with_hasher(alloc, PageHasher::new(secret)),
-            numbers: Vec::new(alloc),
+            numbers: Numbers::new(alloc, PageHasher::new(secret)),
             last_page: 0,
             last_row: 0,
         })
@@ -102,12 +103,12 @@ impl PagedIds {
             if self.numbers.len() + ROW > self.ids.len() * 8 + (1 << 16) {
                 return Ok(None);
             }
-            self.ids.reserve(1)?;
-            add_row(&mut self.pages, &mut self.numbers, page)?;
+            let base = self.ids.len() as u32;
+            add_row(&mut self.pages, &mut self.numbers, page, base)?;
             add_id(&mut self.ids, &mut self.numbers, slot, id)?;
             return Ok(Some(true));
         }
-        if self.numbers[slot] != 0 {
+        if self.numbers.get(slot) != 0 {
             return Ok(Some(false));
         }
         add_id(&mut self.ids, &mut self.numbers, slot, id)?;

@@ -1,13 +1,11 @@
 //! Rows of numbers, one for each page of IDs.
-ghost use Rattle.std.specs.Prelude.{◌≡◌, ◌+◌, ◌*◌, ◌<◌, ◌≤◌, ◌^◌, [], ◌∷◌, ◌++◌, length, replicate, slice_index, slice_set, vec_len, vec_capacity, OnOk, OnErr};
+ghost use Rattle.std.specs.Prelude.{◌≡◌, ◌+◌, ◌*◌, ◌<◌, ◌≤◌, ◌^◌, [], ◌∷◌, ◌++◌, length, replicate, slice_index, slice_set, OnOk, OnErr};
 ghost use Rattle.hd_ids.specs.Rows as rows;
 
+use crate::numbers::{Numbers, ROW};
 use crate::page_hasher::PageHasher;
 use indexmap::IndexSet;
 use std::alloc::AllocError;
-
-/// How many numbers a row has.
-pub(crate) const ROW: usize = 512;
 
 /// The page of an ID: 4,096 addresses, apart by what 8 leaves of them.
 pub(crate) fn page_of(id: u64) -> u64
@@ -55,53 +53,54 @@ pub(crate) fn row_after(
 }
 
 /// What stands at the place of an ID, 0 where its page has no row.
-pub(crate) fn number_at(pages: &IndexSet<u64, PageHasher>, numbers: &[u32], id: u64) -> u32
+pub(crate) fn number_at(pages: &IndexSet<u64, PageHasher>, numbers: &Numbers, id: u64) -> u32
     requires { length pages.now.keys ≤ 2 ^ 32 }
     ensures { result ≡ slice_index numbers.now (rows.slot_of pages.now.keys id) }
 {
     let slot = row_of(pages, page_of(id)) * ROW + place_of(id);
     if slot < numbers.len() {
-        numbers[slot]
+        numbers.get(slot)
     } else {
         0
     }
 }
 
-/// Gives a page its row, of zeros.
+/// Gives a page its row, of zeros. The numbers that come follow the base.
 pub(crate) fn add_row(
     pages: &mut IndexSet<u64, PageHasher>,
-    numbers: &mut Vec<u32>,
+    numbers: &mut Numbers,
     page: u64,
+    base: u32,
 ) -> Result<(), AllocError>
     requires new { rows.row_of pages.old.keys page ≡ length pages.old.keys }
+    requires base { base ≤ 2 ^ 31 }
     ensures pages { OnOk result (pages.new.keys ≡ pages.old.keys ++ page ∷ []) }
-    ensures numbers { OnOk result (numbers.new.items ≡ numbers.old.items ++ replicate 512 0) }
+    ensures numbers { OnOk result (numbers.new ≡ numbers.old ++ replicate 512 0) }
     ensures same_pages { OnErr result (pages.new.keys ≡ pages.old.keys) }
-    ensures same_numbers { OnErr result (numbers.new.items ≡ numbers.old.items) }
+    ensures same_numbers { OnErr result (numbers.new ≡ numbers.old) }
 {
-    numbers.reserve(ROW)?;
+    pages.reserve(1)?;
+    numbers.add_row(base)?;
     pages.insert(page)?;
-    let len = numbers.len() + ROW;
-    numbers.resize(len, 0)?;
     Ok(())
 }
 
 /// Adds an ID, and writes its number into its row.
 pub(crate) fn add_id(
     ids: &mut Vec<u64>,
-    numbers: &mut Vec<u32>,
+    numbers: &mut Numbers,
     slot: usize,
     id: u64,
 ) -> Result<(), AllocError>
     requires few { length ids.old.items < 2 ^ 31 }
-    requires within { slot < length numbers.old.items }
+    requires within { slot < length numbers.old }
     ensures ids { OnOk result (ids.new.items ≡ ids.old.items ++ id ∷ []) }
-    ensures numbers { OnOk result (numbers.new.items ≡ slice_set numbers.old.items slot (length ids.old.items + 1)) }
+    ensures numbers { OnOk result (numbers.new ≡ slice_set numbers.old slot (length ids.old.items + 1)) }
     ensures same_ids { OnErr result (ids.new.items ≡ ids.old.items) }
-    ensures same_numbers { OnErr result (numbers.new.items ≡ numbers.old.items) }
-    ensures full { OnErr result (vec_capacity ids.old ≤ vec_len ids.old) }
+    ensures same_numbers { OnErr result (numbers.new ≡ numbers.old) }
 {
-    ids.push(id)?;
-    numbers[slot] = ids.len() as u32;
+    ids.reserve(1)?;
+    numbers.set(slot, ids.len() as u32 + 1)?;
+    ids.push_reserved(id);
     Ok(())
 }

@@ -6,6 +6,7 @@ ghost use Rattle.hd_classes.specs.Known.{name_at};
 ghost use Rattle.hd_names.specs.Names.{AreCopies, CopiesText, AddsName, first_names};
 
 use hd_classes::{Classes, bytes_of};
+use hd_ids::IdHasher;
 use hd_records::Loads;
 use hd_terms::Span;
 use indexmap::IndexMap;
@@ -18,7 +19,7 @@ pub struct ClassNames {
     /// The texts that are names, one after another, each once.
     text: Vec<u8>,
     /// Which part of them is the name of the class of an ID.
-    parts: IndexMap<u64, Span>,
+    parts: IndexMap<u64, Span, IdHasher>,
 }
 
 impl Model for ClassNames {
@@ -50,15 +51,15 @@ impl ClassNames {
 struct CopiedNames {
     text: Vec<u8>,
     /// Which part of the text is a copy of the file's text at an offset.
-    copies: IndexMap<u64, Span>,
+    copies: IndexMap<u64, Span, IdHasher>,
     /// Which part of the text is the name of the class of an ID.
-    parts: IndexMap<u64, Span>,
+    parts: IndexMap<u64, Span, IdHasher>,
 }
 
 /// Copies a text of the file, unless it was copied before. Answers which part of the copies it is.
 fn copy_text(
     text: &mut Vec<u8>,
-    copies: &mut IndexMap<u64, Span>,
+    copies: &mut IndexMap<u64, Span, IdHasher>,
     bytes: &[u8],
     span: Span,
 ) -> Result<Span, AllocError>
@@ -103,20 +104,27 @@ fn add_name(
     Ok(())
 }
 
-/// The names of the classes that were loaded, each class once.
+/// The names of the classes that were loaded, each class once. The secret is a random number, for the hashes of IDs: no answer
+/// depends on it.
+///
+/// # Errors
+///
+/// Memory ran out.
 pub fn names_of(
     alloc: Global,
     bytes: &[u8],
     loads: &Loads,
     classes: &Classes,
+    secret: u64,
 ) -> Result<ClassNames, AllocError>
     requires { (id : ℕ) (span : Span) → name_at classes.now id ≡ Some span → span.start + span.len ≤ length bytes.now }
     ensures { IfOk result (λ names. names ≡ first_names bytes.now classes.now loads.now) }
 {
+    let hasher = IdHasher::new(secret);
     let mut copied = CopiedNames {
         text: Vec::new(alloc),
-        copies: IndexMap::new(alloc),
-        parts: IndexMap::new(alloc),
+        copies: IndexMap::with_hasher(alloc, hasher),
+        parts: IndexMap::with_hasher(alloc, hasher),
     };
     for load in loads.as_slice() {
         add_name(&mut copied, bytes, load.class, classes.name(load.class))?;

@@ -1,10 +1,8 @@
 pub mod Writing
 pub mod Lines
 pub mod Turns
+pub mod LineLemmas
 pub mod ServedLines
 pub mod Stating
-pub mod AnswerLemmas
 pub mod Alone
 pub mod ServedDesks
-pub mod EditLemmas
-pub mod QueryLemmas

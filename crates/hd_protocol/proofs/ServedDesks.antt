@@ -16,7 +16,7 @@ use Rattle.hd_protocol.specs.declared.serving.ServeFault.{ServeFault}
 use Rattle.hd_protocol.specs.declared.serving.ServeFault.TheVariants as faults
 use Rattle.hd_protocol.specs.Running.{ServesAlone}
 use Rattle.hd_protocol.specs.Serving.{RunsInput, Serves}
-use Rattle.hd_protocol.specs.Work.{Work, work_begun}
+use Rattle.hd_analyst.specs.Work.{Work, work_begun}
 use Rattle.hd_protocol.proofs.Alone.{OnlyBy, only_front, alone}
 
 -- memory ran out before anything was read

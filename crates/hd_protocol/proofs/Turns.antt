@@ -6,9 +6,9 @@ use Rattle.std.proofs.lemmas.List.Concat.{flat_map-append}
 use Rattle.hd_terms.specs.Lines.{command_of}
 use Rattle.hd_terms.specs.Memory.{Memory}
 use Rattle.hd_terms.specs.Sessions.{Analyst, Turn, IsLater, IsRefreshed, IsTurn, IsSession, IsSessionOver, memory_after, replies}
-use Rattle.hd_protocol.specs.Answering.{IsAnswered, turn_of}
+use Rattle.hd_analyst.specs.Answering.{IsAnswered, turn_of}
 use Rattle.hd_protocol.specs.Serving.{IsAnsweredSoFar}
-use Rattle.hd_protocol.specs.Work.{Work}
+use Rattle.hd_analyst.specs.Work.{Work}
 
 -- one more turn
 session_push : (a : Analyst) (first : Memory) (ts : List Turn) (t : Turn) → IsSession a first ts → IsRefreshed a.who (memory_after first ts) t.before → IsLater a.who t.before.log t.found → IsTurn a t

@@ -1,9 +1,3 @@
-pub mod Work
-pub mod AnalystInside
-pub mod Marking
-pub mod Replying
-pub mod Editing
-pub mod Answering
 pub mod Serving
 pub mod Running
 pub mod Stating

@@ -8,8 +8,8 @@ use Rattle.hd_terms.specs.Memory.{Memory, beginning, board_log}
 use Rattle.hd_terms.specs.Schedule.{Board}
 use Rattle.hd_terms.specs.Sessions.{Analyst, Turn, IsSessionOver, memory_after, replies, IsServedBy, IsServedUntilReadBy, IsServedUntilWriteBy}
 use Rattle.hd_board.specs.Replicas.{Replica}
-use Rattle.hd_protocol.specs.Answering.{IsAnswered}
-use Rattle.hd_protocol.specs.Work.{Work, analyst_at}
+use Rattle.hd_analyst.specs.Answering.{IsAnswered}
+use Rattle.hd_analyst.specs.Work.{Work, analyst_at}
 use Rattle.hd_protocol.specs.declared.serving.ServeFault.{ServeFault}
 use Rattle.hd_protocol.specs.declared.serving.ServeFault.TheVariants as faults
 use Rattle.hd_protocol.specs.declared.serving.Flow.{Flow}

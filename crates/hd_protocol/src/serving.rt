@@ -4,10 +4,7 @@ ghost use Rattle.std.specs.Io.KnownBytes.{Keeps, Appends, Consumes, IsAtEnd};
 ghost use Rattle.hd_terms.specs.Lines.{is_quit_command};
 ghost use Rattle.hd_protocol.specs.Serving.{kept_of, midway, RunsLine, RunsBytes, RunsEnd, RunsInput, Serves};
 
-use crate::analyst::{Analyst, first_marks};
-use crate::answering::answer;
-use crate::fixed_buffer::FixedBuffer;
-use crate::reply::LONGEST_REPLY;
+use hd_analyst::{Analyst, FixedBuffer, LONGEST_REPLY, answer, first_marks};
 use hd_board::{Board, Desk};
 use hd_terms::{Command, LineFault, NoMemory};
 use hd_words::{LONGEST_LINE, read_command};

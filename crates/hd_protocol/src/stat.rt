@@ -12,7 +12,7 @@ ghost use Rattle.hd_protocol.specs.Stating.{IsStatOf, StatsDump, shown_total};
 use crate::run::{RunFault, open_bytes};
 use crate::serving::{flush, put_all};
 use hd_graph::Graph;
-use hd_state::opening_totals;
+use hd_queries::opening_totals;
 use hd_terms::{Counts, Mode, NoMemory, Strength};
 use hd_totals::{StrengthTotals, Total};
 use hd_words::strength_text;

@@ -7,8 +7,8 @@ use Rattle.hd_terms.specs.Paths.{Edge}
 use Rattle.hd_terms.specs.Dump.{Dump}
 use Rattle.hd_terms.specs.Settled.{Reached}
 use Rattle.hd_terms.specs.Replies.{answered, chain_start, chain_lines, RepliesChain}
-use Rattle.hd_state.specs.declared.chain.Chain.{Chain}
-use Rattle.hd_state.specs.ChainFound.{IsChainFound, IsFoundChain, link_of, root_of}
+use Rattle.hd_queries.specs.declared.chain.Chain.{Chain}
+use Rattle.hd_queries.specs.ChainFound.{IsChainFound, IsFoundChain, link_of, root_of}
 use Rattle.hd_replies.specs.ChainLines.{lines_of, link_text}
 
 module _ (dump : Dump) (log : List Event) (ks : List Reached) (o : ℕ) (reply : List ℕ) where

@@ -4,9 +4,9 @@ use Rattle.std.specs.Prelude.{ℕ, List, ◌∷◌, ◌++◌, map}
 use Rattle.hd_terms.specs.Dump.{Dump, object_at}
 use Rattle.hd_terms.specs.Names.{id_text}
 use Rattle.hd_terms.specs.Replies.{chain_start, slot_name, kind_name}
-use Rattle.hd_state.specs.declared.chain.Chain.{Chain}
-use Rattle.hd_state.specs.declared.chain.Link.{Link}
-use Rattle.hd_state.specs.ChainFound.{root_of}
+use Rattle.hd_queries.specs.declared.chain.Chain.{Chain}
+use Rattle.hd_queries.specs.declared.chain.Link.{Link}
+use Rattle.hd_queries.specs.ChainFound.{root_of}
 
 -- the line of a link
 abbrev pub link_text : Dump → Link → List ℕ

@@ -1,10 +1,10 @@
 //! Chains as lines: the root, and then the links.
 ghost use Rattle.std.specs.Prelude.{◌≡◌, ◌<◌, ◌++◌, length, string_bytes, OnOk};
 ghost use Rattle.hd_terms.specs.Replies.{chain_start, root_kind, with_newline};
-ghost use Rattle.hd_state.specs.ChainFound.{root_of};
+ghost use Rattle.hd_queries.specs.ChainFound.{root_of};
 
 use hd_graph::Graph;
-use hd_state::{Chain, Link};
+use hd_queries::{Chain, Link};
 use hd_terms::RootKind;
 use hd_words::{LineFormat, kind_text, put_slot, root_text};
 use std::alloc::AllocError;

@@ -7,7 +7,7 @@ ghost use Rattle.hd_terms.specs.Listed.{AreFallen, AreMembers};
 ghost use Rattle.hd_terms.specs.RootRows.{root_rows};
 ghost use Rattle.hd_terms.specs.SlotRows.{slot_rows};
 ghost use Rattle.hd_terms.specs.Replies.{answered, into_line, log_lines, root_line, slot_line, with_newline, RepliesChain, RepliesClasses, RepliesIds};
-ghost use Rattle.hd_state.specs.declared.chain.Link.{Link as OneLink};
+ghost use Rattle.hd_queries.specs.declared.chain.Link.{Link as OneLink};
 ghost use Rattle.hd_replies.specs.ChainLines.{lines_of};
 ghost use Rattle.hd_replies.specs.EventRows.{event_rows};
 
@@ -15,7 +15,8 @@ use crate::class_lines::ClassLines;
 use crate::link_lines::{LinkLines, put_start};
 use hd_graph::Graph;
 use hd_log::Front;
-use hd_state::{Chain, Mark, State};
+use hd_queries::Chain;
+use hd_state::{Mark, State};
 use hd_terms::{Group, NoMemory, Strength};
 use hd_words::{
     EventLines, EventRow, IdLines, IntoLines, RootLines, SlotLines, lines_text, put_lines,

@@ -1,13 +1,5 @@
 pub mod Situation
 pub mod Solution
-pub mod Kept
 pub mod StateInside
 pub mod MarkInside
-pub mod Shown
-pub mod Next
 pub mod Done
-pub mod Totals
-pub mod Listed
-pub mod ChainFound
-pub mod RootsShown
-pub mod IntoShown

@@ -17,37 +17,33 @@ ghost use Rattle.hd_state.specs.Done.{IsDone};
 ghost use Rattle.hd_terms.specs.declared.Strength.{Strength};
 ghost use Rattle.hd_terms.specs.Totals.{IsGroupTotal};
 ghost use Rattle.hd_terms.specs.Listed.{AreClassRows, AreFallen, AreMembers};
-ghost use Rattle.hd_state.specs.Kept.{AreKept};
-ghost use Rattle.hd_state.specs.Next.{IsNextLog};
-ghost use Rattle.hd_state.specs.ChainFound.{IsChainFound};
+ghost use Rattle.hd_terms.specs.Kept.{AreKept};
+ghost use Rattle.hd_step.specs.Next.{IsNextLog};
+ghost use Rattle.hd_queries.specs.ChainFound.{IsChainFound};
+ghost use Rattle.hd_totals.specs.LastChanges.{AreLastChanges};
 ghost use Rattle.hd_totals.specs.Totals.{AreTotals};
 
-use crate::chain::{Chain, chain_of};
-use crate::into::into_rows;
-use crate::listing::{fallen_ids, member_ids};
 use crate::mark::Mark;
-use crate::repairing::{Repair, repaired};
-use crate::roots::root_rows;
-use crate::rows::rows_of;
-use crate::solved::Solved;
 use hd_graph::Graph;
 use hd_log::Front;
+use hd_queries::{Chain, Solved, chain_of, fallen_ids, into_rows, member_ids, root_rows, rows_of};
 use hd_reverse::ReverseRows;
+use hd_step::{Repair, repaired};
 use hd_strength::{Removed, from_removed};
 use hd_supports::Supports;
 use hd_terms::{
     ClassRow, Event, Group, IntoRow, NoMemory, RootRow, SlotRow, Strength, one_strength,
     settled_supports_give_strengths,
 };
-use hd_totals::{GroupTotals, count_back, count_fallen};
+use hd_totals::{GroupTotals, LastChanges, count_back, count_fallen};
 use hd_view::{AddedRoots, Edited, View, edge_stands, root_stands};
 use std::alloc::Global;
 use std::marker::Model;
 use std::sync::Arc;
 
 /// What one log makes of a dump: the dump's graph and its reverse rows, which all states share, the log, what its live edits
-/// take away, the roots that its events add, the strength of each object with its support, and the totals of groups, in pages
-/// that states share.
+/// take away, the roots that its events add, the strength of each object with its support, when these last changed, and the
+/// totals of groups, in pages that states share.
 #[derive(Drop)]
 pub struct State {
     graph: Arc<Graph>,
@@ -56,6 +52,7 @@ pub struct State {
     removed: Arc<Removed>,
     added: Arc<AddedRoots>,
     supports: Arc<Supports>,
+    last_changes: Arc<LastChanges>,
     totals: Arc<GroupTotals>,
 }
 
@@ -68,6 +65,22 @@ pub struct Done {
     pub fell: u64,
     /// How many objects ceased to be unreachable.
     pub back: u64,
+}
+
+/// A log with one more event: what its live edits take away, and the roots that its events add.
+#[derive(Drop)]
+struct NextLog {
+    front: Front,
+    removed: Arc<Removed>,
+    added: Arc<AddedRoots>,
+}
+
+/// What is kept of the objects after one more event.
+#[derive(Drop)]
+struct Moved {
+    supports: Arc<Supports>,
+    last_changes: Arc<LastChanges>,
+    totals: Arc<GroupTotals>,
 }
 
 impl Model for State {
@@ -92,17 +105,20 @@ impl State {
         ensures dump { IfOk result (λ s. s.dump ≡ arc_value graph) }
         ensures log { IfOk result (λ s. s.log ≡ []) }
     {
+        settled_supports_give_strengths();
         let front = Front::empty(alloc)?;
         let removed = Removed::of(alloc, &graph, &front)?;
         let added = AddedRoots::of(alloc, &graph, &front)?;
         let strengths = from_removed(alloc, &graph, &front, &removed)?;
         let supports = Supports::of(alloc, strengths)?;
+        let last_changes = LastChanges::none(alloc, graph.objects())?;
         let totals = GroupTotals::of(alloc, &graph, &supports)?;
         let reverse = ReverseRows::of(alloc, &graph)?;
         let reverse = Arc::new(alloc, reverse)?;
         let removed = Arc::new(alloc, removed)?;
         let added = Arc::new(alloc, added)?;
         let supports = Arc::new(alloc, supports)?;
+        let last_changes = Arc::new(alloc, last_changes)?;
         let totals = Arc::new(alloc, totals)?;
         Ok(State {
             graph,
@@ -111,6 +127,7 @@ impl State {
             removed,
             added,
             supports,
+            last_changes,
             totals,
         })
     }
@@ -127,35 +144,80 @@ impl State {
         ensures done { IfOk result (λ r. IsDone self.now.dump self.now.log (self.now.log ++ event ∷ []) r.1) }
         ensures outside { IfOk result (λ r. (o : ℕ) → (InEventRegion self.now.dump self.now.log (self.now.log ++ event ∷ []) self.now.kept r.0.kept o → ⊥) → reached_at r.0.kept o ≡ reached_at self.now.kept o) }
     {
-        settled_supports_give_strengths();
-        one_strength();
+        let next = self.next_log(alloc, event)?;
+        let (moved, done) = self.moved(alloc, &next)?;
+        let state = State {
+            graph: Arc::try_clone(&self.graph)?,
+            reverse: Arc::try_clone(&self.reverse)?,
+            front: next.front,
+            removed: next.removed,
+            added: next.added,
+            supports: moved.supports,
+            last_changes: moved.last_changes,
+            totals: moved.totals,
+        };
+        Ok((state, done))
+    }
+
+    /// The log with one more event, with what its live edits take away and the roots that its events add.
+    fn next_log(&self, alloc: Global, event: Event) -> Result<NextLog, NoMemory>
+        requires { log_fault self.now.log event ≡ None }
+        ensures log { IfOk result (λ n. n.front ≡ self.now.log ++ event ∷ []) }
+        ensures removed { IfOk result (λ n. IsRemovedBy self.now.dump n.front (arc_value n.removed)) }
+        ensures added { IfOk result (λ n. IsAddedBy self.now.dump n.front (arc_value n.added)) }
+    {
         let Ok(front) = self.front.extend(alloc, event) else {
             return Err(NoMemory);
         };
         let removed = Removed::of(alloc, &self.graph, &front)?;
         let added = AddedRoots::of(alloc, &self.graph, &front)?;
-        let event = self.front.len();
-        let repair = self.repaired(alloc, &front, &removed, &added)?;
-        let totals = self.moved_totals(alloc, &repair)?;
-        let done = Done {
-            event,
-            fell: count_fallen(&repair.changes),
-            back: count_back(&repair.changes),
-        };
         let removed = Arc::new(alloc, removed)?;
         let added = Arc::new(alloc, added)?;
-        let supports = Arc::new(alloc, repair.supports)?;
-        let totals = Arc::new(alloc, totals)?;
-        let state = State {
-            graph: Arc::try_clone(&self.graph)?,
-            reverse: Arc::try_clone(&self.reverse)?,
+        Ok(NextLog {
             front,
             removed,
             added,
-            supports,
-            totals,
+        })
+    }
+
+    /// What is kept of the objects, repaired for the log with one more event, and what the event did.
+    fn moved(&self, alloc: Global, next: &NextLog) -> Result<(Moved, Done), NoMemory>
+        requires next { IsNextLog self.now.log next.now.front }
+        requires removed { IsRemovedBy self.now.dump next.now.front (arc_value next.now.removed) }
+        requires added { IsAddedBy self.now.dump next.now.front (arc_value next.now.added) }
+        ensures kept { IfOk result (λ r. AreKept self.now.dump next.now.front (arc_value r.0.supports)) }
+        ensures stamps { IfOk result (λ r. (o : ℕ) → (reached_at (arc_value r.0.supports) o).stamp ≤ (length self.now.log + 2) * length self.now.dump.objects) }
+        ensures changes { IfOk result (λ r. AreLastChanges self.now.dump next.now.front (arc_value r.0.supports) (arc_value r.0.last_changes)) }
+        ensures totals { IfOk result (λ r. AreTotals self.now.dump (arc_value r.0.supports) (arc_value r.0.totals)) }
+        ensures done { IfOk result (λ r. IsDone self.now.dump self.now.log next.now.front r.1) }
+        ensures outside { IfOk result (λ r. (o : ℕ) → (InEventRegion self.now.dump self.now.log next.now.front self.now.kept (arc_value r.0.supports) o → ⊥) → reached_at (arc_value r.0.supports) o ≡ reached_at self.now.kept o) }
+    {
+        let repair = self.repaired(alloc, &next.front, &next.removed, &next.added)?;
+        let last_changes = self.moved_changes(alloc, &repair, &next.front)?;
+        let totals = self.moved_totals(alloc, &repair)?;
+        let done = self.done(&repair, &next.front);
+        let moved = Moved {
+            supports: Arc::new(alloc, repair.supports)?,
+            last_changes: Arc::new(alloc, last_changes)?,
+            totals: Arc::new(alloc, totals)?,
         };
-        Ok((state, done))
+        Ok((moved, done))
+    }
+
+    /// What an event did, counted in the changes of the repair for it.
+    fn done(&self, repair: &Repair, front: &Front) -> Done
+        requires next { IsNextLog self.now.log front.now }
+        requires kept { AreKept self.now.dump front.now repair.now.supports }
+        requires changes { AreChanges self.now.kept repair.now.supports repair.now.changes.items }
+        ensures { IsDone self.now.dump self.now.log front.now result }
+    {
+        settled_supports_give_strengths();
+        one_strength();
+        Done {
+            event: self.front.len(),
+            fell: count_fallen(&repair.changes),
+            back: count_back(&repair.changes),
+        }
     }
 
     /// The supports of this state, repaired for its log with one more event.
@@ -192,6 +254,24 @@ impl State {
         Ok(repaired)
     }
 
+    /// When the strengths of each page last changed, for the log with one more event and a repair for it.
+    fn moved_changes(
+        &self,
+        alloc: Global,
+        repair: &Repair,
+        front: &Front,
+    ) -> Result<LastChanges, NoMemory>
+        requires next { IsNextLog self.now.log front.now }
+        requires kept { AreKept self.now.dump front.now repair.now.supports }
+        requires changes { AreChanges self.now.kept repair.now.supports repair.now.changes.items }
+        ensures { IfOk result (λ l. AreLastChanges self.now.dump front.now repair.now.supports l) }
+    {
+        settled_supports_give_strengths();
+        let mut last_changes = self.last_changes.share(alloc)?;
+        last_changes.apply(&repair.changes, front.len())?;
+        Ok(last_changes)
+    }
+
     /// The totals of this state, moved by a repair.
     fn moved_totals(&self, alloc: Global, repair: &Repair) -> Result<GroupTotals, NoMemory>
         requires changes { AreChanges self.now.kept repair.now.supports repair.now.changes.items }
@@ -218,6 +298,7 @@ impl State {
             removed: Arc::try_clone(&self.removed)?,
             added: Arc::try_clone(&self.added)?,
             supports: Arc::try_clone(&self.supports)?,
+            last_changes: Arc::try_clone(&self.last_changes)?,
             totals: Arc::try_clone(&self.totals)?,
         })
     }
@@ -251,11 +332,13 @@ impl State {
         ensures log { result.front.now ≡ self.now.log }
         ensures strengths { result.strengths.now ≡ self.now.kept }
         ensures kept { AreKept result.graph.now result.front.now result.strengths.now }
+        ensures changes { AreLastChanges result.graph.now result.front.now result.strengths.now result.last_changes.now }
     {
         Solved {
             graph: &self.graph,
             front: &self.front,
             strengths: &self.supports,
+            last_changes: &self.last_changes,
         }
     }
 
@@ -271,10 +354,12 @@ impl State {
         let graph = Arc::try_clone(&self.graph)?;
         let front = self.front.share()?;
         let supports = Arc::try_clone(&self.supports)?;
-        Ok(Mark::new(graph, front, supports))
+        let last_changes = Arc::try_clone(&self.last_changes)?;
+        Ok(Mark::new(graph, front, supports, last_changes))
     }
 
-    /// The IDs of the objects that are unreachable and were not at a mark, ascending. All objects are gone through.
+    /// The IDs of the objects that are unreachable and were not at a mark, ascending. Where the log begins with that of the mark,
+    /// only the pages of 1,024 objects are gone through that have changed since.
     ///
     /// # Errors
     ///

@@ -7,6 +7,8 @@
 mod chain_tests;
 pub mod dumps;
 #[cfg(test)]
+mod fallen_tests;
+#[cfg(test)]
 mod graph_tests;
 #[cfg(test)]
 mod log_tests;

@@ -1,10 +1,10 @@
 //! How many edges and roots a repair looks at.
-ghost use Rattle.hd_state.specs.Next.{IsNextLog};
+ghost use Rattle.hd_step.specs.Next.{IsNextLog};
 
 use hd_graph::Graph;
 use hd_log::Front;
 use hd_reverse::ReverseRows;
-use hd_state::repaired;
+use hd_step::repaired;
 use hd_strength::{Removed, from_scratch};
 use hd_supports::Supports;
 use hd_terms::{Event, NoMemory};

@@ -1,7 +1,8 @@
 //! States: a step answers a new one and keeps the old one, and their slots. A state that is let go is long to prove, so each
 //! function holds one at most, and answers what is seen of it.
 use crate::dumps::{GROUPS, TWO_ARRAYS, graph_of};
-use hd_state::{Done, State, opening_totals};
+use hd_queries::opening_totals;
+use hd_state::{Done, State};
 use hd_terms::{
     EdgeKind, Edit, Event, Group, LogFault, RootMode, RootRow, Slot, SlotMode, SlotRow, Strength,
     What,

@@ -1,10 +1,10 @@
 //! Replies to queries, as texts.
 ghost use Rattle.std.specs.Prelude.{◌≡◌, true};
-ghost use Rattle.hd_protocol.specs.Replying.{is_query};
+ghost use Rattle.hd_analyst.specs.Replying.{is_query};
 
 use crate::serving::board_of;
+use hd_analyst::reply_text;
 use hd_board::Desk;
-use hd_protocol::reply_text;
 use hd_terms::Command;
 use std::alloc::Global;
 use std::test::Fail;

@@ -2,6 +2,9 @@
 //!
 //! A search reads rows, targets and flags in no order of memory, and waits for most of them. Reads that don't need one
 //! another's answers wait together. The sums mean nothing: they are there so that a compiler doesn't leave the reads out.
+ghost use Rattle.std.specs.Prelude.{◌<◌, ◌≤◌, length};
+ghost use Rattle.hd_terms.specs.Dump.{object_at};
+
 use hd_graph::Graph;
 
 /// How many objects are read together.
@@ -21,34 +24,58 @@ pub(crate) fn read_rows(graph: &Graph, objects: &[u32]) -> u32 {
     sum
 }
 
-/// The first target of an object, if it has a reference in its first slot.
-pub(crate) fn first_target(graph: &Graph, o: u32) -> Option<u32> {
-    if o < graph.objects() && graph.slots_len(o) > 0 {
-        graph.target(o, 0)
+/// How many slots of an object are looked at ahead, from its first one on.
+const SLOTS: u32 = 4;
+
+/// How many of an object's slots are looked at ahead: none where there is no such object.
+fn slots_ahead(graph: &Graph, o: u32) -> u32
+    ensures object { 0 < result → o < length graph.now.objects }
+    ensures within { o < length graph.now.objects → result ≤ length (object_at graph.now o).slots }
+{
+    if o < graph.objects() {
+        graph.slots_len(o).min(SLOTS)
     } else {
-        None
+        0
     }
 }
 
-/// Reads the first targets of objects.
+/// Reads the targets in the first slots of objects.
 pub(crate) fn read_targets(graph: &Graph, objects: &[u32]) -> u32 {
     let mut sum: u32 = 0;
     for o in objects {
-        if let Some(target) = first_target(graph, *o) {
+        sum = sum.wrapping_add(read_targets_of(graph, *o));
+    }
+    sum
+}
+
+/// Reads the targets in the first slots of an object.
+fn read_targets_of(graph: &Graph, o: u32) -> u32 {
+    let mut sum: u32 = 0;
+    for i in 0..slots_ahead(graph, o) {
+        if let Some(target) = graph.target(o, i) {
             sum = sum.wrapping_add(target);
         }
     }
     sum
 }
 
-/// Reads whether the first targets of objects are reached.
+/// Reads whether the targets in the first slots of objects are reached.
 pub(crate) fn read_flags(graph: &Graph, reached: &[bool], objects: &[u32]) -> u32 {
     let mut sum: u32 = 0;
     for o in objects {
-        if let Some(target) = first_target(graph, *o)
-            && let Some(true) = reached.get(target as usize)
+        sum = sum.wrapping_add(read_flags_of(graph, reached, *o));
+    }
+    sum
+}
+
+/// Reads whether the targets in the first slots of an object are reached.
+fn read_flags_of(graph: &Graph, reached: &[bool], o: u32) -> u32 {
+    let mut sum: u32 = 0;
+    for i in 0..slots_ahead(graph, o) {
+        if let Some(target) = graph.target(o, i)
+            && let Some(flag) = reached.get(target as usize)
         {
-            sum = sum.wrapping_add(1);
+            sum = sum.wrapping_add(u32::from(*flag));
         }
     }
     sum

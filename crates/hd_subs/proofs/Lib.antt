@@ -1,4 +1,5 @@
 pub mod Classes
+pub mod EntryLemmas
 pub mod Padding
 pub mod ParsedSubs
 pub mod Parts

@@ -1,6 +1,7 @@
 pub mod Layout
 pub mod Views
 pub mod Rows
+pub mod Packed
 pub mod ParsedSubs
 pub mod Parts
 pub mod Reading

@@ -9,12 +9,12 @@ use std::marker::Model;
 
 /// The sub-records of a dump in file order, in parts that stay the lists they were read into.
 #[derive(Debug, Drop)]
-pub struct DumpSubs {
-    parts: Vec<Subs>,
+pub struct DumpSubs<'a> {
+    parts: Vec<Subs<'a>>,
     len: usize,
 }
 
-impl Model for DumpSubs {
+impl<'a> Model for DumpSubs<'a> {
     ghost use Rattle.std.specs.Prelude.{◌≡◌, List, length};
     ghost use Rattle.hd_terms.specs.SubRecords.{Sub};
     ghost use Rattle.hd_subs.specs.Joined.{joined};
@@ -26,9 +26,9 @@ impl Model for DumpSubs {
     ghost invariant = { λ d. d.len ≡ length (joined d.parts.items) };
 }
 
-impl DumpSubs {
+impl<'a> DumpSubs<'a> {
     /// No sub-records yet.
-    pub fn new(alloc: Global) -> DumpSubs
+    pub fn new(alloc: Global) -> DumpSubs<'a>
         ensures { result ≡ [] }
     {
         DumpSubs {
@@ -42,9 +42,9 @@ impl DumpSubs {
     /// # Errors
     ///
     /// Out of memory; then the part is given up.
-    pub fn push(&mut self, part: Subs) -> Result<(), AllocError>
+    pub fn push(&mut self, part: Subs<'a>) -> Result<(), AllocError>
         requires { length self.old + length part < 2 ^ 64 }
-        ensures ok { OnOk result (self.new ≡ self.old ++ part) }
+        ensures ok { OnOk result (self.new ≡ self.old ++ part.entry) }
         ensures err { OnErr result (self.new ≡ self.old) }
     {
         self.parts.reserve(1)?;

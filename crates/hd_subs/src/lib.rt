@@ -5,9 +5,11 @@ mod class;
 mod class_reading;
 mod dump_subs;
 mod layout;
+mod packed;
 mod reading;
 mod row;
 mod sub;
+mod sub_rows;
 mod subs;
 mod types;
 

@@ -227,7 +227,7 @@ fn read_row(tag: u8, fields: &[u8], id_size: IdSize, offset: u64) -> Result<Pars
 
 /// Puts the CLASS DUMP whose fields these bytes begin with at the end of a list, and answers the bytes after it.
 fn append_class<'a>(
-    list: &mut Subs,
+    list: &mut Subs<'_>,
     fields: &'a [u8],
     id_size: IdSize,
     offset: u64,
@@ -255,7 +255,12 @@ fn append_class<'a>(
 }
 
 /// Puts the sub-records of a segment's body at the end of a list, those before a fault too.
-fn append_subs(list: &mut Subs, body: &[u8], id_size: IdSize, base: u64) -> Result<(), ReadFault>
+fn append_subs(
+    list: &mut Subs<'_>,
+    body: &[u8],
+    id_size: IdSize,
+    base: u64,
+) -> Result<(), ReadFault>
     requires { base ≤ 2147483647 }
     ensures ok { OnOk result (AppendsSegment id_size base body.now list.old list.new) }
     ensures err { IfErr result (λ f. IsSegmentFaultOrMemory id_size base body.now f) }
@@ -280,7 +285,7 @@ fn append_subs(list: &mut Subs, body: &[u8], id_size: IdSize, base: u64) -> Resu
 ///
 /// `base` is the file offset of the body in bytes. The faults are those of `read_segment`.
 pub fn read_segment_into(
-    list: &mut Subs,
+    list: &mut Subs<'_>,
     body: &[u8],
     id_size: IdSize,
     base: u64,
@@ -306,17 +311,17 @@ pub fn read_segment_into(
 /// and `ShortSub` at the tag of a sub-record that runs past the body; the fields of one sub-record are read from left
 /// to right. `OutOfMemory` comes only where the list, or a list of a class, could not grow by something whose bytes are
 /// there.
-pub fn read_segment(
+pub fn read_segment<'a>(
     alloc: Global,
-    body: &[u8],
+    body: &'a [u8],
     id_size: IdSize,
     base: u64,
-) -> Result<Subs, ReadFault>
+) -> Result<Subs<'a>, ReadFault>
     requires { base ≤ 2147483647 }
     ensures ok { IfOk result (λ list. ReadsSegment id_size base body.now list) }
     ensures err { IfErr result (λ f. IsSegmentFaultOrMemory id_size base body.now f) }
 {
-    let mut list = Subs::new(alloc);
+    let mut list = Subs::new(alloc, body, id_size);
     read_segment_into(&mut list, body, id_size, base)?;
     Ok(list)
 }

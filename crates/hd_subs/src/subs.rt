@@ -1,121 +1,109 @@
-//! A list of sub-records.
-ghost use Rattle.std.specs.Prelude.{◌≡◌, ◌↔◌, ◌+◌, ◌^◌, ◌<◌, ◌≤◌, [], ◌∷◌, ◌++◌, length, take, slice_get, IsTrue, Some, OnOk, OnErr};
-ghost use Rattle.hd_terms.specs.SubRecords.{Class, Instance, ObjArray};
-ghost use Rattle.hd_subs.specs.Views.{item_view, sub_view, class_view};
+//! A list of sub-records, of which most are kept by their file offsets alone.
+ghost use Rattle.std.specs.Prelude.{◌≡◌, ◌↔◌, ◌+◌, ◌^◌, ◌<◌, ◌≤◌, [], ◌∷◌, ◌++◌, length, take, slice_get, IsTrue, Some, IfSome, IfOk, OnOk, OnErr};
+ghost use Rattle.hd_terms.specs.SubRecords.{Class};
+ghost use Rattle.hd_subs.specs.Views.{sub_view, class_view};
 ghost use Rattle.hd_subs.specs.Rows.{row_view, IsRowOver};
+ghost use Rattle.hd_subs.specs.Packed.{first_row, packed_item};
 
 use crate::class::ClassDump;
-use crate::layout::elements_offset;
-use crate::row::{Kind, Row};
-use crate::sub::{Item, Sub};
-use hd_terms::{IdSize, Span};
+use crate::packed::{HEAD, hold_same, read_packed};
+use crate::row::Row;
+use crate::sub::Sub;
+use crate::sub_rows::{SubRows, sub_of};
+use hd_terms::IdSize;
 use std::alloc::{AllocError, Global};
 use std::marker::Model;
 
+/// The numbers from this one on are those of rows; the lesser ones are file offsets.
+const FIRST_ROW: u32 = 0x8000_0000;
+
 /// Sub-records in file order.
+///
+/// An instance or an array that can be read again from the bytes at its file offset is kept by that offset, in four bytes. So
+/// most of a dump are. All others, classes and roots among them, are kept as rows.
 #[derive(Debug, Drop)]
-pub struct Subs {
-    rows: Vec<Row>,
-    classes: Vec<ClassDump>,
+pub struct Subs<'a> {
+    bytes: &'a [u8],
+    id_size: IdSize,
+    /// Of each sub-record its file offset, or the number of its row.
+    entries: Vec<u32>,
+    rows: SubRows,
 }
 
-impl Model for Subs {
-    ghost use Rattle.std.specs.Prelude.{List, map};
+impl<'a> Model for Subs<'a> {
+    ghost use Rattle.std.specs.Prelude.{List, map, length, All};
     ghost use Rattle.hd_terms.specs.SubRecords.{Sub};
+    ghost use Rattle.hd_subs.specs.Packed.{sub_of_entry, IsEntry};
 
     ghost Value = { List Sub };
 
-    ghost use Rattle.std.specs.Prelude.{length, All};
-    ghost use Rattle.hd_subs.specs.Rows.{row_view, IsRowOver};
+    ghost view = { λ s. map (sub_of_entry s.id_size s.bytes.now s.rows) s.entries.items };
 
-    ghost view = { λ s. map (row_view s.classes.items) s.rows.items };
-
-    ghost invariant = { λ s. All (IsRowOver (length s.classes.items)) s.rows.items };
+    ghost invariant = { λ s. All (IsEntry (length s.bytes.now) (length s.rows)) s.entries.items };
 }
 
-/// The instance of a row, whose values lie at this file offset.
-fn instance_of(row: Row, start: u64) -> Item<'static>
-    ensures { item_view result ≡ Instance row.id row.class (record { start = start; len = row.count }) }
+/// The file offset of a row, where the bytes there say all that the row does.
+fn packed_offset(bytes: &[u8], id_size: IdSize, row: Row) -> Option<u32>
+    requires { IsRowOver 0 row }
+    ensures low { IfSome result (λ offset. offset < first_row) }
+    ensures within { IfSome result (λ offset. offset + 25 ≤ length bytes.now) }
+    ensures same { IfSome result (λ offset. record { offset = offset; item = packed_item id_size bytes.now offset } ≡ row_view [] row) }
 {
-    Item::Instance {
-        id: row.id,
-        class: row.class,
-        values: Span {
-            start,
-            len: u64::from(row.count),
-        },
+    if bytes.len() < HEAD
+        || row.offset > (bytes.len() - HEAD) as u64
+        || row.offset >= u64::from(FIRST_ROW)
+    {
+        return None;
+    }
+    let offset = row.offset as u32;
+    if hold_same(read_packed(bytes, id_size, offset), sub_of(row, &[]).item) {
+        Some(offset)
+    } else {
+        None
     }
 }
 
-/// The object array of a row, whose IDs lie at this file offset and have so many bytes.
-fn array_of(row: Row, start: u64, len: u64) -> Item<'static>
-    ensures { item_view result ≡ ObjArray row.id row.class (record { start = start; len = len }) }
+/// The number of the row that comes next. Out of memory is also answered where there are too many.
+fn next_row(rows: &SubRows) -> Result<u32, AllocError>
+    ensures { IfOk result (λ entry. entry ≡ first_row + length rows.now) }
 {
-    Item::ObjArray {
-        id: row.id,
-        class: row.class,
-        elements: Span { start, len },
+    let index = rows.len();
+    if index >= FIRST_ROW as usize {
+        return Err(AllocError);
     }
+    Ok(FIRST_ROW + index as u32)
 }
 
-/// What a row says, over the classes of its list.
-fn sub_of(row: Row, classes: &[ClassDump]) -> Sub<'_>
-    requires { IsRowOver (length classes.now) row }
-    ensures { sub_view result ≡ row_view classes.now row }
-{
-    let item = match row.kind {
-        Kind::Root(kind) => Item::Root(kind, row.id),
-        Kind::Class => Item::Class(&classes[row.class as usize]),
-        Kind::InstanceOfFour => instance_of(row, elements_offset(IdSize::Four, row.offset)),
-        Kind::InstanceOfEight => instance_of(row, elements_offset(IdSize::Eight, row.offset)),
-        Kind::ArrayOfFour => {
-            let start = elements_offset(IdSize::Four, row.offset);
-            array_of(row, start, 4 * u64::from(row.count))
-        }
-        Kind::ArrayOfEight => {
-            let start = elements_offset(IdSize::Eight, row.offset);
-            array_of(row, start, 8 * u64::from(row.count))
-        }
-        Kind::PrimArray(element) => Item::PrimArray {
-            id: row.id,
-            element,
-            count: row.count,
-        },
-    };
-    Sub {
-        offset: row.offset,
-        item,
-    }
-}
-
-impl Subs {
-    /// No sub-records yet.
-    pub fn new(alloc: Global) -> Subs
+impl<'a> Subs<'a> {
+    /// No sub-records yet. These are the bytes of the file from its beginning, or a part of them; their IDs have this size.
+    pub fn new(alloc: Global, bytes: &'a [u8], id_size: IdSize) -> Subs<'a>
         ensures { result ≡ [] }
     {
         Subs {
-            rows: Vec::new(alloc),
-            classes: Vec::new(alloc),
+            bytes,
+            id_size,
+            entries: Vec::new(alloc),
+            rows: SubRows::new(alloc),
         }
     }
 
     /// Where its memory comes from.
     pub(crate) fn allocator(&self) -> Global {
-        *self.rows.allocator()
+        *self.entries.allocator()
     }
 
     /// How many there are.
     pub fn len(&self) -> usize
         ensures { result ≡ length self.now }
     {
-        self.rows.len()
+        self.entries.len()
     }
 
     /// Whether there is none.
     pub fn is_empty(&self) -> bool
         ensures { IsTrue result ↔ (self.now ≡ []) }
     {
-        self.rows.is_empty()
+        self.entries.is_empty()
     }
 
     /// One of them; they are numbered from 0.
@@ -123,7 +111,14 @@ impl Subs {
         requires { i < length self.now }
         ensures { slice_get self.now i ≡ Some (sub_view result) }
     {
-        sub_of(self.rows[i], self.classes.as_slice())
+        let entry = self.entries[i];
+        if entry < FIRST_ROW {
+            return Sub {
+                offset: u64::from(entry),
+                item: read_packed(self.bytes, self.id_size, entry),
+            };
+        }
+        self.rows.get((entry - FIRST_ROW) as usize)
     }
 
     /// One more at the end, which is no class.
@@ -132,7 +127,14 @@ impl Subs {
         ensures ok { OnOk result (self.new ≡ self.old ++ row_view [] row ∷ []) }
         ensures err { OnErr result (self.new ≡ self.old) }
     {
+        self.entries.reserve(1)?;
+        if let Some(offset) = packed_offset(self.bytes, self.id_size, row) {
+            self.entries.push_reserved(offset);
+            return Ok(());
+        }
+        let entry = next_row(&self.rows)?;
         self.rows.push(row)?;
+        self.entries.push_reserved(entry);
         Ok(())
     }
 
@@ -142,16 +144,10 @@ impl Subs {
         ensures ok { OnOk result (self.new ≡ self.old ++ (record { offset = offset; item = Class (class_view class) }) ∷ []) }
         ensures err { OnErr result (self.new ≡ self.old) }
     {
-        let row = Row {
-            id: class.id,
-            class: self.classes.len() as u64,
-            offset,
-            count: 0,
-            kind: Kind::Class,
-        };
-        self.rows.reserve(1)?;
-        self.classes.push(class)?;
-        self.rows.push_reserved(row);
+        let entry = next_row(&self.rows)?;
+        self.entries.reserve(1)?;
+        self.rows.push_class(offset, class)?;
+        self.entries.push_reserved(entry);
         Ok(())
     }
 
@@ -159,6 +155,6 @@ impl Subs {
     pub(crate) fn truncate(&mut self, len: usize)
         ensures { self.new ≡ take len self.old }
     {
-        self.rows.truncate(len);
+        self.entries.truncate(len);
     }
 }

@@ -3,6 +3,7 @@ pub mod Paths
 pub mod Strengths
 pub mod Chains
 pub mod Settled
+pub mod Kept
 pub mod Records
 pub mod Types
 pub mod SubRecords

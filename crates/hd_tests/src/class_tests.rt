@@ -7,7 +7,7 @@ use hd_records::{Texts, read_records};
 use hd_spell::spell;
 use hd_subs::{DumpSubs, Subs, read_segment_into};
 use hd_terms::{EdgeKind, IdSize, ReadFault, Span};
-use std::alloc::Global;
+use std::alloc::{AllocError, Global};
 use std::test::Fail;
 
 /// Whether texts lie within so many bytes.
@@ -23,9 +23,10 @@ fn lie_within(texts: &Texts, len: usize) -> bool
     true
 }
 
-/// The sub-records of a body, as those of a file whose only segment has it.
-fn subs_of(alloc: Global, body: &[u8], start: u64) -> Result<DumpSubs, ReadFault> {
-    let mut part = Subs::new(alloc);
+/// The sub-records of a file whose only segment begins at an offset and is its last record.
+fn subs_of<'a>(alloc: Global, bytes: &'a [u8], start: u64) -> Result<DumpSubs<'a>, ReadFault> {
+    let body = bytes.get(start as usize..).unwrap_or(&[]);
+    let mut part = Subs::new(alloc, bytes, IdSize::Four);
     let mut list = DumpSubs::new(alloc);
     if start <= 2_147_483_647 {
         read_segment_into(&mut part, body, IdSize::Four, start)?;
@@ -41,12 +42,64 @@ fn classes_of(alloc: Global, bytes: &[u8]) -> Result<Classes, ReadFault> {
         [span] => *span,
         _ => return Err(ReadFault::NO_MEMORY),
     };
-    let body = bytes.get(span.start as usize..).unwrap_or(&[]);
-    let list = subs_of(alloc, body, span.start)?;
+    let list = subs_of(alloc, bytes, span.start)?;
     if !lie_within(&records.strings, bytes.len()) {
         return Err(ReadFault::NO_MEMORY);
     }
-    Classes::build(alloc, bytes, &records, &list)
+    Classes::build(alloc, bytes, &records, &list, 1)
+}
+
+/// The IDs of the chain of a class, if it is whole.
+fn chain_of(alloc: Global, classes: &Classes, id: u64) -> Result<Option<Vec<u64>>, AllocError> {
+    let Some(mut rest) = classes.chain(id) else {
+        return Ok(None);
+    };
+    let mut ids = Vec::new(alloc);
+    for _i in 0..classes.len() {
+        match rest.split_first() {
+            Some((first, above)) => {
+                ids.push(first)?;
+                rest = above;
+            }
+            None => return Ok(Some(ids)),
+        }
+    }
+    Ok(Some(ids))
+}
+
+/// The fields of the layout of a class, if its chain is whole.
+fn layout_of(
+    alloc: Global,
+    classes: &Classes,
+    id: u64,
+) -> Result<Option<Vec<LayoutField>>, AllocError> {
+    let Some(mut rest) = classes.layout(id) else {
+        return Ok(None);
+    };
+    let mut fields = Vec::new(alloc);
+    for _i in 0..classes.len() {
+        match rest.split_first_class() {
+            Some((own, above)) => {
+                push_all(&mut fields, own)?;
+                rest = above;
+            }
+            None => return Ok(Some(fields)),
+        }
+    }
+    Ok(Some(fields))
+}
+
+/// Adds fields to a list.
+fn push_all(fields: &mut Vec<LayoutField>, more: &[LayoutField]) -> Result<(), AllocError> {
+    for field in more {
+        fields.push(*field)?;
+    }
+    Ok(())
+}
+
+/// A field of a class, by the IDs of the class and of its name and by its type.
+fn field(owner: u64, name: u64, code: u8) -> LayoutField {
+    LayoutField { owner, name, code }
 }
 
 #[test]
@@ -55,18 +108,34 @@ fn chains_and_layouts(rt: HostRuntime) -> Result<(), Fail> {
         class 13 extends 99:\n";
     let bytes = spell(rt.alloc(), text)?;
     let classes = classes_of(rt.alloc(), bytes.as_slice())?;
-    let field = |owner, name, code| LayoutField { owner, name, code };
-    let layout = [
+    let chain = chain_of(rt.alloc(), &classes, 0x12)?.ok_or("the chain is whole")?;
+    let layout = layout_of(rt.alloc(), &classes, 0x12)?.ok_or("so is the layout")?;
+    let expected = [
         field(0x12, 0x108, 2),
         field(0x12, 0x109, 4),
         field(0x11, 0x107, 2),
     ];
     assert_eq!(rt; classes.len(), 2);
     assert_eq!(rt; classes.index_of(0x12), Some(1));
-    assert_eq!(rt; classes.chain(0x12), Some([0x12, 0x11].as_slice()));
-    assert_eq!(rt; classes.layout(0x12), Some(layout.as_slice()));
-    assert_eq!(rt; classes.chain(0x13), None);
-    assert_eq!(rt; classes.layout(0), None);
+    assert!(rt; chain.as_slice() == [0x12, 0x11].as_slice());
+    assert!(rt; layout.as_slice() == expected.as_slice());
+    assert!(rt; classes.chain(0x13).is_none());
+    assert!(rt; classes.layout(0).is_none());
+    Ok(())
+}
+
+#[test]
+fn class_without_fields_in_a_chain(rt: HostRuntime) -> Result<(), Fail> {
+    let text =
+        "ids 4\nsegment\nclass 13 extends 12: 108=int\nclass 12 extends 11:\nclass 11: 107=object\n";
+    let bytes = spell(rt.alloc(), text)?;
+    let classes = classes_of(rt.alloc(), bytes.as_slice())?;
+    let chain = chain_of(rt.alloc(), &classes, 0x13)?.ok_or("the chain is whole")?;
+    let layout = layout_of(rt.alloc(), &classes, 0x13)?.ok_or("so is the layout")?;
+    let expected = [field(0x13, 0x108, 10), field(0x11, 0x107, 2)];
+    assert_eq!(rt; classes.len(), 3);
+    assert!(rt; chain.as_slice() == [0x13, 0x12, 0x11].as_slice());
+    assert!(rt; layout.as_slice() == expected.as_slice());
     Ok(())
 }
 

@@ -55,6 +55,28 @@ fn ids_far_apart(rt: HostRuntime) -> Result<(), Fail> {
     Ok(())
 }
 
+/// The ID of a step: 120 pages in turns, so that IDs of one page are 120 numbers apart.
+fn id_in_turns(step: u64) -> u64 {
+    (step % 120)
+        .wrapping_mul(4096)
+        .wrapping_add((step / 120).wrapping_mul(8))
+}
+
+/// Numbers that are near the first of their page, and numbers that are far behind it.
+#[test]
+fn ids_in_turns(rt: HostRuntime) -> Result<(), Fail> {
+    let mut ids = ObjectIds::with_capacity(rt.alloc(), 0, 3)?;
+    for step in 0..1200u64 {
+        assert_eq!(rt; ids.index_of(id_in_turns(step)), None);
+        assert_eq!(rt; ids.note(id_in_turns(step))?, true);
+        assert_eq!(rt; ids.note(id_in_turns(step))?, false);
+    }
+    for step in 0..1200u64 {
+        assert_eq!(rt; ids.index_of(id_in_turns(step)), Some(step as usize));
+    }
+    Ok(())
+}
+
 #[test]
 fn ids_at_the_ends(rt: HostRuntime) -> Result<(), Fail> {
     let mut ids = ObjectIds::with_capacity(rt.alloc(), 0, 0)?;

@@ -64,7 +64,7 @@ module _ (before after : List Reached) (changes : List StrengthChange) (h : AreC
           ap (λ (s : Strength). f s (reached_at after d.object).strength) each.0 ∙ ap (f d.before) each.1
 
 -- no strength falls to itself
-falls-not : (s : Strength) → falls_to s s ≡ false
+pub falls-not : (s : Strength) → falls_to s s ≡ false
 falls-not strengths.Unreachable = refl
 falls-not strengths.Phantom = refl
 falls-not strengths.Final = refl

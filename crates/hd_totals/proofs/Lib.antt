@@ -6,3 +6,4 @@ pub mod GroupLemmas
 pub mod RunningLemmas
 pub mod ChangeLemmas
 pub mod ClassLemmas
+pub mod LastChangeLemmas

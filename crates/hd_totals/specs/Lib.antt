@@ -4,3 +4,4 @@ pub mod Totals
 pub mod Keys
 pub mod Running
 pub mod Rows
+pub mod LastChanges

@@ -1,44 +1,28 @@
-use Rattle.std.proofs.Common.{◌≡◌, ◌∙◌, Some, inr, length, sym, ap, arith}
-use Rattle.hd_terms.specs.Classes.{ClassTable, ResolvedClass}
+use Rattle.std.proofs.Common.{inr, sym}
+use Rattle.hd_classes.specs.Building.{IsBroken}
+use Rattle.hd_classes.specs.FirstClass.{first_class_view}
 use Rattle.hd_classes.specs.Sources.{table_of}
-use Rattle.hd_classes.specs.FirstClass.{PlacedClass, first_class_view}
-use Rattle.hd_classes.proofs.KnownLemmas.{zero-ends, zero-unknown, whole-known, whole-ends, end-unknown, end-ends, end-cycle, cycle-found, known-skips, known-adds, length-layout, one-longer}
+use Rattle.hd_classes.proofs.PathLemmas.{on-ok, adds-kept, adds-broken, never-ends, absent-broken, no-class}
 use Rattle.hd_classes.proofs.build.add_class.Goals as goal
+use Rattle.hd_classes.proofs.build.add_class.Goals.{else-not-contains-via-then-not-contains+else-is_some, else-not-contains-via-else-not-contains}
 
-pub returns-then-id-eq0-clause-ok : goal.returns-then-id-eq0-clause-ok
-returns-then-id-eq0-clause-ok c =
-    let t : ClassTable = table_of c.args.source.now in
-    let x : PlacedClass = first_class_view c.args.class in
-    record {
-      ends = zero-ends t.classes x.class.id c.if-id-eq0.true;
-      more = λ before h. known-skips t before x c.args.known.now.entries (zero-unknown t x.class.id c.if-id-eq0.true) h;
-    }
+pub returns-then-path-eq0-clause-ok : goal.returns-then-path-eq0-clause-ok
+returns-then-path-eq0-clause-ok c =
+    let t = table_of c.args.source.now in
+    on-ok c.keep_path.result _ _ (adds-kept t (first_class_view c.args.class) _ c.args.known.now.entries c.keep_path.new.known.entries c.args.broken.now.keys c.in_ok-path.ensures.starts c.requires.broken) c.keep_path.ensures.ok
 
-pub returns-then-end-eq0-clause-ok : goal.returns-then-end-eq0-clause-ok
-returns-then-end-eq0-clause-ok c =
-    let t : ClassTable = table_of c.args.source.now in
-    let x : PlacedClass = first_class_view c.args.class in
-    let w = c.in_ok-walk.walk in
-    let h = c.in_ok-walk.ensures.ok in
-    let end : w.end ≡ 0 = h.end ∙ sym c.end_of_chain-end.ensures ∙ c.if-end-eq0.true in
-    record {
-      ends = whole-ends t x.class.id w c.if-id-eq0.false h end;
-      more = λ before k. known-adds t before x c.args.known.now.entries c.insert.new.self.entries c.known_of_walk.result
-          (whole-known t x.class.id w c.if-id-eq0.false h end ∙ ap Some (sym c.known_of_walk.ensures))
-          (omega (arith, ap (λ (known : ResolvedClass). length known.layout) c.known_of_walk.ensures, length-layout w.layout.items, h.short)) c.in_ok-insert.ensures.updates.0 c.in_ok-insert.ensures.entries (one-longer _ _ _ c.in_ok-insert.ensures.len) k;
-    }
+pub returns-then-is_some-clause-err : goal.returns-then-is_some-clause-err
+returns-then-is_some-clause-err c =
+    inr (never-ends (table_of c.args.source.now) (first_class_view c.args.class) c.args.known.now.entries c.args.broken.now.keys c.in_ok-path.path c.class_of.result c.in_ok-path.ensures
+    (sym c.if-contains_key.ensures) (sym c.if-not-contains.ensures) c.class_of.ensures (sym c.if-is_some.ensures))
 
-pub returns-in-Some-clause-err : goal.returns-in-Some-clause-err
-returns-in-Some-clause-err c =
-    let t : ClassTable = table_of c.args.source.now in
-    let x : PlacedClass = first_class_view c.args.class in
-    inr (cycle-found t x (end-cycle t x.class.id c.end_of_chain-end.result c.if-id-eq0.false c.end_of_chain-end.ensures _ c.in-Some.ensures))
-
-pub returns-in-None-clause-ok : goal.returns-in-None-clause-ok
-returns-in-None-clause-ok c =
-    let t : ClassTable = table_of c.args.source.now in
-    let x : PlacedClass = first_class_view c.args.class in
-    record {
-      ends = end-ends t x.class.id c.end_of_chain-end.result c.if-id-eq0.false c.end_of_chain-end.ensures c.in-None.ensures;
-      more = λ before h. known-skips t before x c.args.known.now.entries (end-unknown t x.class.id c.end_of_chain-end.result c.if-id-eq0.false c.end_of_chain-end.ensures c.if-end-eq0.false) h;
-    }
+pub returns-clause-ok : goal.returns-clause-ok
+returns-clause-ok c =
+    let t = table_of c.args.source.now in
+    let end = c.in_ok-path.path.end in
+    let broken : IsBroken t end = elim c.else-not-contains.branch [
+      | else-not-contains-via-then-not-contains+else-is_some w ↦ absent-broken t end c.if-path-eq0.false (no-class w.class_of.result _ w.class_of.ensures (sym w.if-is_some.ensures))
+      | else-not-contains-via-else-not-contains w ↦ c.requires.broken end (sym w.if-not-contains.ensures)
+    ] in
+    adds-broken t (first_class_view c.args.class) _ c.args.known.now.entries c.note_path.new.broken.keys c.in_ok-path.ensures.starts c.requires.kept
+    (c.in_ok-note_path.ensures t c.in_ok-path.ensures.leads broken c.requires.broken)

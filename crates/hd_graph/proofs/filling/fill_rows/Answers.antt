@@ -1,6 +1,7 @@
-use Rattle.std.proofs.Common.{◌∙◌, ℕ, ap, sym, arith, length, List, take}
+use Rattle.std.proofs.Common.{◌∙◌, ℕ, ap, sym, subst, arith, length, List, take}
+use Rattle.hd_terms.specs.declared.IdSize.{IdSize}
 use Rattle.hd_classes.specs.Known.{known_at}
-use Rattle.hd_graph.specs.Building.{columns}
+use Rattle.hd_graph.specs.Building.{columns, AreLayouts}
 use Rattle.hd_graph.proofs.RowLemmas.{fill-next, weight-at, few-shapes}
 use Rattle.hd_graph.proofs.OpenLemmas.{length-le-weight}
 use Rattle.hd_graph.specs.ArrayRows.{object_ids}
@@ -18,7 +19,7 @@ loop-i-preserved c =
     record {
       so_far = fill-next (known_at c.args.classes.now) first.bytes first.size c.args.list.now c.loop-i.i _ c.get.ensures
           (columns c.loop-i.slot_table c.loop-i.shapes.objects) (columns c.fill_one.new.slot_table c.fill_one.new.shapes.objects) c.loop-i.invariant.so_far c.in_ok-fill_one.ensures.filled;
-      layouts = rw c.in_ok-fill_one.ensures.kept c.loop-i.invariant.layouts;
+      layouts = subst (λ (size : IdSize). AreLayouts size c.args.classes.now c.fill_one.new.shapes.layouts) c.loop-i.invariant.so_far.size_is c.in_ok-fill_one.ensures.classes;
     }
 
 pub fill_one-requires-clause-few : goal.fill_one-requires-clause-few

@@ -5,7 +5,7 @@ use Rattle.hd_graph.proofs.RowLemmas.{IsFilledSoFar}
 use Rattle.hd_graph.specs.Building.{columns, AreLayouts}
 use Rattle.hd_graph.proofs.filling.fill_rows.Given as goal
 
--- the rows and shapes of the objects so far, over the same layouts
+-- the rows and shapes of the objects so far, and the layouts that were made
 abbrev pub invariant-loop-i : goal.invariant-loop-i
 invariant-loop-i l = record {
   so_far : IsFilledSoFar (known_at l.classes) l.initial.slot_table.bytes l.initial.slot_table.size (take l.i l.list) (object_ids l.list) (columns l.slot_table l.shapes.objects);

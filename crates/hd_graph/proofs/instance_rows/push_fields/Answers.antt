@@ -1,38 +1,25 @@
-use Rattle.std.proofs.Common.{◌≡◌, ◌∙◌, ℕ, ◌+◌, get_or, ap, arith}
-use Rattle.hd_terms.specs.declared.IdSize.{IdSize}
-use Rattle.hd_terms.specs.Types.{value_len}
-use Rattle.hd_classes.specs.declared.known.LayoutField.{LayoutField}
-use Rattle.hd_graph.proofs.LayoutLemmas.{pushed-more, field-within, value-within, all-pushed, count-so-far}
+use Rattle.std.proofs.Common.{[], refl, map, arith}
+use Rattle.std.proofs.lemmas.List.{length-map}
+use Rattle.hd_classes.specs.Known.{field_view}
+use Rattle.hd_graph.proofs.LayoutLemmas.{none-pushed, class-pushed, class-within, class-room, all-pushed}
 use Rattle.hd_graph.proofs.instance_rows.push_fields.Goals as goal
 
--- a field, where it doesn't matter which
-abbrev any_field : LayoutField
-any_field = record { owner = 0; name = 0; code = 0 }
+pub loop-own-init : goal.loop-own-init
+loop-own-init c = record { front = []; whole = refl; pushed = none-pushed c.args.start c.args.slot_table.now }
 
-pub push_field-requires-clause-within : goal.push_field-requires-clause-within
-push_field-requires-clause-within c =
-    let code = (get_or c.args.layout.now c.loop-i.i any_field).code in
-    let len : c.from-len.result ≡ value_len c.args.slot_table.now.size code = c.from-len.ensures ∙ c.value_len.ensures.len ∙ ap (λ (size : IdSize). value_len size code) c.id_size-id_size.ensures.size in
-    value-within c.args.start c.args.layout.now c.loop-i.i any_field c.args.slot_table.now c.loop-i.slot_table c.loop-i.at c.from-len.result c.loop-i-test.true c.loop-i.invariant c.requires.within len
+pub push_own_fields-requires-clause-within : goal.push_own_fields-requires-clause-within
+push_own_fields-requires-clause-within c =
+    class-within c.args.start c.args.layout c.loop-own.rest (map field_view c.in-Some.own.now) c.in-Some.above c.args.slot_table.now c.loop-own.slot_table c.loop-own.at c.loop-own.invariant c.in-Some.ensures.0 c.requires.within
 
-pub overflow_add-at : goal.overflow_add-at
-overflow_add-at c =
-    let code = (get_or c.args.layout.now c.loop-i.i any_field).code in
-    let len : c.from-len.result ≡ value_len c.args.slot_table.now.size code = c.from-len.ensures ∙ c.value_len.ensures.len ∙ ap (λ (size : IdSize). value_len size code) c.id_size-id_size.ensures.size in
-    let within = field-within c.args.start c.args.layout.now c.loop-i.i any_field c.args.slot_table.now c.loop-i.slot_table c.loop-i.at c.loop-i-test.true c.loop-i.invariant c.requires.within in
-    omega (arith, within, len, c.id_size-id_size.ensures.small)
+pub push_own_fields-requires-clause-room : goal.push_own_fields-requires-clause-room
+push_own_fields-requires-clause-room c =
+    let room = class-room c.args.start c.args.layout c.loop-own.rest (map field_view c.in-Some.own.now) c.in-Some.above c.args.slot_table.now c.loop-own.slot_table c.loop-own.at _ c.loop-own.invariant c.in-Some.ensures.0 c.requires.room in
+    omega (arith, room, length-map c.in-Some.own.now field_view)
 
-pub push_field-requires-clause-room : goal.push_field-requires-clause-room
-push_field-requires-clause-room c =
-    let few = count-so-far c.args.start c.args.layout.now c.loop-i.i c.args.slot_table.now c.loop-i.slot_table c.loop-i.at c.loop-i.invariant in
-    omega (arith, few.0, few.1, c.requires.room, c.loop-i-test.true)
-
-pub loop-i-preserved : goal.loop-i-preserved
-loop-i-preserved c =
-    let code = (get_or c.args.layout.now c.loop-i.i any_field).code in
-    let len : c.from-len.result ≡ value_len c.args.slot_table.now.size code = c.from-len.ensures ∙ c.value_len.ensures.len ∙ ap (λ (size : IdSize). value_len size code) c.id_size-id_size.ensures.size in
-    pushed-more c.args.start c.args.layout.now c.loop-i.i any_field c.args.slot_table.now c.loop-i.slot_table c.push_field.new.slot_table c.loop-i.at (c.loop-i.at + c.from-len.result) c.loop-i-test.true c.loop-i.invariant
-    (ap (λ (n : ℕ). c.loop-i.at + n) len) c.in_ok-push_field.ensures
+pub loop-own-preserved : goal.loop-own-preserved
+loop-own-preserved c =
+    class-pushed c.args.start c.args.layout c.loop-own.rest (map field_view c.in-Some.own.now) c.in-Some.above c.args.slot_table.now c.loop-own.slot_table c.push_own_fields.new.slot_table c.loop-own.at _
+    c.loop-own.invariant c.in-Some.ensures.0 c.in_ok-at.ensures.row c.in_ok-at.ensures.end
 
 pub returns : goal.returns
-returns c = all-pushed c.args.start c.args.layout.now c.loop-i.i c.args.slot_table.now c.loop-i.slot_table c.loop-i.at (omega arith) c.loop-i.invariant
+returns c = all-pushed c.args.start c.args.layout c.loop-own.rest c.args.slot_table.now c.loop-own.slot_table c.loop-own.at c.loop-own.invariant c.in_default.ensures

@@ -1,8 +1,13 @@
-use Rattle.std.proofs.Common.{◌≡◌, ◌*◌, ◌≤◌}
+use Rattle.std.proofs.Common.{◌≡◌, ◌+◌, ◌*◌, ◌≤◌, length}
 use Rattle.hd_terms.specs.Classes.{layout_len}
-use Rattle.hd_graph.proofs.LayoutLemmas.{first_fields}
 use Rattle.hd_graph.proofs.layouts.bytes_of_layout.Given as goal
 
--- the bytes of the fields so far, each of which has eight at most
-abbrev pub invariant-loop-i : goal.invariant-loop-i
-invariant-loop-i l = (l.bytes ≡ layout_len l.id_size (first_fields l.layout l.i)) × (l.bytes ≤ 8 * l.i)
+-- the bytes so far and those of the rest, with eight at most for each field
+abbrev pub invariant-loop-own : goal.invariant-loop-own
+invariant-loop-own l = record {
+  sum : l.bytes + layout_len l.id_size l.rest ≡ layout_len l.id_size l.fn.layout;
+  few : l.bytes + 8 * length l.rest ≤ 8 * length l.fn.layout;
+}
+
+abbrev pub decreases-loop-own : goal.decreases-loop-own
+decreases-loop-own l = length l.rest

@@ -1,8 +1,8 @@
 use Rattle.std.proofs.Common.{◌≡◌, ◌∙◌, Err, sym, ap, subst}
 use Rattle.std.proofs.lemmas.Result.{err_from_is_err_and}
 use Rattle.hd_terms.specs.Lines.{command_of}
-use Rattle.hd_protocol.specs.Answering.{IsAnswered}
-use Rattle.hd_protocol.proofs.AnswerLemmas.{line_fault, line_done}
+use Rattle.hd_analyst.specs.Answering.{IsAnswered}
+use Rattle.hd_protocol.proofs.LineLemmas.{line_fault, line_done}
 use Rattle.hd_protocol.proofs.serving.run_line.Goals as goal
 use Rattle.hd_protocol.proofs.serving.run_line.Goals.{in-Some+in_ok-put_all-in-Some, in-None+in_ok-put_all-in-None}
 

@@ -1,6 +1,6 @@
 use Rattle.std.proofs.Common.{◌∙◌, Err, ap}
 use Rattle.std.proofs.lemmas.Result.{err_from_is_err_and}
-use Rattle.hd_protocol.specs.Work.{work_begun}
+use Rattle.hd_analyst.specs.Work.{work_begun}
 use Rattle.hd_protocol.proofs.ServedDesks.{served_desk, unserved_desk}
 use Rattle.hd_protocol.proofs.serving.serve.Goals as goal
 

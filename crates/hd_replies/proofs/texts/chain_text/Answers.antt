@@ -1,7 +1,7 @@
 use Rattle.std.proofs.Common.{◌∙◌, ap, subst}
 use Rattle.hd_terms.specs.Dump.{Dump}
 use Rattle.hd_terms.specs.Replies.{answered}
-use Rattle.hd_state.specs.ChainFound.{IsChainFound}
+use Rattle.hd_queries.specs.ChainFound.{IsChainFound}
 use Rattle.hd_replies.specs.ChainLines.{lines_of}
 use Rattle.hd_replies.proofs.ChainReplies.{unreachable_reply, chain_reply}
 use Rattle.hd_replies.proofs.texts.chain_text.Goals as goal

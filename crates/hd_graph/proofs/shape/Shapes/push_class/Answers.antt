@@ -1,11 +1,11 @@
 use Rattle.std.proofs.Common.{◌∙◌, List, map, ap}
 use Rattle.hd_graph.specs.Shapes.{ObjectShape}
-use Rattle.hd_graph.specs.PackedShapes.{ShapeLists, layout_view}
+use Rattle.hd_graph.specs.PackedShapes.{ShapeLists, numbered_layout}
 use Rattle.hd_graph.proofs.PackedLemmas.{class-push}
 use Rattle.hd_graph.proofs.shape.Shapes.push_class.Goals as goal
 
 pub returns : goal.returns
 returns c =
     rw (c.in_ok-push.ensures.items, c.push_reserved.ensures.items, c.in_ok-reserve.ensures.items, ← c.self.view_is)
-    (ap (λ (ss : List ObjectShape). let s : ShapeLists = record { objects = ss; layouts = map layout_view c.self.inside.layouts.items } in s)
+    (ap (λ (ss : List ObjectShape). let s : ShapeLists = record { objects = ss; layouts = map (numbered_layout c.self.inside.layouts.items) c.self.inside.numbers.items } in s)
     (class-push c.self.inside.layouts.items c.self.inside.classes.items c.args.class c.self.inside.kept.items _ c.self.invariant.over (c.len-index.ensures ∙ c.self.inside.classes.ok.0)))

@@ -7,7 +7,7 @@ pub returns-clause-first : goal.returns-clause-first
 returns-clause-first c =
     let a = c.self.inside in
     let number : c.number_at.result ≡ number_of a.ids.items c.args.id =
-    c.number_at.ensures ∙ ap (λ (ns : List ℕ). get_or ns (slot_of a.pages.keys c.args.id) 0) c.deref.ensures.value ∙ c.self.invariant.numbers_are.at c.args.id in
+    c.number_at.ensures ∙ c.self.invariant.numbers_are.at c.args.id in
     rw (← c.self.view_is) (position-by-number a.ids.items c.args.id c.number_at.result c.checked_sub.result number c.checked_sub.ensures)
 
 pub returns-clause-distinct : goal.returns-clause-distinct

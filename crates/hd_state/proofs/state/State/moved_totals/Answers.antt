@@ -1,7 +1,7 @@
 use Rattle.std.proofs.Common.{◌∙◌, ap, subst}
 use Rattle.std.specs.Arc.{arc_value}
 use Rattle.hd_totals.specs.Totals.{AreTotals, AreTotalsBefore}
-use Rattle.hd_state.specs.Kept.{AreKept}
+use Rattle.hd_terms.specs.Kept.{AreKept}
 use Rattle.hd_state.specs.Solution.{Solution}
 use Rattle.hd_state.proofs.state.State.moved_totals.Goals as goal
 use Rattle.hd_state.proofs.state.State.moved_totals.Goals.{After-deref-3}

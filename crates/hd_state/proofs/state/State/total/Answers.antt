@@ -1,9 +1,9 @@
 use Rattle.std.proofs.Common.{subst}
 use Rattle.std.specs.Arc.{arc_value}
 use Rattle.hd_totals.specs.Totals.{AreTotals}
-use Rattle.hd_state.specs.Kept.{AreKept}
+use Rattle.hd_terms.specs.Kept.{AreKept}
 use Rattle.hd_state.specs.Solution.{Solution}
-use Rattle.hd_state.proofs.ClassLemmas.{group-total}
+use Rattle.hd_queries.proofs.ClassLemmas.{group-total}
 use Rattle.hd_state.proofs.state.State.total.Goals as goal
 
 pub returns : goal.returns

@@ -1,0 +1,6 @@
+pub mod Work
+pub mod AnalystInside
+pub mod Marking
+pub mod Replying
+pub mod Editing
+pub mod Answering

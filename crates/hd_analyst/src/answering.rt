@@ -1,0 +1,106 @@
+//! Lines that spell something are run and answered.
+ghost use Rattle.std.specs.Prelude.{◌≡◌, MatchOption, Ok, false, string_bytes, true};
+ghost use Rattle.hd_terms.specs.Lines.{is_quit_command};
+ghost use Rattle.hd_terms.specs.Log.{IsLawful};
+ghost use Rattle.hd_analyst.specs.Answering.{IsAnswered, IsRun};
+ghost use Rattle.hd_analyst.specs.Replying.{is_query};
+
+use crate::analyst::Analyst;
+use crate::fixed_buffer::FixedBuffer;
+use crate::query::answer_query;
+use crate::reply::{
+    LONGEST_REPLY, fault_name, put_edit, put_head, put_numbered, put_refused, refusal_text,
+};
+use hd_terms::{Command, LineFault, LogFault, Refusal};
+use std::alloc::Global;
+use std::sync::Wait;
+
+/// Runs what a line spells, and answers it: a short reply is put in place of the bytes of `out`, a long one given back. Before a
+/// command other than `quit` the desk is refreshed.
+pub fn answer(
+    rt: &impl Wait,
+    alloc: Global,
+    analyst: &mut Analyst<'_>,
+    reading: Result<Command, LineFault>,
+    out: &mut FixedBuffer<LONGEST_REPLY>,
+) -> Option<String>
+    ensures { MatchOption result (IsAnswered analyst.old analyst.new reading out.new)
+        (λ text. IsAnswered analyst.old analyst.new reading (string_bytes text)) }
+{
+    analyst.is_lawful();
+    match reading {
+        Ok(command) => answer_command(rt, alloc, analyst, command, out),
+        Err(fault) => {
+            put_refused(out, fault_name(fault));
+            None
+        }
+    }
+}
+
+/// Refreshes the desk, runs a command, and answers it. For `quit` the desk isn't refreshed.
+fn answer_command(
+    rt: &impl Wait,
+    alloc: Global,
+    analyst: &mut Analyst<'_>,
+    command: Command,
+    out: &mut FixedBuffer<LONGEST_REPLY>,
+) -> Option<String>
+    requires { IsLawful analyst.old.memory.log }
+    ensures { MatchOption result (IsAnswered analyst.old analyst.new (Ok command) out.new)
+        (λ text. IsAnswered analyst.old analyst.new (Ok command) (string_bytes text)) }
+{
+    if let Command::Quit = command {
+        put_head(out, 0);
+        return None;
+    }
+    if let Err(refusal) = analyst.refresh(rt, alloc) {
+        put_refused(out, refusal_text(refusal));
+        return None;
+    }
+    run_command(rt, alloc, analyst, command, out)
+}
+
+/// Runs a command for an analyst whose desk is refreshed, and answers it.
+fn run_command(
+    rt: &impl Wait,
+    alloc: Global,
+    analyst: &mut Analyst<'_>,
+    command: Command,
+    out: &mut FixedBuffer<LONGEST_REPLY>,
+) -> Option<String>
+    requires command { is_quit_command (Ok command) ≡ false }
+    requires refreshed { analyst.old.front ≡ analyst.old.memory.log }
+    ensures { MatchOption result (IsRun analyst.old analyst.new (Ok command) out.new)
+        (λ text. IsRun analyst.old analyst.new (Ok command) (string_bytes text)) }
+{
+    match command {
+        Command::Edit(edit) => put_edit(out, analyst.edit(rt, alloc, edit)),
+        Command::Undo(number) => put_edit(out, analyst.undo(rt, alloc, number)),
+        Command::Mark => put_numbered(out, b"mark ", analyst.mark()),
+        Command::Private => put_numbered(out, b"private ", analyst.go_private()),
+        Command::Back => put_numbered(out, b"back ", analyst.go_back()),
+        query => return run_query(alloc, analyst, query, out),
+    }
+    None
+}
+
+/// Runs a query for an analyst whose desk is refreshed, and answers it.
+fn run_query(
+    alloc: Global,
+    analyst: &Analyst<'_>,
+    query: Command,
+    out: &mut FixedBuffer<LONGEST_REPLY>,
+) -> Option<String>
+    requires query { is_query query ≡ true }
+    requires refreshed { analyst.now.front ≡ analyst.now.memory.log }
+    ensures { MatchOption result (IsRun analyst.now analyst.now (Ok query) out.new)
+        (λ text. IsRun analyst.now analyst.now (Ok query) (string_bytes text)) }
+{
+    match answer_query(alloc, analyst.state(), analyst.marks(), query, out) {
+        Ok(text) => text,
+        Err(_) => {
+            put_refused(out, refusal_text(Refusal::Log(LogFault::OutOfMemory)));
+            None
+        }
+    }
+}

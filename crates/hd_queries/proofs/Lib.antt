@@ -1,0 +1,9 @@
+pub mod ChainLemmas
+pub mod ClassLemmas
+pub mod FallenLemmas
+pub mod IntoLemmas
+pub mod ListedLemmas
+pub mod RefusalLemmas
+pub mod RootLemmas
+pub mod RowLemmas
+pub mod TotalLemmas

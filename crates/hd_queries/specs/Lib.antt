@@ -1,0 +1,6 @@
+pub mod Shown
+pub mod Totals
+pub mod Listed
+pub mod ChainFound
+pub mod RootsShown
+pub mod IntoShown

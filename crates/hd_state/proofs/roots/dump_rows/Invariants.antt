@@ -1,7 +1,0 @@
-use Rattle.std.proofs.Common.{◌≡◌}
-use Rattle.hd_state.specs.RootsShown.{dump_rows}
-use Rattle.hd_state.proofs.roots.dump_rows.Given as goal
-
--- the first roots are there as the log leaves them
-abbrev pub invariant-loop-r : goal.invariant-loop-r
-invariant-loop-r l = l.rows.items ≡ dump_rows l.edited.graph.now l.edited.front.now l.r
