@@ -93,34 +93,36 @@ fn stat_text(alloc: Global, graph: &Graph) -> Result<String, NoMemory>
     Ok(text)
 }
 
-/// Opens the bytes of a dump, and makes the text of its counts and totals.
+/// Opens the bytes of a dump, and makes the text of its counts and totals. The bytes are given up before the strengths are
+/// computed.
 fn stat_of_bytes<T: AllocGlobal + RandomSource + Threads + Sync>(
     rt: &T,
-    bytes: &[u8],
+    bytes: Vec<u8>,
     workers: u32,
     mode: Mode,
 ) -> Result<String, RunFault>
     requires workers { IsWorkers workers }
-    ensures ok { IfOk result (λ text. IsStatOf mode bytes.now (string_bytes text)) }
-    ensures err { IfErr result (λ f. IsOpenFault bytes.now f) }
+    ensures ok { IfOk result (λ text. IsStatOf mode bytes.items (string_bytes text)) }
+    ensures err { IfErr result (λ f. IsOpenFault bytes.items f) }
 {
-    let graph = open_bytes(rt, bytes, workers, mode)?;
+    let graph = open_bytes(rt, bytes.as_slice(), workers, mode)?;
+    drop(bytes);
     let text = stat_text(rt.alloc(), &graph)?;
     Ok(text)
 }
 
-/// Opens the bytes of a dump and writes its counts and totals.
+/// Opens the bytes of a dump and writes its counts and totals. The bytes are given up as soon as the dump is open.
 ///
 /// `workers` is the number of threads that decode, 1 to 16; `mode` says how far phantom references are followed.
 pub fn stat_bytes<T: AllocGlobal + RandomSource + Threads + Sync, W: Write>(
     rt: &T,
-    bytes: &[u8],
+    bytes: Vec<u8>,
     workers: u32,
     mode: Mode,
     output: &mut W,
 ) -> Result<(), RunFault>
     requires workers { IsWorkers workers }
-    ensures { StatsDump mode bytes.now (W.contents output.old) (W.contents output.new) result }
+    ensures { StatsDump mode bytes.items (W.contents output.old) (W.contents output.new) result }
 {
     let text = stat_of_bytes(rt, bytes, workers, mode)?;
     put_all(output, text.as_bytes())?;

@@ -47,7 +47,10 @@ pub fn answer<R: AllocGlobal + RandomSource + Threads + Wait + Sync>(
     let mut written = Vec::new(rt.alloc());
     let workers = workers.clamp(1, 16);
     let ended = match question {
-        Question::Stat => stat_bytes(rt, dump, workers, mode, &mut written),
+        Question::Stat => {
+            let bytes = dump.to_vec(rt.alloc())?;
+            stat_bytes(rt, bytes, workers, mode, &mut written)
+        }
         Question::Session(input) => {
             let mut rest = input;
             run_bytes(rt, dump, workers, mode, &mut rest, &mut written)

@@ -81,15 +81,17 @@ fn writer_that_fails(rt: HostRuntime) {
 }
 
 #[test]
-fn stat_that_cannot_be_written(rt: HostRuntime) {
+fn stat_that_cannot_be_written(rt: HostRuntime) -> Result<(), Fail> {
     let mut output = FailingWriter {
         taken: Vec::new(rt.alloc()),
         room: 14,
         fails: true,
     };
-    let ended = stat_bytes(&rt, &SAMPLE, 1, Mode::Direct, &mut output);
+    let bytes = Vec::from_array(rt.alloc(), SAMPLE)?;
+    let ended = stat_bytes(&rt, bytes, 1, Mode::Direct, &mut output);
     assert_eq!(rt; ended, Err(RunFault::Serve(ServeFault::Write)));
     assert_eq!(rt; output.taken.as_slice(), b"objects 2\nroot".as_slice());
+    Ok(())
 }
 
 /// A writer that hands on what it has taken when it is flushed, and can be flushed so many times.

@@ -231,7 +231,7 @@ where
             match read {
                 Ok(bytes) => {
                     let (workers, mode) = (opening.workers, opening.mode);
-                    let ended = stat_bytes(rt, bytes.as_slice(), workers, mode, output);
+                    let ended = stat_bytes(rt, bytes, workers, mode, output);
                     report(ended, faults)
                 }
                 Err(fault) => report_file(fault, opening.file, faults),
