@@ -1,5 +1,5 @@
 //! Numbers of IDs in rows, a byte for each.
-ghost use Rattle.std.specs.Prelude.{◌≡◌, ◌<◌, ◌≤◌, ◌^◌, [], ◌++◌, length, replicate, slice_index, slice_set, OnOk, OnErr};
+ghost use Rattle.std.specs.Prelude.{◌≡◌, ◌+◌, ◌<◌, ◌≤◌, ◌^◌, [], ◌++◌, length, replicate, slice_index, slice_set, vec_capacity, OnOk, OnErr};
 
 use crate::page_hasher::PageHasher;
 use indexmap::IndexMap;
@@ -9,18 +9,22 @@ use std::marker::Model;
 /// How many numbers a row has.
 pub(crate) const ROW: usize = 512;
 
-/// The step of a number that is too far behind the base of its row.
+/// How many places of a row have a base together.
+const BLOCK: usize = 32;
+
+/// The step of a number that is too far behind its base, or before it.
 const FAR: u8 = 255;
 
 /// Numbers in rows of 512, 0 where there is none.
 ///
-/// Objects that lie in one page of the heap mostly follow one another in the file, so their numbers are close. A row has a base,
-/// and each of its numbers is kept as its distance from there, in one byte. A number that is farther away is kept by itself.
+/// Objects that lie near one another in the heap mostly follow one another in the file, so their numbers are close. Of each
+/// block of 32 places the first number that is set is the base. The others are kept as their distance from it, in one byte. A
+/// number that is farther away, or less than the base, is kept by itself.
 #[derive(Drop)]
 pub(crate) struct Numbers {
-    /// Of each row the number before its first.
+    /// Of each block the number that was set first; 0 where there is none.
     bases: Vec<u32>,
-    /// Of each place how far its number is behind the base; 0 where there is none, `FAR` where it is too far.
+    /// Of each place one more than its number's distance from the base; 0 where there is none, `FAR` where it is too far.
     steps: Vec<u8>,
     /// The numbers that are too far, by their places.
     far: IndexMap<u64, u32, PageHasher>,
@@ -38,13 +42,24 @@ impl Model for Numbers {
 }
 
 /// Adds the steps of a row without numbers.
-fn push_zeros(steps: &mut Vec<u8>) -> Result<(), AllocError>
+fn push_steps(steps: &mut Vec<u8>) -> Result<(), AllocError>
     ensures ok { OnOk result (steps.new.items ≡ steps.old.items ++ replicate 512 0) }
     ensures err { OnErr result (steps.new.items ≡ steps.old.items) }
 {
     steps.reserve(ROW)?;
     let len = steps.len() + ROW;
     steps.resize(len, 0)?;
+    Ok(())
+}
+
+/// Adds the bases of a row without numbers.
+fn push_bases(bases: &mut Vec<u32>) -> Result<(), AllocError>
+    ensures ok { OnOk result (bases.new.items ≡ bases.old.items ++ replicate 16 0) }
+    ensures err { OnErr result (bases.new.items ≡ bases.old.items) }
+    ensures full { OnErr result (vec_capacity bases.old < length bases.old.items + 16) }
+{
+    let len = bases.len() + ROW / BLOCK;
+    bases.resize(len, 0)?;
     Ok(())
 }
 
@@ -78,19 +93,24 @@ impl Numbers {
                 Some(number) => *number,
                 None => 0,
             },
-            step => self.bases[slot / ROW] + u32::from(step),
+            step => self.bases[slot / BLOCK] + u32::from(step - 1),
         }
     }
 
     /// Puts a number at a place.
     pub(crate) fn set(&mut self, slot: usize, number: u32) -> Result<(), AllocError>
-        requires { slot < length self.old }
+        requires within { slot < length self.old }
+        requires some { 1 ≤ number }
+        requires low { number ≤ 2 ^ 31 }
         ensures ok { OnOk result (self.new ≡ slice_set self.old slot number) }
         ensures err { OnErr result (self.new ≡ self.old) }
     {
-        let base = self.bases[slot / ROW];
-        if number > base && number - base < u32::from(FAR) {
-            self.steps[slot] = (number - base) as u8;
+        let base = self.bases[slot / BLOCK];
+        if base == 0 {
+            self.bases[slot / BLOCK] = number;
+            self.steps[slot] = 1;
+        } else if number >= base && number - base < u32::from(FAR - 1) {
+            self.steps[slot] = (number - base + 1) as u8;
         } else {
             self.far.insert(slot as u64, number)?;
             self.steps[slot] = FAR;
@@ -98,15 +118,14 @@ impl Numbers {
         Ok(())
     }
 
-    /// One more row, which has no number yet. Those that come are mostly a little more than the base.
-    pub(crate) fn add_row(&mut self, base: u32) -> Result<(), AllocError>
-        requires { base ≤ 2 ^ 31 }
+    /// One more row, which has no number yet.
+    pub(crate) fn add_row(&mut self) -> Result<(), AllocError>
         ensures ok { OnOk result (self.new ≡ self.old ++ replicate 512 0) }
         ensures err { OnErr result (self.new ≡ self.old) }
     {
-        self.bases.reserve(1)?;
-        push_zeros(&mut self.steps)?;
-        self.bases.push_reserved(base);
+        self.bases.reserve(ROW / BLOCK)?;
+        push_steps(&mut self.steps)?;
+        push_bases(&mut self.bases)?;
         Ok(())
     }
 }

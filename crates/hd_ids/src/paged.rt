@@ -103,8 +103,7 @@ impl PagedIds {
             if self.numbers.len() + ROW > self.ids.len() * 8 + (1 << 16) {
                 return Ok(None);
             }
-            let base = self.ids.len() as u32;
-            add_row(&mut self.pages, &mut self.numbers, page, base)?;
+            add_row(&mut self.pages, &mut self.numbers, page)?;
             add_id(&mut self.ids, &mut self.numbers, slot, id)?;
             return Ok(Some(true));
         }

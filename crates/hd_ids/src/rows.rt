@@ -65,22 +65,20 @@ pub(crate) fn number_at(pages: &IndexSet<u64, PageHasher>, numbers: &Numbers, id
     }
 }
 
-/// Gives a page its row, of zeros. The numbers that come follow the base.
+/// Gives a page its row, of zeros.
 pub(crate) fn add_row(
     pages: &mut IndexSet<u64, PageHasher>,
     numbers: &mut Numbers,
     page: u64,
-    base: u32,
 ) -> Result<(), AllocError>
-    requires new { rows.row_of pages.old.keys page ≡ length pages.old.keys }
-    requires base { base ≤ 2 ^ 31 }
+    requires { rows.row_of pages.old.keys page ≡ length pages.old.keys }
     ensures pages { OnOk result (pages.new.keys ≡ pages.old.keys ++ page ∷ []) }
     ensures numbers { OnOk result (numbers.new ≡ numbers.old ++ replicate 512 0) }
     ensures same_pages { OnErr result (pages.new.keys ≡ pages.old.keys) }
     ensures same_numbers { OnErr result (numbers.new ≡ numbers.old) }
 {
     pages.reserve(1)?;
-    numbers.add_row(base)?;
+    numbers.add_row()?;
     pages.insert(page)?;
     Ok(())
 }

@@ -1,4 +1,4 @@
-use Rattle.std.proofs.Common.{◌≡◌, ◌≢◌, ◌∙◌, ℕ, ◌+◌, ◌/◌, ◌<◌, ◌≤◌, ◌^◌, Some, None, Option, length, get_or, sym, ap, arith}
+use Rattle.std.proofs.Common.{◌≡◌, ◌≢◌, ◌∙◌, ◌/◌, ◌<◌, ◌≤◌, ◌^◌, Some, None, length, get_or, sym, arith}
 use Rattle.std.proofs.lemmas.Grind.{get_or_default_zero}
 use Rattle.hd_ids.proofs.NumberLemmas.{steps-long, read-slot, far-is, near-is}
 use Rattle.hd_ids.proofs.numbers.Numbers.get.Goals as goal
@@ -11,14 +11,14 @@ index-requires c =
 pub index-requires-in_default : goal.index-requires-in_default
 index-requires-in_default c =
     let a = c.self.inside in
-    omega (arith, c.requires, a.bases.ok.0, c.self.invariant.rows, steps-long a.bases.items a.far.entries a.steps.items c.args.self.now c.self.view_is)
+    omega (arith, c.requires, a.bases.ok.0, c.self.invariant.lengths, steps-long a.bases.items a.far.entries a.steps.items c.args.self.now c.self.view_is)
 
 pub overflow_add-result : goal.overflow_add-result
 overflow_add-result c =
     let a = c.self.inside in
-    let lt : c.args.slot / 512 < length a.bases.items = omega (arith, c.requires, c.self.invariant.rows, steps-long a.bases.items a.far.entries a.steps.items c.args.self.now c.self.view_is) in
-    let base : get_or a.bases.items (c.args.slot / 512) 0 ≤ 2 ^ 31 = c.self.invariant.low (c.args.slot / 512) 0 lt in
-    let read : c.index-in_default.result.now ≡ get_or a.bases.items (c.args.slot / 512) 0 = c.index-in_default.ensures ∙ get_or_default_zero a.bases.items (c.args.slot / 512) _ lt in
+    let lt : c.args.slot / 32 < length a.bases.items = omega (arith, c.requires, c.self.invariant.lengths, steps-long a.bases.items a.far.entries a.steps.items c.args.self.now c.self.view_is) in
+    let base : get_or a.bases.items (c.args.slot / 32) 0 ≤ 2 ^ 31 = c.self.invariant.low (c.args.slot / 32) 0 lt in
+    let read : c.index-in_default.result.now ≡ get_or a.bases.items (c.args.slot / 32) 0 = c.index-in_default.ensures ∙ get_or_default_zero a.bases.items (c.args.slot / 32) _ lt in
     omega (arith, base, read)
 
 pub returns-in-0 : goal.returns-in-0
@@ -52,9 +52,9 @@ pub returns-in_default : goal.returns-in_default
 returns-in_default c =
     let a = c.self.inside in
     let lt : c.args.slot < length a.steps.items = omega (arith, c.requires, steps-long a.bases.items a.far.entries a.steps.items c.args.self.now c.self.view_is) in
-    let row : c.args.slot / 512 < length a.bases.items = omega (arith, lt, c.self.invariant.rows) in
+    let row : c.args.slot / 32 < length a.bases.items = omega (arith, lt, c.self.invariant.lengths) in
     let step : get_or a.steps.items c.args.slot 0 ≡ c.index.result.now = sym (get_or_default_zero a.steps.items c.args.slot _ lt) ∙ sym c.index.ensures in
-    let read : c.index-in_default.result.now ≡ get_or a.bases.items (c.args.slot / 512) 0 = c.index-in_default.ensures ∙ get_or_default_zero a.bases.items (c.args.slot / 512) _ row in
+    let read : c.index-in_default.result.now ≡ get_or a.bases.items (c.args.slot / 32) 0 = c.index-in_default.ensures ∙ get_or_default_zero a.bases.items (c.args.slot / 32) _ row in
     let some : c.index.result.now ≢ 0 = λ e. omega arith in
     let near : c.index.result.now ≢ 255 = λ e. omega arith in
     omega (

@@ -1,5 +1,5 @@
-use Rattle.std.proofs.Common.{◌≡◌, ◌∙◌, List, ℕ, ap, get_or}
-use Rattle.hd_ids.specs.Rows.{slot_of, number_of}
+use Rattle.std.proofs.Common.{◌≡◌, ◌∙◌}
+use Rattle.hd_ids.specs.Rows.{number_of}
 use Rattle.hd_ids.proofs.RowLemmas.{position-by-number, position-of-place}
 use Rattle.hd_ids.proofs.paged.PagedIds.index_of.Goals as goal
 
