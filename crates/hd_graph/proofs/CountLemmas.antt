@@ -1,11 +1,11 @@
 -- Counting the slots of objects, one after another.
-use Rattle.std.proofs.Common.{◌≡◌, ◌∙◌, ℕ, ◌+◌, ◌≤◌, Bool, true, false, not, ◌&&◌, List, [], ◌∷◌, length, take, cond, eqb, Option, Some, None, refl, sym, ap, arith, zero-add}
+use Rattle.std.proofs.Common.{◌≡◌, ◌∙◌, ℕ, ◌+◌, ◌<◌, ◌≤◌, Bool, true, false, not, ◌&&◌, List, [], ◌∷◌, length, take, get_or, cond, eqb, Option, Some, None, refl, sym, ap, arith, zero-add}
 use Rattle.std.specs.Prelude.{count_by, sum_by, is_some, is_none}
 use Rattle.std.specs.Option.{option_map}
 use Rattle.std.specs.List.{slice_get, filter_map, cons_option, enumerate_from}
 use Rattle.std.proofs.lemmas.List.Concat.{length-flat_map}
 use Rattle.std.proofs.lemmas.List.Sums.{sum_by-cons, sum_by_more}
-use Rattle.std.proofs.lemmas.Option.{get_or_from_slice_get, slice_get_within}
+use Rattle.std.proofs.lemmas.Option.{get_or_from_slice_get, slice_get_within, slice_get-get_or}
 use Rattle.hd_terms.specs.Dump.{SlotEntry, Object, Dump}
 use Rattle.hd_terms.specs.Edges.{index_of, edge_of, edges_from, edges}
 use Rattle.hd_terms.specs.Paths.{Edge}
@@ -19,6 +19,11 @@ pub record AreSlotsCounted (objects : List Object) (ss : List SlotEntry) (i : �
   pub unresolved : counts.unresolved ≡ count_by (is_unresolved objects) (take i ss)
   pub few_edges : counts.edges ≤ i
   pub few_unresolved : counts.unresolved ≤ i
+
+-- the slot at an index
+pub slot-there : (ss : List SlotEntry) (i : ℕ) → i < length ss → (s : SlotEntry) × (slice_get ss i ≡ Some s)
+slot-there [] i lt = absurd (omega arith)
+slot-there (s ∷ ss) i lt = (get_or (s ∷ ss) i s, slice_get-get_or (s ∷ ss) i s lt)
 
 -- one more slot, which passes a test or doesn't
 slot-more : (p : SlotEntry → Bool) (ss : List SlotEntry) (i : ℕ) (s : SlotEntry) → slice_get ss i ≡ Some s → (b : Bool) → p s ≡ b → count_by p (take (i + 1) ss) ≡ count_by p (take i ss) + cond b 1 0

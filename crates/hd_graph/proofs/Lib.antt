@@ -8,6 +8,7 @@ pub mod ValueLemmas
 pub mod AddedLemmas
 pub mod GrownLemmas
 pub mod ArrayLemmas
+pub mod SlotLemmas
 pub mod NumberLemmas
 pub mod RowLemmas
 pub mod TextLemmas

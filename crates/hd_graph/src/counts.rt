@@ -27,10 +27,10 @@ fn slot_counts(graph: &Graph, o: u32) -> SlotCounts
         unresolved: 0,
     };
     for i in 0..graph.slots_len(o) {
-        let read = graph.slots(o, i);
-        if read.target.is_some() {
+        let (id, target) = graph.reference(o, i);
+        if target.is_some() {
             counts.edges += 1;
-        } else if read.id != 0 {
+        } else if id != 0 {
             counts.unresolved += 1;
         }
     }

@@ -55,6 +55,13 @@ pub struct SlotRead {
     pub target: Option<u32>,
 }
 
+/// How a slot of an object is called, and what a reference in it goes through.
+#[derive(Clone, Copy, Debug, PartialEq, Eq)]
+pub struct SlotName {
+    pub slot: Slot,
+    pub kind: EdgeKind,
+}
+
 /// A root of the dump.
 #[derive(Clone, Copy, Debug, PartialEq, Eq)]
 pub struct RootRead {
@@ -294,15 +301,39 @@ impl Graph {
         ensures entry { slice_get (object_at self.now o).slots i ≡ Some (record { slot = result.slot; kind = result.kind; id = result.id }) }
         ensures target { result.target ≡ index_of self.now.objects result.id }
     {
-        let (id, target) = self.slot_table.get(o, i);
-        let shape = self.shapes.get(o);
-        let slot = slot_at(shape, self.slot_table.row_len(o), i);
+        let (id, target) = self.reference(o, i);
+        let SlotName { slot, kind } = self.slot_name(o, i);
         SlotRead {
             slot,
-            kind: kind_of_slot(shape, slot),
+            kind,
             id,
             target,
         }
+    }
+
+    /// The name and the kind of the slot at an index of an object. What the slot refers to isn't read.
+    pub fn slot_name(&self, o: u32, i: u32) -> SlotName
+        requires object { o < length self.now.objects }
+        requires index { i < length (object_at self.now o).slots }
+        ensures slot { (s : SlotEntry) → slice_get (object_at self.now o).slots i ≡ Some s → result.slot ≡ s.slot }
+        ensures kind { (s : SlotEntry) → slice_get (object_at self.now o).slots i ≡ Some s → result.kind ≡ s.kind }
+    {
+        let shape = self.shapes.get(o);
+        let slot = slot_at(shape, self.slot_table.row_len(o), i);
+        SlotName {
+            slot,
+            kind: kind_of_slot(shape, slot),
+        }
+    }
+
+    /// The ID in the slot at an index of an object, 0 for null, and the number of the object with that ID, if there is one.
+    pub(crate) fn reference(&self, o: u32, i: u32) -> (u64, Option<u32>)
+        requires object { o < length self.now.objects }
+        requires index { i < length (object_at self.now o).slots }
+        ensures id { (s : SlotEntry) → slice_get (object_at self.now o).slots i ≡ Some s → result.0 ≡ s.id }
+        ensures target { result.1 ≡ index_of self.now.objects result.0 }
+    {
+        self.slot_table.get(o, i)
     }
 
     /// The number of the object that the slot at an index of an object refers to, if it refers to one.
@@ -311,7 +342,7 @@ impl Graph {
         requires index { i < length (object_at self.now o).slots }
         ensures { (s : SlotEntry) → slice_get (object_at self.now o).slots i ≡ Some s → result ≡ index_of self.now.objects s.id }
     {
-        self.slot_table.get(o, i).1
+        self.reference(o, i).1
     }
 
     /// The index of a slot among those of an object, if the object has it.

@@ -13,5 +13,5 @@ mod number;
 mod opening;
 mod shape;
 
-pub use graph::{Graph, RootRead, SlotRead};
+pub use graph::{Graph, RootRead, SlotName, SlotRead};
 pub use opening::open_dump;

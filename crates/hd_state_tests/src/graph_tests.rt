@@ -37,6 +37,8 @@ fn slots(rt: HostRuntime) -> Result<(), Fail> {
         let read = graph.slots(0, i);
         assert!(rt; read.slot == slot && read.kind == EdgeKind::Strong);
         assert!(rt; read.id == id && read.target == target);
+        let name = graph.slot_name(0, i);
+        assert!(rt; name.slot == slot && name.kind == EdgeKind::Strong);
         assert_eq!(rt; graph.slot_index(0, slot), Some(i));
     }
     assert_eq!(rt; graph.slot_index(0, Slot::Element(3)), None);

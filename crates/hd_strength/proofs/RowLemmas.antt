@@ -10,8 +10,6 @@ use Rattle.std.proofs.lemmas.List.Quantifiers.{position-Some}
 use Rattle.hd_terms.specs.declared.Edit.{Edit}
 use Rattle.hd_terms.specs.declared.Edit.TheVariants as edits
 use Rattle.hd_terms.specs.declared.RootKind.TheVariants as kinds
-use Rattle.hd_terms.specs.declared.EdgeKind.TheVariants as edge_kinds
-use Rattle.hd_terms.specs.declared.Slot.TheVariants as slot_names
 use Rattle.hd_terms.specs.declared.Event.{Event}
 use Rattle.hd_terms.specs.declared.What.{What}
 use Rattle.hd_terms.specs.declared.What.TheVariants as whats
@@ -21,6 +19,7 @@ use Rattle.hd_terms.specs.Dump.{SlotEntry, Object, Root, Dump, no_object, object
 use Rattle.hd_terms.specs.Edges.{index_of, edge_of}
 use Rattle.hd_terms.specs.EditedDump.{RootOn, standing, standing_from, is_untouched, is_dropped, is_root, adds_root, live_edit_at, root_stands, root_entries, dump_root, root_added, added_root, held_by}
 use Rattle.hd_terms.specs.Log.{live_edit, edit_of, stays}
+use Rattle.hd_graph.proofs.CountLemmas.{slot-there}
 use Rattle.hd_strength.specs.Rows.{width, edge_by, edge_at, added_id, root_by, root_by_event, root_count, root_at, standing_root, standing_dump_root, standing_added_root, added_by}
 use Rattle.hd_strength.proofs.Lists.{Contains-nil, Contains-head, Contains-tail, Contains-cons_cases, Contains-slice_get, flat_map_contains, flat_map_only, filter_map_contains, filter_map_only, filter_contains, filter_only, enumerate_contains, enumerate_only}
 
@@ -38,9 +37,7 @@ index_of_within xs id t h = (position-Some (λ (x : Object). id == x.id) xs t no
 
 -- the entry of a slot that an object has
 pub slot_at : (dump : Dump) (o i : ℕ) → i < width dump o → (s : SlotEntry) × (slice_get (object_at dump o).slots i ≡ Some s)
-slot_at dump o i lt =
-    let none : SlotEntry = record { slot = slot_names.Element 0; kind = edge_kinds.Strong; id = 0 } in
-    (get_or (object_at dump o).slots i none, slice_get-get_or (object_at dump o).slots i none lt)
+slot_at dump o i lt = slot-there (object_at dump o).slots i lt
 
 -- the edge of a slot, by the number that its ID has
 by_target : (o : ℕ) (s : SlotEntry) (t : Option ℕ) (e : Edge) → option_map (λ (target : ℕ). edge_to o s target) t ≡ Some e → (t ≡ Some e.target) × (e ≡ edge_to o s e.target)

@@ -6,6 +6,7 @@ ghost use Rattle.std.specs.Prelude.{◌<◌, ◌≤◌, length};
 ghost use Rattle.hd_terms.specs.Dump.{object_at};
 
 use hd_graph::Graph;
+use hd_supports::PackedReached;
 
 /// How many objects are read together.
 pub(crate) const BATCH: usize = 32;
@@ -59,23 +60,30 @@ fn read_targets_of(graph: &Graph, o: u32) -> u32 {
     sum
 }
 
-/// Reads whether the targets in the first slots of objects are reached.
-pub(crate) fn read_flags(graph: &Graph, reached: &[bool], objects: &[u32]) -> u32 {
+/// Reads whether the targets in the first slots of objects are reached, and what is kept of those that are not: they are
+/// written soon.
+pub(crate) fn read_found(
+    graph: &Graph,
+    reached: &[bool],
+    kept: &[PackedReached],
+    objects: &[u32],
+) -> u32 {
     let mut sum: u32 = 0;
     for o in objects {
-        sum = sum.wrapping_add(read_flags_of(graph, reached, *o));
+        sum = sum.wrapping_add(read_found_of(graph, reached, kept, *o));
     }
     sum
 }
 
-/// Reads whether the targets in the first slots of an object are reached.
-fn read_flags_of(graph: &Graph, reached: &[bool], o: u32) -> u32 {
+/// Reads the same for the targets in the first slots of an object.
+fn read_found_of(graph: &Graph, reached: &[bool], kept: &[PackedReached], o: u32) -> u32 {
     let mut sum: u32 = 0;
     for i in 0..slots_ahead(graph, o) {
         if let Some(target) = graph.target(o, i)
-            && let Some(flag) = reached.get(target as usize)
+            && let Some(false) = reached.get(target as usize)
+            && let Some(unreached) = kept.get(target as usize)
         {
-            sum = sum.wrapping_add(u32::from(*flag));
+            sum = sum.wrapping_add(u32::from(unreached.strength().rank()));
         }
     }
     sum

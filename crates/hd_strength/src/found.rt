@@ -3,7 +3,7 @@ ghost use Rattle.std.specs.Prelude.{◌≡◌, ℕ, ◌<◌, length, set, IfOk};
 ghost use Rattle.hd_terms.specs.Settled.{reached_at, unreached};
 ghost use Rattle.hd_strength.specs.Found.{is_found};
 
-use crate::ahead::{BATCH, read_flags, read_rows, read_targets};
+use crate::ahead::{BATCH, read_found, read_rows, read_targets};
 use hd_graph::Graph;
 use hd_supports::PackedReached;
 use hd_terms::NoMemory;
@@ -84,8 +84,8 @@ impl Found {
         self.ahead = next.len();
         let rows = read_rows(graph, next);
         let targets = read_targets(graph, next);
-        let flags = read_flags(graph, &self.reached, next);
-        self.read = rows.wrapping_add(targets).wrapping_add(flags);
+        let found = read_found(graph, &self.reached, &self.kept, next);
+        self.read = rows.wrapping_add(targets).wrapping_add(found);
     }
 
     /// What is kept of each object, in order.

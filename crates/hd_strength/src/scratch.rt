@@ -22,7 +22,7 @@ use crate::buckets::{Buckets, Offer};
 use crate::edited::{Edited, added_object, root_object};
 use crate::found::Found;
 use crate::removed::Removed;
-use hd_graph::Graph;
+use hd_graph::{Graph, SlotName};
 use hd_log::Front;
 use hd_supports::{PackedReached, Strengths};
 use hd_terms::{NoMemory, Slot, Strength};
@@ -143,7 +143,7 @@ fn accept_offer(
     }
     let gain = Gain {
         target,
-        slot: edited.graph.slots(offer.source, offer.index).slot,
+        slot: edited.graph.slot_name(offer.source, offer.index).slot,
         strength,
     };
     reach(edited, search, offer.source, gain)?;
@@ -186,14 +186,14 @@ fn gain_at(
     if search.found.is_reached(target) {
         return None;
     }
-    let read = edited.graph.slots(o, index);
-    if edited.removed.slot(o, index, read.kind) {
+    let SlotName { slot, kind } = edited.graph.slot_name(o, index);
+    if edited.removed.slot(o, index, kind) {
         return None;
     }
     Some(Gain {
         target,
-        slot: read.slot,
-        strength: strength.weaker(read.kind.strength()),
+        slot,
+        strength: strength.weaker(kind.strength()),
     })
 }
 

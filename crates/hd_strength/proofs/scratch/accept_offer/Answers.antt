@@ -1,5 +1,6 @@
 use Rattle.std.proofs.Common.{◌≡◌, ◌∙◌, ◌<◌, inl, inr, length, Some, None, refl, ap, sym, subst, arith}
 use Rattle.hd_terms.specs.Paths.{Edge}
+use Rattle.hd_terms.specs.declared.Slot.{Slot}
 use Rattle.hd_terms.specs.Dump.{SlotEntry}
 use Rattle.hd_terms.specs.Edges.{index_of}
 use Rattle.hd_terms.specs.Settled.{reached_at}
@@ -48,12 +49,13 @@ returns c =
     let dump = c.args.edited.graph.now in
     let ks = c.args.search.now.found in
     let source = c.args.offer.source in
-    let s : SlotEntry = record { slot = c.slots.result.slot; kind = c.slots.result.kind; id = c.slots.result.id } in
+    let at = slot_at dump source c.args.offer.index c.requires.index in
+    let s : SlotEntry = at.0 in
     let t = c.in-Some.target in
-    let some : index_of dump.objects s.id ≡ Some t = sym (c.target.ensures s c.slots.ensures.entry) ∙ c.in-Some.is in
+    let some : index_of dump.objects s.id ≡ Some t = sym (c.target.ensures s at.1) ∙ c.in-Some.is in
     let lt : t < length ks = omega (arith, index_of_within dump.objects s.id t some, c.requires.count) in
     let e = c.requires.backed.edge in
-    let edge : edge_to source s t ≡ e = at_target dump c.args.edited.front.now source c.args.offer.index s c.slots.ensures.entry t e some c.requires.backed.is in
+    let edge : edge_to source s t ≡ e = at_target dump c.args.edited.front.now source c.args.offer.index s at.1 t e some c.requires.backed.is in
     let target : e.target ≡ t = sym (ap (λ (x : Edge). x.target) edge) in
     inr (record {
       edge = e;
@@ -61,5 +63,6 @@ returns c =
       gives = c.requires.backed.gives;
       unreached = rw target (found-none (reached_at ks t) (sym c.is_reached.ensures ∙ c.if-is_reached.false));
       object = rw target lt;
-      reaches = subst (λ (x : Edge). Reaches dump.mode c.args.search.now c.reach.new.search c.args.strength x.source x.slot x.target) edge c.in_ok-reach.ensures;
+      reaches = subst (λ (x : Edge). Reaches dump.mode c.args.search.now c.reach.new.search c.args.strength x.source x.slot x.target) edge
+          (subst (λ (slot : Slot). Reaches dump.mode c.args.search.now c.reach.new.search c.args.strength source slot t) (c.slot_name.ensures.slot s at.1) c.in_ok-reach.ensures);
     })

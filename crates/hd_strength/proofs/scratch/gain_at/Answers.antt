@@ -1,12 +1,12 @@
-use Rattle.std.proofs.Common.{◌≡◌, true, false, ◌<◌, Some, None, length, ap, sym, ◌∙◌, refl, arith}
+use Rattle.std.proofs.Common.{◌≡◌, true, false, Some, None, ap, sym, ◌∙◌, refl, arith}
 use Rattle.hd_terms.specs.declared.Strength.{Strength}
-use Rattle.hd_terms.specs.Ranks.{weaker_of}
+use Rattle.hd_terms.specs.Ranks.{weaker_of, given_by}
 use Rattle.hd_terms.specs.Paths.{Edge}
 use Rattle.hd_terms.specs.Dump.{SlotEntry, object_at}
 use Rattle.hd_terms.specs.EditedDump.{is_untouched}
 use Rattle.hd_terms.specs.Edges.{index_of}
 use Rattle.hd_terms.specs.Settled.{reached_at}
-use Rattle.hd_strength.specs.Growing.{rank_at}
+use Rattle.hd_strength.specs.Removed.{is_removed}
 use Rattle.hd_strength.proofs.FoundLemmas.{found-some, found-none}
 use Rattle.hd_strength.proofs.RowLemmas.{slot_at, at_none, at_cut, at_target, at_some, not-true, not-false, edge_to, index_of_within}
 use Rattle.hd_strength.proofs.scratch.gain_at.Goals as goal
@@ -36,25 +36,31 @@ pub returns-then-slot-clause-none : goal.returns-then-slot-clause-none
 returns-then-slot-clause-none c = λ e is.
     let dump = c.args.edited.graph.now in
     let log = c.args.edited.front.now in
-    let s : SlotEntry = record { slot = c.slots-read.result.slot; kind = c.slots-read.result.kind; id = c.slots-read.result.id } in
+    let at = slot_at dump c.args.o c.args.index c.requires.index in
+    let s : SlotEntry = at.0 in
+    let kind : c.slot_name-slot.result.kind ≡ s.kind = c.slot_name-slot.ensures.kind s at.1 in
+    let taken : is_removed c.args.edited.removed.now c.args.o c.args.index s.kind ≡ true = ap (is_removed c.args.edited.removed.now c.args.o c.args.index) (sym kind) ∙ sym c.slot.ensures ∙ c.if-slot.true in
     let cut : is_untouched log (object_at dump c.args.o) s ≡ false =
-    not-true (is_untouched log (object_at dump c.args.o) s) (sym (c.requires.removed.slots c.args.o c.args.index s c.requires.object c.slots-read.ensures.entry) ∙ sym c.slot.ensures ∙ c.if-slot.true) in
-    absurd (at_cut dump log c.args.o c.args.index s c.slots-read.ensures.entry cut e is)
+    not-true (is_untouched log (object_at dump c.args.o) s) (sym (c.requires.removed.slots c.args.o c.args.index s c.requires.object at.1) ∙ taken) in
+    absurd (at_cut dump log c.args.o c.args.index s at.1 cut e is)
 
 pub returns-clause-some : goal.returns-clause-some
 returns-clause-some c =
     let ks = c.args.search.now.found in
-    let s : SlotEntry = record { slot = c.slots-read.result.slot; kind = c.slots-read.result.kind; id = c.slots-read.result.id } in
+    let at = slot_at c.args.edited.graph.now c.args.o c.args.index c.requires.index in
+    let s : SlotEntry = at.0 in
     let t = c.in_ok-target.target in
-    let some : index_of c.args.edited.graph.now.objects s.id ≡ Some t = sym (c.target.ensures s c.slots-read.ensures.entry) ∙ c.in_ok-target.was in
+    let some : index_of c.args.edited.graph.now.objects s.id ≡ Some t = sym (c.target.ensures s at.1) ∙ c.in_ok-target.was in
+    let kind : c.slot_name-slot.result.kind ≡ s.kind = c.slot_name-slot.ensures.kind s at.1 in
+    let left : is_removed c.args.edited.removed.now c.args.o c.args.index s.kind ≡ false = ap (is_removed c.args.edited.removed.now c.args.o c.args.index) (sym kind) ∙ sym c.slot.ensures ∙ c.if-slot.false in
     let stands : is_untouched c.args.edited.front.now (object_at c.args.edited.graph.now c.args.o) s ≡ true =
-    not-false (is_untouched c.args.edited.front.now (object_at c.args.edited.graph.now c.args.o) s) (sym (c.requires.removed.slots c.args.o c.args.index s c.requires.object c.slots-read.ensures.entry) ∙ sym c.slot.ensures ∙ c.if-slot.false) in
+    not-false (is_untouched c.args.edited.front.now (object_at c.args.edited.graph.now c.args.o) s) (sym (c.requires.removed.slots c.args.o c.args.index s c.requires.object at.1) ∙ left) in
     record {
       edge = edge_to c.args.o s t;
-      is = at_some c.args.edited.graph.now c.args.edited.front.now c.args.o c.args.index s c.slots-read.ensures.entry t some stands;
-      slot = refl;
+      is = at_some c.args.edited.graph.now c.args.edited.front.now c.args.o c.args.index s at.1 t some stands;
+      slot = c.slot_name-slot.ensures.slot s at.1;
       target = refl;
-      strength = c.weaker.ensures ∙ ap (λ (x : Strength). weaker_of x c.strength.result) (sym c.requires.source) ∙ ap (weaker_of (reached_at ks c.args.o).strength) c.strength.ensures;
+      strength = c.weaker.ensures ∙ ap (λ (x : Strength). weaker_of x c.strength.result) (sym c.requires.source) ∙ ap (weaker_of (reached_at ks c.args.o).strength) (c.strength.ensures ∙ ap given_by kind);
       unreached = found-none (reached_at ks t) (sym c.is_reached.ensures ∙ c.if-is_reached.false);
       object = omega (arith, index_of_within c.args.edited.graph.now.objects s.id t some, c.requires.count);
     }

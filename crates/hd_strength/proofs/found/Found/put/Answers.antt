@@ -1,5 +1,5 @@
 use Rattle.std.proofs.Common.{◌≡◌, ◌∙◌, set, ap, sym}
-use Rattle.std.specs.Prelude.{Bool, map, nat_lt}
+use Rattle.std.specs.Prelude.{map, nat_lt}
 use Rattle.std.proofs.lemmas.List.{map-set}
 use Rattle.hd_terms.specs.Ranks.{rank}
 use Rattle.hd_strength.specs.Found.{is_found}
