@@ -2,6 +2,7 @@
 #![tactic(auto)]
 
 mod mark;
+mod parts;
 mod state;
 
 pub use mark::Mark;

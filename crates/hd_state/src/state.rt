@@ -24,12 +24,13 @@ ghost use Rattle.hd_totals.specs.LastChanges.{AreLastChanges};
 ghost use Rattle.hd_totals.specs.Totals.{AreTotals};
 
 use crate::mark::Mark;
+use crate::parts::{KeptParts, LogParts};
 use hd_graph::Graph;
 use hd_log::Front;
 use hd_queries::{Chain, Solved, chain_of, fallen_ids, into_rows, member_ids, root_rows, rows_of};
 use hd_reverse::ReverseRows;
 use hd_step::{Repair, repaired};
-use hd_strength::{Removed, from_removed};
+use hd_strength::Removed;
 use hd_supports::Supports;
 use hd_terms::{
     ClassRow, Event, Group, IntoRow, NoMemory, RootRow, SlotRow, Strength, one_strength,
@@ -67,22 +68,6 @@ pub struct Done {
     pub back: u64,
 }
 
-/// A log with one more event: what its live edits take away, and the roots that its events add.
-#[derive(Drop)]
-struct NextLog {
-    front: Front,
-    removed: Arc<Removed>,
-    added: Arc<AddedRoots>,
-}
-
-/// What is kept of the objects after one more event.
-#[derive(Drop)]
-struct Moved {
-    supports: Arc<Supports>,
-    last_changes: Arc<LastChanges>,
-    totals: Arc<GroupTotals>,
-}
-
 impl Model for State {
     ghost use Rattle.hd_state.specs.Solution.{Solution};
 
@@ -105,30 +90,20 @@ impl State {
         ensures dump { IfOk result (λ s. s.dump ≡ arc_value graph) }
         ensures log { IfOk result (λ s. s.log ≡ []) }
     {
-        settled_supports_give_strengths();
         let front = Front::empty(alloc)?;
-        let removed = Removed::of(alloc, &graph, &front)?;
-        let added = AddedRoots::of(alloc, &graph, &front)?;
-        let strengths = from_removed(alloc, &graph, &front, &removed)?;
-        let supports = Supports::of(alloc, strengths)?;
-        let last_changes = LastChanges::none(alloc, graph.objects())?;
-        let totals = GroupTotals::of(alloc, &graph, &supports)?;
+        let log = LogParts::of(alloc, &graph, front)?;
+        let kept = KeptParts::from_scratch(alloc, &graph, &log)?;
         let reverse = ReverseRows::of(alloc, &graph)?;
         let reverse = Arc::new(alloc, reverse)?;
-        let removed = Arc::new(alloc, removed)?;
-        let added = Arc::new(alloc, added)?;
-        let supports = Arc::new(alloc, supports)?;
-        let last_changes = Arc::new(alloc, last_changes)?;
-        let totals = Arc::new(alloc, totals)?;
         Ok(State {
             graph,
             reverse,
-            front,
-            removed,
-            added,
-            supports,
-            last_changes,
-            totals,
+            front: log.front,
+            removed: log.removed,
+            added: log.added,
+            supports: kept.supports,
+            last_changes: kept.last_changes,
+            totals: kept.totals,
         })
     }
 
@@ -160,7 +135,7 @@ impl State {
     }
 
     /// The log with one more event, with what its live edits take away and the roots that its events add.
-    fn next_log(&self, alloc: Global, event: Event) -> Result<NextLog, NoMemory>
+    fn next_log(&self, alloc: Global, event: Event) -> Result<LogParts, NoMemory>
         requires { log_fault self.now.log event ≡ None }
         ensures log { IfOk result (λ n. n.front ≡ self.now.log ++ event ∷ []) }
         ensures removed { IfOk result (λ n. IsRemovedBy self.now.dump n.front (arc_value n.removed)) }
@@ -169,19 +144,12 @@ impl State {
         let Ok(front) = self.front.extend(alloc, event) else {
             return Err(NoMemory);
         };
-        let removed = Removed::of(alloc, &self.graph, &front)?;
-        let added = AddedRoots::of(alloc, &self.graph, &front)?;
-        let removed = Arc::new(alloc, removed)?;
-        let added = Arc::new(alloc, added)?;
-        Ok(NextLog {
-            front,
-            removed,
-            added,
-        })
+        let parts = LogParts::of(alloc, &self.graph, front)?;
+        Ok(parts)
     }
 
     /// What is kept of the objects, repaired for the log with one more event, and what the event did.
-    fn moved(&self, alloc: Global, next: &NextLog) -> Result<(Moved, Done), NoMemory>
+    fn moved(&self, alloc: Global, next: &LogParts) -> Result<(KeptParts, Done), NoMemory>
         requires next { IsNextLog self.now.log next.now.front }
         requires removed { IsRemovedBy self.now.dump next.now.front (arc_value next.now.removed) }
         requires added { IsAddedBy self.now.dump next.now.front (arc_value next.now.added) }
@@ -196,7 +164,7 @@ impl State {
         let last_changes = self.moved_changes(alloc, &repair, &next.front)?;
         let totals = self.moved_totals(alloc, &repair)?;
         let done = self.done(&repair, &next.front);
-        let moved = Moved {
+        let moved = KeptParts {
             supports: Arc::new(alloc, repair.supports)?,
             last_changes: Arc::new(alloc, last_changes)?,
             totals: Arc::new(alloc, totals)?,

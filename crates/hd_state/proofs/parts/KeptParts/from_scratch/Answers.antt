@@ -1,0 +1,19 @@
+use Rattle.std.proofs.Common.{◌≡◌, List, [], sym, subst}
+use Rattle.hd_terms.specs.declared.Event.{Event}
+use Rattle.hd_terms.specs.EditedDump.{standing}
+use Rattle.hd_terms.specs.Settled.{Settled}
+use Rattle.hd_totals.specs.LastChanges.{AreLastChanges}
+use Rattle.hd_totals.proofs.LastChangeLemmas.{opened}
+use Rattle.hd_state.proofs.parts.KeptParts.from_scratch.Goals as goal
+
+pub returns-clause-changes : goal.returns-clause-changes
+returns-clause-changes c =
+    let dump = c.args.graph.now in
+    let log = c.args.log.now.front in
+    let ks = c.in_ok-strengths.strengths in
+    let last = c.in_ok-last_changes.last_changes in
+    let empty : log ≡ [] = c.requires.empty in
+    let settled : Settled (standing dump log) ks = c.in_ok-strengths.ensures.settled in
+    let changes : AreLastChanges dump log ks last = subst (λ (xs : List Event). AreLastChanges dump xs ks last) (sym empty)
+    (opened c.settled_supports_give_strengths.ensures.strengths dump ks last (subst (λ (xs : List Event). Settled (standing dump xs) ks) empty settled)) in
+    rw (c.in_ok-new.ensures.ok, c.in_ok-supports.ensures, c.in_ok-new-2.ensures.ok) changes
