@@ -2,14 +2,14 @@
 use hd_records::check_size;
 use hd_terminal::StatusLine;
 use hd_terms::ReadFault;
-use std::alloc::{AllocError, Global};
 use std::fs::{self, File};
-use std::io::{self, Read, Write};
+use std::io::{Read, Write};
 use std::rt::Files;
 use std::time::Clock;
 
-/// The most bytes that are read at once: 16 MiB.
-const PIECE: usize = 16_777_216;
+/// The most bytes that are read at once: 256 KiB. A piece is zeroed before it is read, and should still be in the processor's cache
+/// then.
+const PIECE: usize = 262_144;
 
 /// Why a file is not in memory.
 #[derive(Clone, Copy, Debug, PartialEq, Eq)]
@@ -22,28 +22,25 @@ pub enum FileFault {
     Memory,
 }
 
-/// So many zero bytes, and no more room than they take.
-fn zeros(alloc: Global, len: u64) -> Result<Vec<u8>, AllocError> {
-    let mut bytes = Vec::with_capacity(alloc, len as usize)?;
-    bytes.resize(len as usize, 0)?;
-    Ok(bytes)
-}
-
-/// Fills a buffer from a file, piece by piece, and shows how far that is.
+/// Reads so many bytes behind others from a file, piece by piece, and shows how far that is.
 fn read_pieces<T: Clock, E: Write>(
     clock: &T,
     file: &mut File,
-    bytes: &mut [u8],
+    bytes: &mut Vec<u8>,
+    len: usize,
     status: &mut StatusLine,
     faults: &mut E,
-) -> io::Result<()> {
-    let all = bytes.len() as u64;
-    let mut done = 0u64;
-    for piece in bytes.chunks_mut(PIECE) {
-        status.show_read(clock, faults, done, all);
-        let len = piece.len() as u64;
-        file.read_exact(piece)?;
-        done = done.saturating_add(len);
+) -> Result<(), FileFault> {
+    while bytes.len() < len {
+        let done = bytes.len();
+        status.show_read(clock, faults, done as u64, len as u64);
+        let end = len.min(done.saturating_add(PIECE));
+        if bytes.resize(end, 0).is_err() {
+            return Err(FileFault::Memory);
+        }
+        if file.read_exact(&mut bytes[done..]).is_err() {
+            return Err(FileFault::Unreadable);
+        }
     }
     Ok(())
 }
@@ -68,11 +65,10 @@ pub fn read_file<R: Files<File = File> + AllocGlobal + Clock, E: Write>(
     let Ok(mut file) = fs::open(rt, path) else {
         return Err(FileFault::Unreadable);
     };
-    let Ok(mut bytes) = zeros(rt.alloc(), metadata.len()) else {
+    let len = metadata.len() as usize;
+    let Ok(mut bytes) = Vec::with_capacity(rt.alloc(), len) else {
         return Err(FileFault::Memory);
     };
-    match read_pieces(rt, &mut file, bytes.as_mut_slice(), status, faults) {
-        Ok(()) => Ok(bytes),
-        Err(_) => Err(FileFault::Unreadable),
-    }
+    read_pieces(rt, &mut file, &mut bytes, len, status, faults)?;
+    Ok(bytes)
 }
