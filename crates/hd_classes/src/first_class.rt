@@ -24,7 +24,7 @@ fn classes_end(list: &DumpSubs<'_>) -> usize
 {
     let mut end = list.len();
     while end > 0 {
-        if let Item::Class(_) = list.get(end - 1).item {
+        if list.is_class(end - 1) {
             return end;
         }
         end -= 1;

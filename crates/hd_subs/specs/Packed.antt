@@ -2,7 +2,7 @@
 -- Source: HPROF binary format, INSTANCE DUMP, OBJECT ARRAY DUMP and PRIMITIVE ARRAY DUMP: u1 tag, ID of the object, u4 stack trace
 -- serial; then of an instance the ID of its class and u4 bytes of values, of an array u4 count of elements, and the ID of its
 -- class or the type of its elements.
-use Rattle.std.specs.Prelude.{ℕ, ◌==◌, ◌+◌, ◌-◌, ◌*◌, ◌≤◌, ◌<◌, ◌^◌, ◌⊎◌, nat_lt, if◌then◌else◌, List, length, drop, slice_index}
+use Rattle.std.specs.Prelude.{ℕ, ◌==◌, ◌+◌, ◌-◌, ◌*◌, ◌≤◌, ◌<◌, ◌⊎◌, nat_lt, if◌then◌else◌, List, drop, slice_index}
 use Rattle.std.specs.List.{slice_index_or}
 use Rattle.byteorder.specs.Endian.{big_number}
 use Rattle.hd_terms.specs.declared.IdSize.{IdSize}

@@ -1,5 +1,7 @@
 //! The sub-records of a whole dump.
-ghost use Rattle.std.specs.Prelude.{◌≡◌, ◌↔◌, ◌+◌, ◌^◌, ◌<◌, [], ◌++◌, length, slice_get, IsTrue, Some, OnOk, OnErr};
+ghost use Rattle.std.specs.Prelude.{◌≡◌, ◌↔◌, ◌+◌, ◌^◌, ◌<◌, [], ◌++◌, length, slice_get, IsTrue, Some, is_some, OnOk, OnErr};
+ghost use Rattle.hd_terms.specs.SubRecords.{Sub as OneSub};
+ghost use Rattle.hd_terms.specs.Classes.{class_of_item};
 ghost use Rattle.hd_subs.specs.Views.{sub_view};
 
 use crate::sub::Sub;
@@ -67,18 +69,37 @@ impl<'a> DumpSubs<'a> {
         self.len == 0
     }
 
+    /// The part that has one of them, and its index there. They are numbered from 0 through all parts.
+    fn place(&self, i: usize) -> (&Subs<'a>, usize)
+        requires { i < length self.now }
+        ensures within { result.1 < length result.0.now }
+        ensures same { slice_get result.0.now result.1 ≡ slice_get self.now i }
+    {
+        let mut index = i;
+        for part in self.parts.as_slice() {
+            if index < part.len() {
+                return (part, index);
+            }
+            index -= part.len();
+        }
+        unreachable!()
+    }
+
     /// One of them; they are numbered from 0 through all parts.
     pub fn get(&self, i: usize) -> Sub<'_>
         requires { i < length self.now }
         ensures { slice_get self.now i ≡ Some (sub_view result) }
     {
-        let mut index = i;
-        for part in self.parts.as_slice() {
-            if index < part.len() {
-                return part.get(index);
-            }
-            index -= part.len();
-        }
-        unreachable!()
+        let (part, index) = self.place(i);
+        part.get(index)
+    }
+
+    /// Whether one of them is a class. The file isn't read for it.
+    pub fn is_class(&self, i: usize) -> bool
+        requires { i < length self.now }
+        ensures { (s : OneSub) → slice_get self.now i ≡ Some s → result ≡ is_some (class_of_item s.item) }
+    {
+        let (part, index) = self.place(i);
+        part.is_class(index)
     }
 }

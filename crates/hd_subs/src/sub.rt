@@ -1,4 +1,8 @@
 //! One sub-record as callers read it: a root, a class, an instance or an array.
+ghost use Rattle.std.specs.Prelude.{◌≡◌, is_some};
+ghost use Rattle.hd_terms.specs.Classes.{class_of_item};
+ghost use Rattle.hd_subs.specs.Views.{item_view};
+
 use crate::class::ClassDump;
 use hd_terms::{RootKind, Span};
 
@@ -23,4 +27,16 @@ pub enum Item<'a> {
 pub struct Sub<'a> {
     pub offset: u64,
     pub item: Item<'a>,
+}
+
+impl Item<'_> {
+    /// Whether it is a class object.
+    pub(crate) fn is_class(self) -> bool
+        ensures { result ≡ is_some (class_of_item (item_view self.entry)) }
+    {
+        match self {
+            Item::Class(_) => true,
+            _ => false,
+        }
+    }
 }

@@ -1,6 +1,7 @@
 //! A list of sub-records, of which most are kept by their file offsets alone.
-ghost use Rattle.std.specs.Prelude.{◌≡◌, ◌↔◌, ◌+◌, ◌^◌, ◌<◌, ◌≤◌, [], ◌∷◌, ◌++◌, length, take, slice_get, IsTrue, Some, IfSome, IfOk, OnOk, OnErr};
-ghost use Rattle.hd_terms.specs.SubRecords.{Class};
+ghost use Rattle.std.specs.Prelude.{◌≡◌, ◌↔◌, ◌+◌, ◌^◌, ◌<◌, ◌≤◌, [], ◌∷◌, ◌++◌, length, take, slice_get, IsTrue, Some, is_some, IfSome, IfOk, OnOk, OnErr};
+ghost use Rattle.hd_terms.specs.SubRecords.{Class, Sub as OneSub};
+ghost use Rattle.hd_terms.specs.Classes.{class_of_item};
 ghost use Rattle.hd_subs.specs.Views.{sub_view, class_view};
 ghost use Rattle.hd_subs.specs.Rows.{row_view, IsRowOver};
 ghost use Rattle.hd_subs.specs.Packed.{first_row, packed_item};
@@ -119,6 +120,17 @@ impl<'a> Subs<'a> {
             };
         }
         self.rows.get((entry - FIRST_ROW) as usize)
+    }
+
+    /// Whether one of them is a class. The file isn't read for it: classes are rows.
+    pub fn is_class(&self, i: usize) -> bool
+        requires { i < length self.now }
+        ensures { (s : OneSub) → slice_get self.now i ≡ Some s → result ≡ is_some (class_of_item s.item) }
+    {
+        match self.entries[i].checked_sub(FIRST_ROW) {
+            Some(row) => self.rows.get(row as usize).item.is_class(),
+            None => false,
+        }
     }
 
     /// One more at the end, which is no class.

@@ -1,14 +1,18 @@
 use Rattle.std.proofs.Common.{◌∙◌, ◌≤◌, ◌+◌, ◌-◌, drop, slice_index_or, length, slice_get, sym, ap, arith}
 use Rattle.hd_subs.specs.Joined.{joined}
 use Rattle.hd_subs.proofs.JoinedLemmas.{found-here, found-behind, length-behind}
-use Rattle.hd_subs.proofs.dump_subs.DumpSubs.get.Goals as goal
+use Rattle.hd_subs.proofs.dump_subs.DumpSubs.place.Goals as goal
 
-pub returns-then-index-len : goal.returns-then-index-len
-returns-then-index-len c =
+pub returns-then-index-len-clause-same : goal.returns-then-index-len-clause-same
+returns-then-index-len-clause-same c =
     let parts = c.as_slice-part-items.result.now in
     let k = c.loop-part.part-index in
     let d = c.part-item.result in
-    sym c.loop-part.invariant.1 ∙ found-here parts k d (omega arith) c.loop-part.index (rw (← c.part-item.is) (omega arith)) ∙ ap (λ part. slice_get part c.loop-part.index) (sym c.part-item.is) ∙ c.get.ensures
+    sym (
+    sym c.loop-part.invariant.1
+    ∙ found-here parts k d (omega arith) c.loop-part.index (rw (← c.part-item.is) (omega arith))
+    ∙ ap (λ part. slice_get part c.loop-part.index) (sym c.part-item.is)
+    )
 
 pub loop-part-preserved : goal.loop-part-preserved
 loop-part-preserved c =
