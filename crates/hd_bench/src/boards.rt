@@ -97,7 +97,7 @@ pub(crate) fn measure_boards<R: Clock + Print + AllocGlobal + Threads + Wait + S
     desks: &str,
 ) -> Result<()> {
     let start = Instant::now(rt)?;
-    let (board, mut desks) = open(rt.alloc(), graph, desks_of(desks)?).map_err(|_| anyhow!(
+    let (board, mut desks) = open(rt, rt.alloc(), graph, desks_of(desks)?).map_err(|_| anyhow!(
         "out of memory"
     ))?;
     let opened = lap(rt, "board", start)?;

@@ -148,15 +148,18 @@ fn open_file<R: Files<File = File> + Clock + Print + AllocGlobal + RandomSource 
 }
 
 /// Computes the strengths of a graph's objects.
-fn solved<R: Clock + Print + AllocGlobal>(rt: &R, graph: Arc<Graph>) -> Result<State> {
+fn solved<R: Clock + Print + AllocGlobal + Threads + Sync>(
+    rt: &R,
+    graph: Arc<Graph>,
+) -> Result<State> {
     let start = Instant::now(rt)?;
-    let state = State::open(rt.alloc(), graph).map_err(|_| anyhow!("out of memory"))?;
+    let state = State::open(rt, rt.alloc(), graph).map_err(|_| anyhow!("out of memory"))?;
     let _done = lap(rt, "strengths", start)?;
     Ok(state)
 }
 
 /// Computes the strengths of a graph's objects, and prints an object's; also cuts its first reference, and takes that back.
-fn measure_strength<R: Clock + Print + AllocGlobal>(
+fn measure_strength<R: Clock + Print + AllocGlobal + Threads + Sync>(
     rt: &R,
     graph: Arc<Graph>,
     id: u64,

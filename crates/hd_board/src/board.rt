@@ -19,6 +19,7 @@ use hd_terms::{Event, NoMemory};
 use std::alloc::Global;
 use std::marker::Model;
 use std::sync::{Arc, Mutex, Wait};
+use std::thread::Threads;
 
 /// The log of several analysts' desks over one dump, behind a lock, with what never changes: how many roots the dump has, the
 /// log from which the board began, and the numbers of its desks. The lock holds the log and nothing else, and is held for one
@@ -49,14 +50,19 @@ impl Model for Board {
 /// # Errors
 ///
 /// Memory ran out.
-pub fn open(alloc: Global, graph: Arc<Graph>, n: u8) -> Result<(Board, Vec<Desk>), NoMemory>
+pub fn open<R: Threads + Sync>(
+    rt: &R,
+    alloc: Global,
+    graph: Arc<Graph>,
+    n: u8,
+) -> Result<(Board, Vec<Desk>), NoMemory>
     requires least { 1 ≤ n }
     requires most { n ≤ 16 }
     ensures board { IfOk result (λ r. r.0 ≡ opened_board (arc_value graph) n) }
     ensures desks { IfOk result (λ r. r.1.items ≡ opened_desks (arc_value graph) n) }
 {
     let roots = u64::from(graph.roots_len());
-    let state = State::open(alloc, graph)?;
+    let state = State::open(rt, alloc, graph)?;
     let desks = opened_desks(alloc, &state, n)?;
     let board = Board {
         log: Mutex::new(state.front().share()?),

@@ -55,7 +55,7 @@ fn two_wide_desks<R: RandomSource + Threads + Sync>(
 ) -> Option<(Board, Vec<Desk>)> {
     let text = wide_array(alloc).ok()?;
     let graph = graph_of(rt, alloc, text.as_str())?;
-    open(alloc, graph, 2).ok()
+    open(rt, alloc, graph, 2).ok()
 }
 
 #[test]

@@ -105,15 +105,19 @@ fn last_log<R: Wait>(rt: &R, alloc: Global, board: &Board, desks: &mut [Desk]) -
 }
 
 /// A board of sixteen desks over the dense dump.
-fn sixteen_desks(alloc: Global, graph: &Arc<Graph>) -> Option<(Board, Vec<Desk>)> {
-    open(alloc, Arc::try_clone(graph).ok()?, 16).ok()
+fn sixteen_desks<R: Threads + Sync>(
+    rt: &R,
+    alloc: Global,
+    graph: &Arc<Graph>,
+) -> Option<(Board, Vec<Desk>)> {
+    open(rt, alloc, Arc::try_clone(graph).ok()?, 16).ok()
 }
 
 #[test]
 fn sixteen_threads(rt: HostRuntime) -> Result<(), Fail> {
     let alloc = rt.alloc();
     let graph = graph_of(&rt, alloc, DENSE).ok_or("the dump opens")?;
-    let (board, mut desks) = sixteen_desks(alloc, &graph).ok_or("the board opens")?;
+    let (board, mut desks) = sixteen_desks(&rt, alloc, &graph).ok_or("the board opens")?;
     let wrong = AtomicU64::new(0);
     thread::for_each_mut(
         &rt,

@@ -91,7 +91,7 @@ fn four_desks<R: RandomSource + Threads + Sync>(
     alloc: Global,
 ) -> Option<(Board, Vec<Desk>)> {
     let graph = graph_of(rt, alloc, TWO_ARRAYS)?;
-    open(alloc, graph, 4).ok()
+    open(rt, alloc, graph, 4).ok()
 }
 
 /// Ten added roots by one desk. Those that are done are counted.

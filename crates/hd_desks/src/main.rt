@@ -20,7 +20,7 @@ fn two_desks<R: RandomSource + Threads + Sync>(
     alloc: Global,
 ) -> Option<(Board, Vec<Desk>)> {
     let graph = graph_of(rt, alloc, TWO_ARRAYS)?;
-    open(alloc, graph, 2).ok()
+    open(rt, alloc, graph, 2).ok()
 }
 
 /// Prints what an edit or an undo did.

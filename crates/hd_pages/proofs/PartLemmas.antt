@@ -1,6 +1,6 @@
 -- Lists in parts: where an item is, and what a write to it and a further part change.
-use Rattle.std.proofs.Common.{◌≡◌, ◌∙◌, ℕ, zero, suc, ◌+◌, ◌-◌, ◌*◌, ◌/◌, ◌%◌, ◌<◌, ◌≤◌, ◌⊎◌, inl, inr, List, [], ◌∷◌, ◌++◌, length, map, get_or, set, slice_get, Result, Ok, Err, OnErr, sym, ap, refl, arith, length-append}
-use Rattle.std.proofs.lemmas.List.{append_assoc, append-nil, set-append_left, set-append_right, length-set, length-map, get_or-map, map-set, map_push, set-get_or}
+use Rattle.std.proofs.Common.{◌≡◌, ◌∙◌, ℕ, zero, suc, ◌+◌, ◌-◌, ◌*◌, ◌/◌, ◌%◌, ◌<◌, ◌≤◌, ◌⊎◌, inl, inr, List, [], ◌∷◌, ◌++◌, length, map, reverse, get_or, set, slice_get, Result, Ok, Err, OnErr, sym, ap, refl, arith, length-append}
+use Rattle.std.proofs.lemmas.List.{append_assoc, append-nil, set-append_left, set-append_right, length-set, length-map, length-reverse, reverse-append, get_or-map, map-set, map_push, set-get_or}
 use Rattle.hd_pages.specs.Parts.{joined, IsFilled}
 
 -- what holds on both sides
@@ -161,3 +161,21 @@ module _ {A X : Type 0} (f : A → List X) (ks vs : List A) (k : A) (p : List X)
 
   pub IsFilled_last : (n : ℕ) → AreFull n (map f ks) → length p ≤ n → IsFilled n (map f vs)
   IsFilled_last n are le = rw kept_push (IsFilled-push n (map f ks) p are le)
+
+-- one more part p before the others, kept by k, where the parts are kept from the last one on
+module _ {A X : Type 0} (f : A → List X) (ks vs : List A) (k : A) (p : List X) (is : vs ≡ ks ++ k ∷ []) (keeps : f k ≡ p) where
+  kept_front : map f (reverse vs) ≡ p ∷ map f (reverse ks)
+  kept_front =
+      ap (λ (xs : List A). map f (reverse xs)) is
+      ∙ ap (map f) (reverse-append ks (k ∷ []))
+      ∙ ap (λ (q : List X). q ∷ map f (reverse ks)) keeps
+
+  pub held_front : (rest before items : List X) → rest ++ joined (map f (reverse ks)) ≡ items → before ++ p ≡ rest → before ++ joined (map f (reverse vs)) ≡ items
+  held_front rest before items held more =
+      ap (λ (ps : List (List X)). before ++ joined ps) kept_front
+      ∙ sym (append_assoc before p (joined (map f (reverse ks))))
+      ∙ ap (λ (xs : List X). xs ++ joined (map f (reverse ks))) more
+      ∙ held
+
+  pub IsFilled_front : (n : ℕ) → IsFilled n (map f (reverse ks)) → length p ≤ n → (0 < length ks → length p ≡ n) → IsFilled n (map f (reverse vs))
+  IsFilled_front n are le whole = rw kept_front (le, λ more. whole (omega (arith, more, length-map (reverse ks) f, length-reverse ks)), are)

@@ -35,7 +35,8 @@ impl<T> Model for Pages<T> {
 }
 
 impl<T: Copy> Pages<T> {
-    /// The list of the items of a `Vec`.
+    /// The list of the items of a `Vec`, which are moved group by group, the last one first: what the `Vec` has left is given
+    /// back to the system on the way, so that the items are never in memory twice.
     ///
     /// # Errors
     ///
@@ -44,15 +45,18 @@ impl<T: Copy> Pages<T> {
         requires { length items.items < 2 ^ 32 }
         ensures { IfOk result (λ p. p ≡ items.items) }
     {
-        let mut groups = Vec::with_capacity(alloc, items.len().div_ceil(GROUP).max(1))?;
-        let mut rest: &[T] = &items;
-        while rest.len() > GROUP {
-            let (group, after) = rest.split_at(GROUP);
-            groups.push(Arc::new(alloc, Group::of_slice(alloc, group)?)?)?;
-            rest = after;
-        }
-        groups.push(Arc::new(alloc, Group::of_slice(alloc, rest)?)?)?;
         let len = items.len() as u32;
+        let mut groups = Vec::with_capacity(alloc, items.len() / GROUP + 1)?;
+        let mut rest = items;
+        while rest.len() > GROUP {
+            let start = (rest.len() - 1) / GROUP * GROUP;
+            let (_, last) = rest.split_at(start);
+            groups.push(Arc::new(alloc, Group::of_slice(alloc, last)?)?)?;
+            rest.truncate(start);
+            rest.shrink_to_fit();
+        }
+        groups.push(Arc::new(alloc, Group::of_slice(alloc, &rest)?)?)?;
+        groups.reverse();
         Ok(Pages { groups, len })
     }
 

@@ -101,11 +101,15 @@ pub fn open_bytes<T: AllocGlobal + RandomSource + Threads + Sync>(
 /// # Errors
 ///
 /// Memory ran out.
-pub fn open_alone(alloc: Global, graph: Arc<Graph>) -> Result<(Board, Desk), NoMemory>
+pub fn open_alone<T: Threads + Sync>(
+    rt: &T,
+    alloc: Global,
+    graph: Arc<Graph>,
+) -> Result<(Board, Desk), NoMemory>
     ensures board { IfOk result (λ r. r.0 ≡ opened_board (arc_value graph) 1) }
     ensures desk { IfOk result (λ r. r.1 ≡ opened_desk (arc_value graph) 0) }
 {
-    let (board, mut desks) = open(alloc, graph, 1)?;
+    let (board, mut desks) = open(rt, alloc, graph, 1)?;
     match desks.pop() {
         Some(desk) => Ok((board, desk)),
         None => Err(NoMemory),
@@ -156,7 +160,7 @@ pub fn run_bytes<T: AllocGlobal + RandomSource + Threads + Wait + Sync, R: BufRe
     ensures { RunsDump mode bytes.now (R.remaining input.old) (R.remaining input.new) (W.contents output.old) (W.contents output.new) result }
 {
     let graph = open_bytes(rt, bytes, workers, mode)?;
-    let (board, desk) = open_alone(rt.alloc(), graph)?;
+    let (board, desk) = open_alone(rt, rt.alloc(), graph)?;
     serve_alone(rt, rt.alloc(), board, desk, input, output)?;
     Ok(())
 }

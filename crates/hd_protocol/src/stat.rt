@@ -1,6 +1,8 @@
 //! The counts of a dump, and the totals of each strength.
-ghost use Rattle.std.specs.Prelude.{◌≡◌, ◌≤◌, ◌∷◌, ◌++◌, string_bytes, decimal, IfErr, IfOk, OnOk};
+ghost use Rattle.std.specs.Prelude.{◌≡◌, ◌≤◌, [], ◌∷◌, ◌++◌, string_bytes, decimal, IfErr, IfOk, OnOk};
 ghost use Rattle.std.specs.List.{flat_map};
+ghost use Rattle.hd_terms.specs.Counts.{counts_of};
+ghost use Rattle.hd_terms.specs.Totals.{IsTotal};
 ghost use Rattle.hd_terms.specs.Workers.{IsWorkers};
 ghost use Rattle.hd_terms.specs.declared.Strength.{Strength as OneStrength};
 ghost use Rattle.hd_terms.specs.Replies.{with_newline, strength_name};
@@ -20,7 +22,7 @@ use std::alloc::{AllocError, Global};
 use std::fmt::Write as _;
 use std::io::Write;
 use std::random::RandomSource;
-use std::thread::Threads;
+use std::thread::{Threads, join};
 
 /// Puts the lines of counts behind a text.
 fn put_counts(text: &mut String, counts: Counts) -> Result<(), AllocError>
@@ -82,13 +84,23 @@ fn put_totals(text: &mut String, totals: &StrengthTotals) -> Result<(), AllocErr
     Ok(())
 }
 
-/// The counts of a dump, and the totals of each strength with no edit.
-fn stat_text(alloc: Global, graph: &Graph) -> Result<String, NoMemory>
+/// The counts of a dump, and the totals of each strength with no edit. The slots are counted while the strengths are
+/// computed; where the system refuses a thread, one after the other.
+fn stat_text<T: Threads + Sync>(rt: &T, alloc: Global, graph: &Graph) -> Result<String, NoMemory>
     ensures { IfOk result (λ text. IsStat graph.now (string_bytes text)) }
 {
-    let totals = opening_totals(alloc, graph)?;
+    let (totals, counts) = join(
+        rt,
+        || -> Result<StrengthTotals, NoMemory>
+            ensures { IfOk result (λ t. (s : OneStrength) → IsTotal graph.entry.now [] s (total_for t s).count (total_for t s).bytes) }
+        { opening_totals(alloc, graph) },
+        || -> Counts
+            ensures { result ≡ counts_of graph.entry.now }
+        { graph.counts() },
+    );
+    let totals = totals?;
     let mut text = String::new(alloc);
-    put_counts(&mut text, graph.counts())?;
+    put_counts(&mut text, counts)?;
     put_totals(&mut text, &totals)?;
     Ok(text)
 }
@@ -107,7 +119,7 @@ fn stat_of_bytes<T: AllocGlobal + RandomSource + Threads + Sync>(
 {
     let graph = open_bytes(rt, bytes.as_slice(), workers, mode)?;
     drop(bytes);
-    let text = stat_text(rt.alloc(), &graph)?;
+    let text = stat_text(rt, rt.alloc(), &graph)?;
     Ok(text)
 }
 

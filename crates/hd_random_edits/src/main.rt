@@ -70,7 +70,7 @@ fn taken_by_dump<R: RandomSource + Threads + Sync>(
 ) -> Option<u32> {
     let text = random_dump(alloc, random).ok()?;
     let graph = graph_in(rt, alloc, text.as_str(), mode)?;
-    let state = State::open(alloc, graph).ok()?;
+    let state = State::open(rt, alloc, graph).ok()?;
     taken_events(alloc, state, random)
 }
 

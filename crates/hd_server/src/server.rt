@@ -38,7 +38,7 @@ pub fn serve_on<R: Threads + Wait + Sync, W: Write>(
     ensures ok { OnOk result (PrintsLog (opened_board (arc_value graph) n) (W.contents output.old) (W.contents output.new)) }
     ensures err { IfErr result (λ fault. fault ≢ ServeOnFault.Write → Keeps (W.contents output.old) (W.contents output.new)) }
 {
-    let (board, mut desks) = open(alloc, graph, n)?;
+    let (board, mut desks) = open(rt, alloc, graph, n)?;
     attend_all(rt, alloc, listener, &board, desks.as_mut_slice())?;
     close_and_print(alloc, board, desks.as_slice(), output)
 }

@@ -3,3 +3,4 @@ pub mod Solution
 pub mod StateInside
 pub mod MarkInside
 pub mod Done
+pub mod Opening

@@ -1,15 +1,14 @@
-//! What states are made of: a log with what its live edits take away and add, and what is kept of the objects.
-ghost use Rattle.std.specs.Prelude.{◌≡◌, ℕ, ◌+◌, ◌*◌, ◌≤◌, [], length, IfOk};
+//! What states are made of: a log with what its live edits take away and add, what is kept of the objects, and reverse rows.
+ghost use Rattle.std.specs.Prelude.{◌≡◌, [], IfOk};
 ghost use Rattle.std.specs.Arc.{arc_value};
-ghost use Rattle.hd_terms.specs.Kept.{AreKept};
-ghost use Rattle.hd_terms.specs.Settled.{reached_at};
+ghost use Rattle.hd_reverse.specs.Reverse.{IsReverseOf};
 ghost use Rattle.hd_strength.specs.Removed.{IsRemovedBy};
-ghost use Rattle.hd_totals.specs.LastChanges.{AreLastChanges};
-ghost use Rattle.hd_totals.specs.Totals.{AreTotals};
 ghost use Rattle.hd_view.specs.Added.{IsAddedBy};
+ghost use Rattle.hd_state.specs.Opening.{IsKeptOf};
 
 use hd_graph::Graph;
 use hd_log::Front;
+use hd_reverse::ReverseRows;
 use hd_strength::{Removed, from_removed};
 use hd_supports::Supports;
 use hd_terms::{NoMemory, settled_supports_give_strengths};
@@ -17,6 +16,7 @@ use hd_totals::{GroupTotals, LastChanges};
 use hd_view::AddedRoots;
 use std::alloc::Global;
 use std::sync::Arc;
+use std::thread::{Threads, join};
 
 /// A log, what its live edits take away, and the roots that its events add.
 #[derive(Drop)]
@@ -62,10 +62,7 @@ impl KeptParts {
     ) -> Result<KeptParts, NoMemory>
         requires empty { log.now.front ≡ [] }
         requires removed { IsRemovedBy graph.now log.now.front (arc_value log.now.removed) }
-        ensures kept { IfOk result (λ parts. AreKept graph.now log.now.front (arc_value parts.supports)) }
-        ensures stamps { IfOk result (λ parts. (o : ℕ) → (reached_at (arc_value parts.supports) o).stamp ≤ (length log.now.front + 1) * length graph.now.objects) }
-        ensures changes { IfOk result (λ parts. AreLastChanges graph.now log.now.front (arc_value parts.supports) (arc_value parts.last_changes)) }
-        ensures totals { IfOk result (λ parts. AreTotals graph.now (arc_value parts.supports) (arc_value parts.totals)) }
+        ensures { IfOk result (IsKeptOf graph.now log.now.front) }
     {
         settled_supports_give_strengths();
         let strengths = from_removed(alloc, graph, &log.front, &log.removed)?;
@@ -78,4 +75,31 @@ impl KeptParts {
             totals: Arc::new(alloc, totals)?,
         })
     }
+}
+
+/// What is kept of the objects of a graph under the log with no event, and the graph's reverse rows. Neither needs the other, so
+/// they are made side by side; where the system refuses a thread, one after the other.
+pub(crate) fn kept_and_reverse<R: Threads + Sync>(
+    rt: &R,
+    alloc: Global,
+    graph: &Graph,
+    log: &LogParts,
+) -> Result<(KeptParts, ReverseRows), NoMemory>
+    requires empty { log.now.front ≡ [] }
+    requires removed { IsRemovedBy graph.now log.now.front (arc_value log.now.removed) }
+    ensures kept { IfOk result (λ r. IsKeptOf graph.now log.now.front r.0) }
+    ensures reverse { IfOk result (λ r. IsReverseOf graph.now r.1) }
+{
+    let (kept, reverse) = join(
+        rt,
+        || -> Result<KeptParts, NoMemory>
+            requires empty { log.now.front ≡ [] }
+            requires removed { IsRemovedBy graph.now log.now.front (arc_value log.now.removed) }
+            ensures { IfOk result (IsKeptOf graph.entry.now log.entry.now.front) }
+        { KeptParts::from_scratch(alloc, graph, log) },
+        || -> Result<ReverseRows, NoMemory>
+            ensures { IfOk result (λ rows. IsReverseOf graph.entry.now rows) }
+        { ReverseRows::of(alloc, graph) },
+    );
+    Ok((kept?, reverse?))
 }

@@ -24,7 +24,7 @@ ghost use Rattle.hd_totals.specs.LastChanges.{AreLastChanges};
 ghost use Rattle.hd_totals.specs.Totals.{AreTotals};
 
 use crate::mark::Mark;
-use crate::parts::{KeptParts, LogParts};
+use crate::parts::{KeptParts, LogParts, kept_and_reverse};
 use hd_graph::Graph;
 use hd_log::Front;
 use hd_queries::{Chain, Solved, chain_of, fallen_ids, into_rows, member_ids, root_rows, rows_of};
@@ -41,6 +41,7 @@ use hd_view::{AddedRoots, Edited, View, edge_stands, root_stands};
 use std::alloc::Global;
 use std::marker::Model;
 use std::sync::Arc;
+use std::thread::Threads;
 
 /// What one log makes of a dump: the dump's graph and its reverse rows, which all states share, the log, what its live edits
 /// take away, the roots that its events add, the strength of each object with its support, when these last changed, and the
@@ -81,19 +82,22 @@ impl Model for State {
 }
 
 impl State {
-    /// The state of a graph under the log with no event.
+    /// The state of a graph under the log with no event. Its strengths and its reverse rows are made side by side.
     ///
     /// # Errors
     ///
     /// Memory ran out.
-    pub fn open(alloc: Global, graph: Arc<Graph>) -> Result<State, NoMemory>
+    pub fn open<R: Threads + Sync>(
+        rt: &R,
+        alloc: Global,
+        graph: Arc<Graph>,
+    ) -> Result<State, NoMemory>
         ensures dump { IfOk result (λ s. s.dump ≡ arc_value graph) }
         ensures log { IfOk result (λ s. s.log ≡ []) }
     {
         let front = Front::empty(alloc)?;
         let log = LogParts::of(alloc, &graph, front)?;
-        let kept = KeptParts::from_scratch(alloc, &graph, &log)?;
-        let reverse = ReverseRows::of(alloc, &graph)?;
+        let (kept, reverse) = kept_and_reverse(rt, alloc, &graph, &log)?;
         let reverse = Arc::new(alloc, reverse)?;
         Ok(State {
             graph,

@@ -30,7 +30,7 @@ fn links_of<R: RandomSource + Threads + Sync>(
     id: u64,
 ) -> Option<usize> {
     let graph = graph_of(rt, alloc, text)?;
-    let state = State::open(alloc, graph).ok()?;
+    let state = State::open(rt, alloc, graph).ok()?;
     let o = state.graph().index_of(id)?;
     let chain = state.chain(alloc, o).ok()??;
     Some(chain.links.len())

@@ -100,7 +100,7 @@ fn fallen_in_turn(alloc: Global, state: &State, first: u32, second: u32) -> Opti
 fn wide<R: RandomSource + Threads + Sync>(rt: &R, alloc: Global) -> Option<State> {
     let text = wide_array(alloc).ok()?;
     let graph = graph_of(rt, alloc, text.as_str())?;
-    State::open(alloc, graph).ok()
+    State::open(rt, alloc, graph).ok()
 }
 
 #[test]

@@ -30,7 +30,7 @@ type Seen = (u32, Option<Strength>, Option<LogFault>);
 /// The state of the two arrays under the empty log.
 fn opened<R: RandomSource + Threads + Sync>(rt: &R, alloc: Global) -> Option<State> {
     let graph = graph_of(rt, alloc, TWO_ARRAYS)?;
-    State::open(alloc, graph).ok()
+    State::open(rt, alloc, graph).ok()
 }
 
 /// The strength of the object of an ID.
@@ -94,7 +94,7 @@ fn totals_of_groups_in<R: RandomSource + Threads + Sync>(
     alloc: Global,
 ) -> Option<[(u64, u64); 3]> {
     let graph = graph_of(rt, alloc, GROUPS)?;
-    let state = State::open(alloc, graph).ok()?;
+    let state = State::open(rt, alloc, graph).ok()?;
     Some(strong_totals(&state))
 }
 

@@ -20,7 +20,7 @@ pub fn board_of<R: AllocGlobal + RandomSource + Threads + Sync>(
     n: u8,
 ) -> Option<(Board, Vec<Desk>)> {
     let graph = open_bytes(rt, &SAMPLE, 1, Mode::Direct).ok()?;
-    open(rt.alloc(), graph, n.clamp(1, 16)).ok()
+    open(rt, rt.alloc(), graph, n.clamp(1, 16)).ok()
 }
 
 /// Serves the lines of a text to a desk.

@@ -129,7 +129,7 @@ fn run_file<
     drop(bytes);
     let counts = graph.counts();
     status.show(rt, faults, "finding strengths");
-    let (board, desk) = open_alone(rt.alloc(), graph)?;
+    let (board, desk) = open_alone(rt, rt.alloc(), graph)?;
     status.end(rt, faults, counts.objects, counts.edges);
     serve_alone(rt, rt.alloc(), board, desk, input, output)?;
     Ok(())

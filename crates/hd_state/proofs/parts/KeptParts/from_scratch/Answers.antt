@@ -1,4 +1,4 @@
-use Rattle.std.proofs.Common.{◌≡◌, List, [], sym, subst}
+use Rattle.std.proofs.Common.{◌≡◌, List, [], sym, subst, arith}
 use Rattle.hd_terms.specs.declared.Event.{Event}
 use Rattle.hd_terms.specs.EditedDump.{standing}
 use Rattle.hd_terms.specs.Settled.{Settled}
@@ -6,8 +6,8 @@ use Rattle.hd_totals.specs.LastChanges.{AreLastChanges}
 use Rattle.hd_totals.proofs.LastChangeLemmas.{opened}
 use Rattle.hd_state.proofs.parts.KeptParts.from_scratch.Goals as goal
 
-pub returns-clause-changes : goal.returns-clause-changes
-returns-clause-changes c =
+pub returns : goal.returns
+returns c =
     let dump = c.args.graph.now in
     let log = c.args.log.now.front in
     let ks = c.in_ok-strengths.strengths in
@@ -16,4 +16,9 @@ returns-clause-changes c =
     let settled : Settled (standing dump log) ks = c.in_ok-strengths.ensures.settled in
     let changes : AreLastChanges dump log ks last = subst (λ (xs : List Event). AreLastChanges dump xs ks last) (sym empty)
     (opened c.settled_supports_give_strengths.ensures.strengths dump ks last (subst (λ (xs : List Event). Settled (standing dump xs) ks) empty settled)) in
-    rw (c.in_ok-new.ensures.ok, c.in_ok-supports.ensures, c.in_ok-new-2.ensures.ok) changes
+    record {
+      kept = rw (c.in_ok-new.ensures.ok, c.in_ok-supports.ensures) record { count = c.in_ok-strengths.ensures.count; settled = settled };
+      stamps = rw (c.in_ok-new.ensures.ok, c.in_ok-supports.ensures, empty) (λ o. omega (arith, c.in_ok-strengths.ensures.stamps o));
+      changes = rw (c.in_ok-new.ensures.ok, c.in_ok-supports.ensures, c.in_ok-new-2.ensures.ok) changes;
+      totals = rw (c.in_ok-new.ensures.ok, c.in_ok-new-3.ensures.ok) c.in_ok-totals.ensures;
+    }

@@ -1,12 +1,12 @@
 use Rattle.hd_state.proofs.state.State.open.Goals as goal
 
 pub invariant_of-result : goal.invariant_of-result
-invariant_of-result c = record {
+invariant_of-result g c = record {
   removed = rw (c.in_ok-log.ensures.log) (rw c.deref.ensures at c.in_ok-log.ensures.removed);
   added = rw (c.in_ok-log.ensures.log) (rw c.deref.ensures at c.in_ok-log.ensures.added);
-  reverse = rw c.in_ok-reverse-2.ensures.ok (rw c.deref-3.ensures at c.in_ok-reverse.ensures);
-  kept = rw c.deref-2.ensures at c.in_ok-kept.ensures.kept;
-  stamps = rw c.deref-2.ensures at c.in_ok-kept.ensures.stamps;
-  changes = rw c.deref-2.ensures at c.in_ok-kept.ensures.changes;
-  totals = rw c.deref-2.ensures at c.in_ok-kept.ensures.totals;
+  reverse = rw c.in_ok-reverse.ensures.ok (rw c.deref-2.ensures at c.in_ok-kept.ensures.reverse);
+  kept = rw c.deref-2.ensures at c.in_ok-kept.ensures.kept.kept;
+  stamps = rw c.deref-2.ensures at c.in_ok-kept.ensures.kept.stamps;
+  changes = rw c.deref-2.ensures at c.in_ok-kept.ensures.kept.changes;
+  totals = rw c.deref-2.ensures at c.in_ok-kept.ensures.kept.totals;
 }
