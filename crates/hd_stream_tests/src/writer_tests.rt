@@ -29,6 +29,7 @@ impl MeetingWriter<'_> {
                 self.met = true;
                 return;
             }
+            thread::yield_now();
         }
     }
 }
