@@ -11,6 +11,7 @@ pub mod ArrayLemmas
 pub mod SlotLemmas
 pub mod NumberLemmas
 pub mod RowLemmas
+pub mod AllRowLemmas
 pub mod TextLemmas
 pub mod ArrayRowLemmas
 pub mod InstanceLemmas

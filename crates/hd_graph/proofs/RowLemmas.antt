@@ -23,7 +23,7 @@ use Rattle.hd_graph.specs.Building.{Columns, AddsNext, FillsItem}
 use Rattle.hd_graph.proofs.GrownLemmas.{IsOver, over-same}
 use Rattle.hd_classes.proofs.FirstLemmas.{firsts-le, filter_map-le, firsts-push, firsts_from-append, firsts-map, is_known, if_new, known-map}
 
-abbrev same : ℕ → ℕ
+abbrev pub same : ℕ → ℕ
 same id = id
 
 abbrev pub id_of_entry : ObjectEntry → ℕ

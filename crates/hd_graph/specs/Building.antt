@@ -1,5 +1,6 @@
 -- What filling the rows and shapes of objects, sub-record by sub-record, comes to.
 use Rattle.std.specs.Prelude.{◌≡◌, ◌⊎◌, ◌<◌, ◌≤◌, ◌+◌, ◌^◌, ◌≢◌, ℕ, List, length, slice_get, [], ◌∷◌, ◌++◌, map, Option, Some, None, All}
+use Rattle.std.specs.List.{filter_map}
 use Rattle.hd_terms.specs.declared.IdSize.{IdSize}
 use Rattle.hd_terms.specs.declared.errors.Cause.TheVariants as causes
 use Rattle.hd_terms.specs.declared.errors.ReadFault.{ReadFault}
@@ -10,7 +11,7 @@ use Rattle.hd_classes.specs.Known.{Known}
 use Rattle.hd_graph.specs.Shapes.{ObjectShape}
 use Rattle.hd_graph.specs.PackedShapes.{shape_at, made_layout}
 use Rattle.hd_slots.specs.Table.{Table}
-use Rattle.hd_graph.specs.ArrayRows.{ObjectEntry, object_ids, entry_of_item, entries_of, item_weight, layout_shape}
+use Rattle.hd_graph.specs.ArrayRows.{ObjectEntry, object_ids, entry_of, entry_of_item, entries_of, item_weight, weight, layout_shape}
 
 -- out of memory, or the fault of the file
 abbrev pub IsReadFaultOrMemory : List ℕ → ReadFault → Type 0
@@ -46,7 +47,16 @@ pub record AddsNext (a : ObjectEntry) (weight : ℕ) (old new : Columns) : Type 
   pub next : slice_get old.table.ids (length old.table.rows) ≡ Some a.0 → Adds a weight old new
   pub other : slice_get old.table.ids (length old.table.rows) ≢ Some a.0 → new ≡ old
 
--- so is an object, if there is one
+-- an object is added, if there is one
+abbrev pub AddsEntry : Option ObjectEntry → ℕ → Columns → Columns → Type 0
+AddsEntry None weight old new = new ≡ old
+AddsEntry (Some a) weight old new = Adds a weight old new
+
+-- the object of a sub-record is added, if it is one
+abbrev pub AddsItem : KnownClasses → List ℕ → IdSize → Item → Columns → Columns → Type 0
+AddsItem known bytes size item old new = AddsEntry (entry_of_item known bytes size item) (item_weight item) old new
+
+-- an object is added where it comes next, if there is one
 abbrev pub FillsEntry : Option ObjectEntry → ℕ → Columns → Columns → Type 0
 FillsEntry None weight old new = new ≡ old
 FillsEntry (Some a) weight old new = AddsNext a weight old new
@@ -55,7 +65,17 @@ FillsEntry (Some a) weight old new = AddsNext a weight old new
 abbrev pub FillsItem : KnownClasses → List ℕ → IdSize → Item → Columns → Columns → Type 0
 FillsItem known bytes size item old new = FillsEntry (entry_of_item known bytes size item) (item_weight item) old new
 
--- the rows and shapes are those of the objects of sub-records
+-- the rows and shapes are those of the objects of all sub-records, over no IDs, and have no more IDs than the sub-records weigh
+pub record HasAllRows (known : KnownClasses) (bytes : List ℕ) (size : IdSize) (list : List Sub) (c : Columns) : Type 0 where
+  pub bytes_are : c.table.bytes ≡ bytes
+  pub size_is : c.table.size ≡ size
+  pub ids_are : c.table.ids ≡ []
+  pub rows_are : c.table.rows ≡ map (λ (a : ObjectEntry). a.1) (filter_map (entry_of known bytes size) list)
+  pub shapes_are : c.shapes ≡ map (λ (a : ObjectEntry). a.2) (filter_map (entry_of known bytes size) list)
+  pub filled : c.table.filling ≡ []
+  pub few : c.table.count ≤ weight list
+
+-- the rows and shapes are those of the objects of sub-records, the first of each ID
 pub record HasRowsOf (known : KnownClasses) (bytes : List ℕ) (size : IdSize) (list : List Sub) (c : Columns) : Type 0 where
   pub ids_are : c.table.ids ≡ object_ids list
   pub rows_are : c.table.rows ≡ map (λ (a : ObjectEntry). a.1) (entries_of known bytes size list)

@@ -1,9 +1,10 @@
 //! Filling the rows and shapes of objects, in the order of their numbers.
 ghost use Rattle.std.specs.Prelude.{◌≡◌, ◌+◌, ◌<◌, ◌-◌, ◌^◌, [], length, All, IfOk, OnOk};
+ghost use Rattle.hd_terms.specs.FirstRecords.{id_of_item};
 ghost use Rattle.hd_classes.specs.Known.{known_at};
 ghost use Rattle.hd_subs.specs.Views.{item_view, sub_view};
 ghost use Rattle.hd_graph.specs.ArrayRows.{AreWithin, IsSubWithin, object_ids, item_weight};
-ghost use Rattle.hd_graph.specs.Building.{HasNoRows, HasRowsOf, FillsItem, columns, AreLayouts, AreFewAndShort};
+ghost use Rattle.hd_graph.specs.Building.{HasNoRows, HasRowsOf, HasAllRows, AddsItem, FillsItem, columns, AreLayouts, AreFewAndShort};
 
 use crate::array_rows::{bytes_of_elements, push_array};
 use crate::class_rows::push_class;
@@ -23,8 +24,58 @@ pub(crate) struct Rows<'a> {
     pub(crate) shapes: Shapes,
 }
 
-/// Adds the row and the shape of an object, if it comes next.
+/// The ID of the object of a sub-record, if it is one.
+fn id_of(item: Item<'_>) -> Option<u64>
+    ensures { result ≡ id_of_item (item_view item.entry) }
+{
+    match item {
+        Item::Root(..) => None,
+        Item::Class(class) => Some(class.id),
+        Item::Instance { id, .. } => Some(id),
+        Item::ObjArray { id, .. } => Some(id),
+        Item::PrimArray { id, .. } => Some(id),
+    }
+}
+
+/// Adds the row and the shape of the object of a sub-record, if it is one.
 fn fill_one(
+    alloc: Global,
+    slot_table: &mut UnresolvedSlots<'_>,
+    shapes: &mut Shapes,
+    classes: &Classes,
+    sub: Sub<'_>,
+) -> Result<(), AllocError>
+    requires within { IsSubWithin slot_table.old.size slot_table.old.bytes (sub_view sub) }
+    requires room { length slot_table.old.ids + slot_table.old.count + item_weight (item_view sub.item) < 2 ^ 32 - 1 }
+    requires few { length shapes.old.objects < 2 ^ 32 - 1 }
+    requires filled { slot_table.old.filling ≡ [] }
+    requires classes { AreLayouts slot_table.old.size classes.now shapes.old.layouts }
+    ensures filled { OnOk result (AddsItem (known_at classes.now) slot_table.old.bytes slot_table.old.size (item_view sub.entry.item) (columns slot_table.old shapes.old.objects) (columns slot_table.new shapes.new.objects)) }
+    ensures classes { OnOk result (AreLayouts slot_table.old.size classes.now shapes.new.layouts) }
+{
+    let offset = sub.offset;
+    match sub.item {
+        Item::Root(..) => {}
+        Item::Class(class) => push_class(alloc, slot_table, shapes, class, offset)?,
+        Item::Instance { class, values, .. } => {
+            push_instance(alloc, slot_table, shapes, classes, class, values, offset)?;
+        }
+        Item::ObjArray { elements, .. } => {
+            let class = array_class_offset(slot_table.id_size(), offset);
+            push_array(slot_table, class, elements)?;
+            shapes.push_object_array(elements.len as u32)?;
+        }
+        Item::PrimArray { element, count, .. } => {
+            slot_table.end_row()?;
+            let bytes = bytes_of_elements(element, count);
+            shapes.push_primitive_array(element, bytes)?;
+        }
+    }
+    Ok(())
+}
+
+/// Adds the row and the shape of the object of a sub-record, if it is the object that comes next.
+fn fill_next(
     alloc: Global,
     slot_table: &mut UnresolvedSlots<'_>,
     shapes: &mut Shapes,
@@ -39,39 +90,16 @@ fn fill_one(
     ensures filled { OnOk result (FillsItem (known_at classes.now) slot_table.old.bytes slot_table.old.size (item_view sub.entry.item) (columns slot_table.old shapes.old.objects) (columns slot_table.new shapes.new.objects)) }
     ensures classes { OnOk result (AreLayouts slot_table.old.size classes.now shapes.new.layouts) }
 {
-    let offset = sub.offset;
-    match sub.item {
-        Item::Root(..) => {}
-        Item::Class(class) => {
-            if slot_table.is_next(class.id) {
-                push_class(alloc, slot_table, shapes, class, offset)?;
-            }
-        }
-        Item::Instance { id, class, values } => {
-            if slot_table.is_next(id) {
-                push_instance(alloc, slot_table, shapes, classes, class, values, offset)?;
-            }
-        }
-        Item::ObjArray { id, elements, .. } => {
-            if slot_table.is_next(id) {
-                let class = array_class_offset(slot_table.id_size(), offset);
-                push_array(slot_table, class, elements)?;
-                shapes.push_object_array(elements.len as u32)?;
-            }
-        }
-        Item::PrimArray { id, element, count } => {
-            if slot_table.is_next(id) {
-                slot_table.end_row()?;
-                let bytes = bytes_of_elements(element, count);
-                shapes.push_primitive_array(element, bytes)?;
-            }
-        }
+    if let Some(id) = id_of(sub.item)
+        && slot_table.is_next(id)
+    {
+        fill_one(alloc, slot_table, shapes, classes, sub)?;
     }
     Ok(())
 }
 
 /// Adds the row and the shape of each object, in the order of their numbers.
-fn fill_rows(
+fn fill_first_rows(
     alloc: Global,
     slot_table: &mut UnresolvedSlots<'_>,
     shapes: &mut Shapes,
@@ -86,13 +114,54 @@ fn fill_rows(
     ensures { OnOk result (HasRowsOf (known_at classes.now) slot_table.old.bytes slot_table.old.size list.now (columns slot_table.new shapes.new.objects)) }
 {
     for i in 0..list.len() {
+        fill_next(alloc, slot_table, shapes, classes, list.get(i))?;
+    }
+    Ok(())
+}
+
+/// Adds the row and the shape of the object of each sub-record that is one, whether its ID is an earlier one's or not.
+fn fill_all_rows(
+    alloc: Global,
+    slot_table: &mut UnresolvedSlots<'_>,
+    shapes: &mut Shapes,
+    classes: &Classes,
+    list: &DumpSubs<'_>,
+) -> Result<(), AllocError>
+    requires within { AreWithin slot_table.old.size slot_table.old.bytes list.now }
+    requires no_ids { slot_table.old.ids ≡ [] }
+    requires empty { HasNoRows (columns slot_table.old shapes.old.objects) }
+    requires classes { AreLayouts slot_table.old.size classes.now shapes.old.layouts }
+    ensures { OnOk result (HasAllRows (known_at classes.now) slot_table.old.bytes slot_table.old.size list.now (columns slot_table.new shapes.new.objects)) }
+{
+    for i in 0..list.len() {
         fill_one(alloc, slot_table, shapes, classes, list.get(i))?;
     }
     Ok(())
 }
 
-/// The references and the shapes of the objects of a file, by the file offsets of the references' IDs.
-pub(crate) fn rows_of<'a>(
+/// The references and the shapes of the objects of all sub-records, whether their IDs are repeated or not, over no IDs.
+pub(crate) fn all_rows_of<'a>(
+    alloc: Global,
+    classes: &Classes,
+    id_size: IdSize,
+    bytes: &'a [u8],
+    list: &DumpSubs<'_>,
+) -> Result<Rows<'a>, AllocError>
+    requires within { AreWithin id_size bytes.now list.now }
+    requires small { length bytes.now < 2 ^ 31 }
+    requires classes { AreFewAndShort classes.now }
+    ensures { IfOk result (λ rows. HasAllRows (known_at classes.now) bytes.now id_size list.now (columns rows.slot_table rows.shapes.objects)) }
+{
+    let mut shapes = Shapes::with_capacity(alloc, list.len(), classes.len())?;
+    let no_ids = ObjectIds::with_capacity(alloc, 0, 0)?;
+    let mut slot_table = UnresolvedSlots::new(alloc, bytes, id_size, no_ids)?;
+    fill_all_rows(alloc, &mut slot_table, &mut shapes, classes, list)?;
+    Ok(Rows { slot_table, shapes })
+}
+
+/// The references and the shapes of the objects of a file, by the file offsets of the references' IDs, where IDs are repeated:
+/// those of the first object of each ID.
+fn first_rows_of<'a>(
     alloc: Global,
     ids: ObjectIds,
     classes: &Classes,
@@ -110,6 +179,37 @@ pub(crate) fn rows_of<'a>(
 {
     let mut shapes = Shapes::with_capacity(alloc, ids.len(), classes.len())?;
     let mut slot_table = UnresolvedSlots::new(alloc, bytes, id_size, ids)?;
-    fill_rows(alloc, &mut slot_table, &mut shapes, classes, list)?;
+    fill_first_rows(alloc, &mut slot_table, &mut shapes, classes, list)?;
     Ok(Rows { slot_table, shapes })
+}
+
+/// The references and the shapes of the objects of these IDs, each once, by those of all sub-records. Where no ID is repeated they
+/// are the same; else they are made anew.
+pub(crate) fn rows_of<'a>(
+    alloc: Global,
+    ids: ObjectIds,
+    all: Rows<'a>,
+    classes: &Classes,
+    id_size: IdSize,
+    bytes: &'a [u8],
+    list: &DumpSubs<'_>,
+) -> Result<Rows<'a>, AllocError>
+    requires within { AreWithin id_size bytes.now list.now }
+    requires small { length bytes.now < 2 ^ 31 }
+    requires ids { ids ≡ object_ids list.now }
+    requires no_null { All (λ id. 0 < id) ids }
+    requires few { length ids < 2 ^ 31 }
+    requires classes { AreFewAndShort classes.now }
+    requires all { HasAllRows (known_at classes.now) bytes.now id_size list.now (columns all.slot_table all.shapes.objects) }
+    ensures { IfOk result (λ rows. HasRowsOf (known_at classes.now) bytes.now id_size list.now (columns rows.slot_table rows.shapes.objects)) }
+{
+    let Rows { slot_table, shapes } = all;
+    if shapes.len() == ids.len() {
+        let slot_table = slot_table.with_ids(ids);
+        return Ok(Rows { slot_table, shapes });
+    }
+    drop(slot_table);
+    drop(shapes);
+    let rows = first_rows_of(alloc, ids, classes, id_size, bytes, list)?;
+    Ok(rows)
 }

@@ -55,7 +55,7 @@ pub struct SlotRead {
     pub target: Option<u32>,
 }
 
-/// How a slot of an object is called, and what a reference in it goes through.
+/// What a slot of an object is called, and what a reference in it goes through.
 #[derive(Clone, Copy, Debug, PartialEq, Eq)]
 pub struct SlotName {
     pub slot: Slot,

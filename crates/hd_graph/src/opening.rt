@@ -1,5 +1,5 @@
 //! Opening a heap dump: the passes over its records and sub-records that make its graph.
-ghost use Rattle.std.specs.Prelude.{◌≡◌, ◌≤◌, [], IfOk, IfErr};
+ghost use Rattle.std.specs.Prelude.{◌≡◌, ◌<◌, ◌≤◌, ◌^◌, [], length, IfOk, IfErr};
 ghost use Rattle.std.specs.Arc.{arc_value};
 ghost use Rattle.hd_terms.specs.Workers.{IsWorkers};
 ghost use Rattle.hd_terms.specs.Objects.{IsDumpOf};
@@ -7,10 +7,12 @@ ghost use Rattle.hd_terms.specs.Classes.{class_table};
 ghost use Rattle.hd_terms.specs.HeapFaults.{class_faults};
 ghost use Rattle.hd_records.specs.Reading.{ReadsRecords};
 ghost use Rattle.hd_decode.specs.Bodies.{ReadsBodies};
-ghost use Rattle.hd_classes.specs.Known.{AreClassesOf};
-ghost use Rattle.hd_graph.specs.Building.{IsReadFaultOrMemory};
+ghost use Rattle.hd_classes.specs.Known.{AreClassesOf, known_at};
+ghost use Rattle.hd_graph.specs.ArrayRows.{AreWithin};
+ghost use Rattle.hd_graph.specs.Numbering.{IsNumbered, IsObjectFaultOrMemory};
+ghost use Rattle.hd_graph.specs.Building.{HasAllRows, columns, AreFewAndShort, IsReadFaultOrMemory};
 
-use crate::filling::{Rows, rows_of};
+use crate::filling::{Rows, all_rows_of, rows_of};
 use crate::graph::{Graph, Repeats};
 use crate::kinds::kinds_of;
 use crate::number::{Numbered, number};
@@ -21,11 +23,44 @@ use hd_names::names_of;
 use hd_records::{Records, read_records};
 use hd_repeats::{repeated_loads, repeated_strings};
 use hd_subs::DumpSubs;
-use hd_terms::{Mode, ReadFault};
-use std::alloc::Global;
+use hd_terms::{IdSize, Mode, ReadFault};
+use std::alloc::{AllocError, Global};
 use std::random::RandomSource;
 use std::sync::Arc;
-use std::thread::Threads;
+use std::thread::{Threads, join};
+
+/// The numbers of the objects of a file, and the rows of all its sub-records of objects. Neither needs the other, so they are made
+/// side by side; where the system refuses a thread, one after the other.
+fn numbers_and_rows<'a, R: Threads + Sync>(
+    rt: &R,
+    alloc: Global,
+    bytes: &'a [u8],
+    list: &DumpSubs<'_>,
+    classes: &Classes,
+    id_size: IdSize,
+    secret: u64,
+) -> Result<(Numbered, Rows<'a>), ReadFault>
+    requires within { AreWithin id_size bytes.now list.now }
+    requires small { length bytes.now < 2 ^ 31 }
+    requires classes { AreFewAndShort classes.now }
+    ensures numbers { IfOk result (λ r. IsNumbered (known_at classes.now) id_size list.now r.0.ids r.0.roots.items r.0.tally) }
+    ensures rows { IfOk result (λ r. HasAllRows (known_at classes.now) bytes.now id_size list.now (columns r.1.slot_table r.1.shapes.objects)) }
+    ensures err { IfErr result (λ f. IsObjectFaultOrMemory (known_at classes.now) id_size list.now f) }
+{
+    let numbers = || -> Result<Numbered, ReadFault>
+        requires { AreFewAndShort classes.now }
+        ensures ok { IfOk result (λ n. IsNumbered (known_at classes.entry.now) id_size list.entry.now n.ids n.roots.items n.tally) }
+        ensures err { IfErr result (λ f. IsObjectFaultOrMemory (known_at classes.entry.now) id_size list.entry.now f) }
+    { number(alloc, list, classes, id_size, secret) };
+    let rows = || -> Result<Rows<'_>, AllocError>
+        requires within { AreWithin id_size bytes.now list.now }
+        requires small { length bytes.now < 2 ^ 31 }
+        requires classes { AreFewAndShort classes.now }
+        ensures { IfOk result (λ rows. HasAllRows (known_at classes.entry.now) bytes.entry.now id_size list.entry.now (columns rows.slot_table rows.shapes.objects)) }
+    { all_rows_of(alloc, classes, id_size, bytes, list) };
+    let (numbered, rows) = join(rt, numbers, rows);
+    Ok((numbered?, rows?))
+}
 
 impl Graph {
     /// The graph of a file, of which these are the records, the sub-records and the classes, and this is how phantom references
@@ -56,8 +91,9 @@ impl Graph {
         let strings = repeated_strings(alloc, &records.strings, secret)?;
         let loads = repeated_loads(alloc, &records.loads, secret)?;
         let names = names_of(alloc, bytes, &records.loads, classes, secret)?;
-        let Numbered { ids, roots, tally } = number(alloc, list, classes, id_size, secret)?;
-        let Rows { slot_table, shapes } = rows_of(alloc, ids, classes, id_size, bytes, list)?;
+        let (numbered, rows) = numbers_and_rows(rt, alloc, bytes, list, classes, id_size, secret)?;
+        let Numbered { ids, roots, tally } = numbered;
+        let Rows { slot_table, shapes } = rows_of(alloc, ids, rows, classes, id_size, bytes, list)?;
         let slot_table = slot_table.resolve(rt, alloc)?;
         let kinds = kinds_of(alloc, &slot_table, &shapes)?;
         let repeats = Repeats {

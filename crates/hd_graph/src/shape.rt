@@ -98,6 +98,13 @@ impl Shapes {
         })
     }
 
+    /// How many objects there are.
+    pub(crate) fn len(&self) -> usize
+        ensures { result ≡ length self.now.objects }
+    {
+        self.kept.len()
+    }
+
     /// The shape of the object of a number.
     pub(crate) fn get(&self, o: u32) -> Shape<'_>
         requires { o < length self.now.objects }

@@ -105,6 +105,16 @@ impl<'a> UnresolvedSlots<'a> {
         next < ids.len() && ids[next] == id
     }
 
+    /// The same rows, over the objects of these IDs.
+    pub fn with_ids(self, ids: ObjectIds) -> UnresolvedSlots<'a>
+        requires few { length ids < 2 ^ 31 }
+        requires no_null { All (λ id. 0 < id) ids }
+        requires room { length ids + self.count < 2 ^ 32 }
+        ensures { result ≡ record self.entry { ids = ids } }
+    {
+        UnresolvedSlots { ids, ..self }
+    }
+
     /// The rows by numbers of objects, which are looked for on all processors.
     pub fn resolve<R: Threads + Sync>(self, rt: &R, alloc: Global) -> Result<SlotTable, AllocError>
         ensures { IfOk result (λ t. t ≡ record { ids = self.entry.ids; rows = self.entry.rows }) }

@@ -7,16 +7,19 @@ use Rattle.hd_graph.proofs.graph.Graph.build.Goals as goal
 pub names_of-requires : goal.names_of-requires
 names_of-requires g c = names-within c.args.bytes.now c.args.records.now.id_size _ _ c.args.records.now.segments c.requires.records c.args.list.now c.requires.list c.args.classes.now c.requires.classes c.requires.no_cycle
 
-pub number-requires : goal.number-requires
-number-requires g c = record { short = (few-and-short c.args.bytes.now c.args.records.now.id_size _ _ c.args.records.now.segments c.requires.records c.args.list.now c.requires.list c.args.classes.now c.requires.classes c.requires.no_cycle).short }
+pub numbers_and_rows-requires-clause-within : goal.numbers_and_rows-requires-clause-within
+numbers_and_rows-requires-clause-within g c κs within = list-within c.args.bytes.now c.args.records.now.id_size _ _ c.args.records.now.segments c.requires.records c.args.list.now c.requires.list
 
-pub returns-in_err-ids-clause-err : goal.returns-in_err-ids-clause-err
-returns-in_err-ids-clause-err g c =
-    let p = err_from_is_err_and c.from_residual-in_err-ids.result c.from_residual-in_err-ids.ensures.1 in
-    rw (p.1, p.2) (object-fault c.args.bytes.now c.args.records.now.id_size _ _ c.args.records.now.segments c.requires.records c.args.list.now c.requires.list c.args.classes.now c.requires.classes c.requires.no_cycle c.in_err-ids.field-0.0 c.in_err-ids.ensures.err)
+pub numbers_and_rows-requires-clause-classes : goal.numbers_and_rows-requires-clause-classes
+numbers_and_rows-requires-clause-classes g c κs within = few-and-short c.args.bytes.now c.args.records.now.id_size _ _ c.args.records.now.segments c.requires.records c.args.list.now c.requires.list c.args.classes.now c.requires.classes c.requires.no_cycle
+
+pub returns-in_err-numbered-clause-err : goal.returns-in_err-numbered-clause-err
+returns-in_err-numbered-clause-err g c =
+    let p = err_from_is_err_and c.from_residual-in_err-numbered.result c.from_residual-in_err-numbered.ensures.1 in
+    rw (p.1, p.2) (object-fault c.args.bytes.now c.args.records.now.id_size _ _ c.args.records.now.segments c.requires.records c.args.list.now c.requires.list c.args.classes.now c.requires.classes c.requires.no_cycle c.in_err-numbered.field-0.0 c.in_err-numbered.ensures.err)
 
 pub rows_of-requires-clause-few : goal.rows_of-requires-clause-few
-rows_of-requires-clause-few g c = few-ids c.args.bytes.now c.args.records.now.id_size _ _ c.args.records.now.segments c.requires.records c.args.list.now c.requires.list c.args.classes.now c.requires.classes c.requires.no_cycle _ _ _ c.in_ok-ids.ensures.ok
+rows_of-requires-clause-few g c = few-ids c.args.bytes.now c.args.records.now.id_size _ _ c.args.records.now.segments c.requires.records c.args.list.now c.requires.list c.args.classes.now c.requires.classes c.requires.no_cycle _ _ _ c.in_ok-numbered.ensures.numbers
 
 pub rows_of-requires-clause-within : goal.rows_of-requires-clause-within
 rows_of-requires-clause-within g c = list-within c.args.bytes.now c.args.records.now.id_size _ _ c.args.records.now.segments c.requires.records c.args.list.now c.requires.list
@@ -25,7 +28,7 @@ pub rows_of-requires-clause-classes : goal.rows_of-requires-clause-classes
 rows_of-requires-clause-classes g c = few-and-short c.args.bytes.now c.args.records.now.id_size _ _ c.args.records.now.segments c.requires.records c.args.list.now c.requires.list c.args.classes.now c.requires.classes c.requires.no_cycle
 
 pub kinds_of-requires-clause-columns : goal.kinds_of-requires-clause-columns
-kinds_of-requires-clause-columns g c = rw c.in_ok-slot_table-2.ensures (whole-columns c.args.bytes.now c.args.records.now.id_size _ _ c.args.records.now.segments c.requires.records c.args.list.now c.requires.list c.args.classes.now c.requires.classes c.requires.no_cycle _ _ _ c.in_ok-ids.ensures.ok (columns c.in_ok-slot_table.field-0.slot_table c.in_ok-slot_table.field-0.shapes.objects) c.in_ok-slot_table.ensures)
+kinds_of-requires-clause-columns g c = rw c.in_ok-slot_table-2.ensures (whole-columns c.args.bytes.now c.args.records.now.id_size _ _ c.args.records.now.segments c.requires.records c.args.list.now c.requires.list c.args.classes.now c.requires.classes c.requires.no_cycle _ _ _ c.in_ok-numbered.ensures.numbers (columns c.in_ok-slot_table.field-0.slot_table c.in_ok-slot_table.field-0.shapes.objects) c.in_ok-slot_table.ensures)
 
 pub returns-in_err-kinds-clause-err : goal.returns-in_err-kinds-clause-err
 returns-in_err-kinds-clause-err g c =
@@ -33,13 +36,13 @@ returns-in_err-kinds-clause-err g c =
     rw (p.1, p.2) (inl refl)
 
 pub new-requires-clause-columns : goal.new-requires-clause-columns
-new-requires-clause-columns g c = rw c.in_ok-slot_table-2.ensures (whole-columns c.args.bytes.now c.args.records.now.id_size _ _ c.args.records.now.segments c.requires.records c.args.list.now c.requires.list c.args.classes.now c.requires.classes c.requires.no_cycle _ _ _ c.in_ok-ids.ensures.ok (columns c.in_ok-slot_table.field-0.slot_table c.in_ok-slot_table.field-0.shapes.objects) c.in_ok-slot_table.ensures)
+new-requires-clause-columns g c = rw c.in_ok-slot_table-2.ensures (whole-columns c.args.bytes.now c.args.records.now.id_size _ _ c.args.records.now.segments c.requires.records c.args.list.now c.requires.list c.args.classes.now c.requires.classes c.requires.no_cycle _ _ _ c.in_ok-numbered.ensures.numbers (columns c.in_ok-slot_table.field-0.slot_table c.in_ok-slot_table.field-0.shapes.objects) c.in_ok-slot_table.ensures)
 
 pub new-requires-clause-small : goal.new-requires-clause-small
-new-requires-clause-small g c = small-shapes c.args.bytes.now c.args.records.now.id_size _ _ c.args.records.now.segments c.requires.records c.args.list.now c.requires.list c.args.classes.now c.requires.classes c.requires.no_cycle _ _ _ c.in_ok-ids.ensures.ok (columns c.in_ok-slot_table.field-0.slot_table c.in_ok-slot_table.field-0.shapes.objects) c.in_ok-slot_table.ensures
+new-requires-clause-small g c = small-shapes c.args.bytes.now c.args.records.now.id_size _ _ c.args.records.now.segments c.requires.records c.args.list.now c.requires.list c.args.classes.now c.requires.classes c.requires.no_cycle _ _ _ c.in_ok-numbered.ensures.numbers (columns c.in_ok-slot_table.field-0.slot_table c.in_ok-slot_table.field-0.shapes.objects) c.in_ok-slot_table.ensures
 
 pub new-requires-clause-few_roots : goal.new-requires-clause-few_roots
-new-requires-clause-few_roots g c = few-roots c.args.bytes.now c.args.records.now.id_size _ _ c.args.records.now.segments c.requires.records c.args.list.now c.requires.list c.args.classes.now c.requires.classes c.requires.no_cycle _ _ _ c.in_ok-ids.ensures.ok
+new-requires-clause-few_roots g c = few-roots c.args.bytes.now c.args.records.now.id_size _ _ c.args.records.now.segments c.requires.records c.args.list.now c.requires.list c.args.classes.now c.requires.classes c.requires.no_cycle _ _ _ c.in_ok-numbered.ensures.numbers
 
 pub returns-clause-ok : goal.returns-clause-ok
-returns-clause-ok g c = rw (c.new.ensures, c.in_ok-slot_table-2.ensures) (opened c.args.bytes.now c.args.records.now.id_size _ _ c.args.records.now.segments c.requires.records c.args.list.now c.requires.list c.args.classes.now c.requires.classes c.requires.no_cycle _ _ _ c.in_ok-ids.ensures.ok (columns c.in_ok-slot_table.field-0.slot_table c.in_ok-slot_table.field-0.shapes.objects) c.in_ok-slot_table.ensures c.args.mode _ c.in_ok-names.ensures _ _ c.in_ok-strings.ensures c.in_ok-loads.ensures)
+returns-clause-ok g c = rw (c.new.ensures, c.in_ok-slot_table-2.ensures) (opened c.args.bytes.now c.args.records.now.id_size _ _ c.args.records.now.segments c.requires.records c.args.list.now c.requires.list c.args.classes.now c.requires.classes c.requires.no_cycle _ _ _ c.in_ok-numbered.ensures.numbers (columns c.in_ok-slot_table.field-0.slot_table c.in_ok-slot_table.field-0.shapes.objects) c.in_ok-slot_table.ensures c.args.mode _ c.in_ok-names.ensures _ _ c.in_ok-strings.ensures c.in_ok-loads.ensures)

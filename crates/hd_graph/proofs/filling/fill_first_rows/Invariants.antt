@@ -3,7 +3,7 @@ use Rattle.hd_classes.specs.Known.{known_at}
 use Rattle.hd_graph.specs.ArrayRows.{object_ids}
 use Rattle.hd_graph.proofs.RowLemmas.{IsFilledSoFar}
 use Rattle.hd_graph.specs.Building.{columns, AreLayouts}
-use Rattle.hd_graph.proofs.filling.fill_rows.Given as goal
+use Rattle.hd_graph.proofs.filling.fill_first_rows.Given as goal
 
 -- the rows and shapes of the objects so far, and the layouts that were made
 abbrev pub invariant-loop-i : goal.invariant-loop-i

@@ -1,0 +1,89 @@
+-- Filling the rows and shapes of the objects of all sub-records, and what they are where no ID is repeated.
+use Rattle.std.proofs.Common.{◌≡◌, ◌∙◌, ℕ, suc, ◌+◌, ◌≤◌, List, [], ◌∷◌, ◌++◌, length, map, take, Option, Some, None, Bool, true, false, cond, refl, sym, ap, subst, arith}
+use Rattle.std.specs.List.{filter_map, cons_option, slice_get}
+use Rattle.std.proofs.lemmas.List.{append-nil, map-append, length-map}
+use Rattle.std.proofs.lemmas.List.Elements.{filter_map-append}
+use Rattle.hd_terms.specs.declared.IdSize.{IdSize}
+use Rattle.hd_terms.specs.SubRecords.{Sub}
+use Rattle.hd_terms.specs.Classes.{KnownClasses}
+use Rattle.hd_slots.specs.Table.{Table}
+use Rattle.hd_classes.specs.Firsts.{firsts, firsts_from}
+use Rattle.hd_classes.proofs.FirstLemmas.{is_known, firsts-le, firsts-map, filter_map-le}
+use Rattle.hd_graph.specs.Shapes.{ObjectShape}
+use Rattle.hd_graph.specs.ArrayRows.{ObjectEntry, object_ids, entry_of, entries_of, item_weight}
+use Rattle.hd_graph.specs.Building.{Columns, columns, AddsEntry, AddsItem, HasAllRows, HasRowsOf}
+use Rattle.hd_graph.proofs.NumberLemmas.{take-next}
+use Rattle.hd_graph.proofs.RowLemmas.{same, id_of_entry, row_of_entry, shape_of_entry, ids-of-entries, weight-push}
+
+-- one more sub-record
+module _ (known : KnownClasses) (bytes : List ℕ) (size : IdSize) (front : List Sub) (s : Sub) (old new : Columns) (h : HasAllRows known bytes size front old) where
+  abbrev so_far : List ObjectEntry
+  so_far = filter_map (entry_of known bytes size) front
+
+  by-entry : (o : Option ObjectEntry) → filter_map (entry_of known bytes size) (front ++ s ∷ []) ≡ so_far ++ cons_option o [] → AddsEntry o (item_weight s.item) old new → HasAllRows known bytes size (front ++ s ∷ []) new
+  by-entry None all same_columns =
+      let none : filter_map (entry_of known bytes size) (front ++ s ∷ []) ≡ so_far = all ∙ append-nil so_far in
+      rw same_columns (record {
+        bytes_are = h.bytes_are;
+        size_is = h.size_is;
+        ids_are = h.ids_are;
+        rows_are = h.rows_are ∙ ap (map row_of_entry) (sym none);
+        shapes_are = h.shapes_are ∙ ap (map shape_of_entry) (sym none);
+        filled = h.filled;
+        few = omega (arith, h.few, weight-push front s);
+      })
+  by-entry (Some a) all added = record {
+    bytes_are = ap (λ (t : Table). t.bytes) added.table ∙ h.bytes_are;
+    size_is = ap (λ (t : Table). t.size) added.table ∙ h.size_is;
+    ids_are = ap (λ (t : Table). t.ids) added.table ∙ h.ids_are;
+    rows_are = ap (λ (t : Table). t.rows) added.table ∙ ap (λ (rs : List (List ℕ)). rs ++ a.1 ∷ []) h.rows_are ∙ sym (map-append row_of_entry so_far (a ∷ [])) ∙ ap (map row_of_entry) (sym all);
+    shapes_are = added.shapes ∙ ap (λ (ss : List ObjectShape). ss ++ a.2 ∷ []) h.shapes_are ∙ sym (map-append shape_of_entry so_far (a ∷ [])) ∙ ap (map shape_of_entry) (sym all);
+    filled = ap (λ (t : Table). t.filling) added.table ∙ h.filled;
+    few = omega (arith, h.few, added.count, weight-push front s);
+  }
+
+  all-push : AddsItem known bytes size s.item old new → HasAllRows known bytes size (front ++ s ∷ []) new
+  all-push adds = by-entry (entry_of known bytes size s) (filter_map-append (entry_of known bytes size) front (s ∷ [])) adds
+
+pub all-next : (known : KnownClasses) (bytes : List ℕ) (size : IdSize) (list : List Sub) (i : ℕ) (s : Sub) → slice_get list i ≡ Some s → (old new : Columns)
+    → HasAllRows known bytes size (take i list) old → AddsItem known old.table.bytes old.table.size s.item old new → HasAllRows known bytes size (take (i + 1) list) new
+all-next known bytes size list i s is old new h adds =
+    let added : AddsItem known bytes size s.item old new =
+    subst (λ (n : IdSize). AddsItem known bytes n s.item old new) h.size_is (subst (λ (bs : List ℕ). AddsItem known bs old.table.size s.item old new) h.bytes_are adds) in
+    subst (λ (front : List Sub). HasAllRows known bytes size front new) (sym (take-next list i s is)) (all-push known bytes size (take i list) s old new h added)
+
+-- there are no more shapes than sub-records
+pub few-all-shapes : (known : KnownClasses) (bytes : List ℕ) (size : IdSize) (front : List Sub) (c : Columns) → HasAllRows known bytes size front c → length c.shapes ≤ length front
+few-all-shapes known bytes size front c h =
+    omega (arith, ap (λ (ss : List ObjectShape). length ss) h.shapes_are, length-map (filter_map (entry_of known bytes size) front) shape_of_entry, filter_map-le (entry_of known bytes size) front)
+
+-- where as many are the first of their keys as there are, all are
+module _ {X : Type 0} where
+  all-new : (b : Bool) (x : X) (rest xs : List X) → length (cond b rest (x ∷ rest)) ≡ suc (length xs) → length rest ≤ length xs → (length rest ≡ length xs → rest ≡ xs) → cond b rest (x ∷ rest) ≡ x ∷ xs
+  all-new true x rest xs long few same_rest = absurd (omega (arith, long, few))
+  all-new false x rest xs long few same_rest = ap (λ (r : List X). x ∷ r) (same_rest (omega (arith, long)))
+
+all-firsts : {X : Type 0} (key : X → ℕ) (before xs : List X) → length (firsts_from key before xs) ≡ length xs → firsts_from key before xs ≡ xs
+all-firsts key before [] long = refl
+all-firsts key before (x ∷ xs) long =
+    all-new (is_known key before x) x (firsts_from key (before ++ x ∷ []) xs) xs long (firsts-le key (before ++ x ∷ []) xs) (all-firsts key (before ++ x ∷ []) xs)
+
+-- where there are as many IDs as objects, all rows are those of the objects of the IDs
+module _ (known : KnownClasses) (bytes : List ℕ) (size : IdSize) (list : List Sub) (c : Columns) (ids : List ℕ) (h : HasAllRows known bytes size list c) (ids_are : ids ≡ object_ids list) (as_many : length c.shapes ≡ length ids) where
+  abbrev entries : List ObjectEntry
+  entries = filter_map (entry_of known bytes size) list
+
+  ids-by-entries : ids ≡ map id_of_entry (firsts id_of_entry entries)
+  ids-by-entries = ids_are ∙ ap (λ (xs : List ℕ). firsts same xs) (ids-of-entries known bytes size list) ∙ firsts-map same id_of_entry entries
+
+  none-repeated : entries_of known bytes size list ≡ entries
+  none-repeated =
+      all-firsts id_of_entry [] entries
+      (sym (length-map (firsts id_of_entry entries) id_of_entry) ∙ ap (λ (xs : List ℕ). length xs) (sym ids-by-entries) ∙ sym as_many ∙ ap (λ (ss : List ObjectShape). length ss) h.shapes_are ∙ length-map entries shape_of_entry)
+
+  pub rows-of-all : HasRowsOf known bytes size list (columns (record c.table { ids = ids }) c.shapes)
+  rows-of-all = record {
+    ids_are = ids_are;
+    rows_are = h.rows_are ∙ ap (map row_of_entry) (sym none-repeated);
+    shapes_are = h.shapes_are ∙ ap (map shape_of_entry) (sym none-repeated);
+  }
