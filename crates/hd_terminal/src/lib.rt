@@ -50,6 +50,11 @@ impl StatusLine {
         }
     }
 
+    /// Whether there is a terminal, so that anything is written.
+    pub fn has_terminal(&self) -> bool {
+        self.is_terminal
+    }
+
     /// The whole seconds since the work began.
     fn seconds<T: Clock>(&self, clock: &T) -> u64 {
         millis(clock).saturating_sub(self.began) / 1_000

@@ -2,6 +2,7 @@
 #![tactic(auto)]
 
 mod arguments;
+mod counts;
 mod file;
 mod program;
 #[cfg(test)]

@@ -10,6 +10,7 @@ ghost use Rattle.hdesk.specs.Tasks.{IsAnalysts};
 ghost use Rattle.hdesk.specs.Tasks.{TaskWorkers};
 
 use crate::arguments::{Opening, Serving, Task, WORKERS, read_arguments};
+use crate::counts::{end_status, shown_counts};
 use crate::file::{FileFault, read_file};
 use crate::server::{ServerFault, serve_bytes};
 use clap::Error;
@@ -127,10 +128,10 @@ fn run_file<
     status.show(rt, faults, "finding objects and references");
     let graph = open_bytes(rt, bytes.as_slice(), opening.workers, opening.mode)?;
     drop(bytes);
-    let counts = graph.counts();
     status.show(rt, faults, "finding strengths");
+    let counts = shown_counts(&graph, status);
     let (board, desk) = open_alone(rt, rt.alloc(), graph)?;
-    status.end(rt, faults, counts.objects, counts.edges);
+    end_status(status, rt, faults, counts);
     serve_alone(rt, rt.alloc(), board, desk, input, output)?;
     Ok(())
 }

@@ -7,6 +7,7 @@ ghost use Rattle.hdesk.specs.Listening.{listening_text, EndsEarly, EndsServer, P
 ghost use Rattle.hdesk.specs.Tasks.{IsAnalysts};
 
 use crate::arguments::Serving;
+use crate::counts::{end_status, shown_counts};
 use hd_graph::Graph;
 use hd_protocol::{RunFault, open_bytes};
 use hd_server::{ServeOnFault, serve_on};
@@ -139,7 +140,7 @@ where
         Err(fault) => return Err(ServerFault::Open(fault)),
     };
     drop(bytes);
-    let counts = graph.counts();
-    status.end(rt, faults, counts.objects, counts.edges);
+    let counts = shown_counts(&graph, status);
+    end_status(status, rt, faults, counts);
     serve_graph(rt, graph, serving, output)
 }
