@@ -7,7 +7,7 @@ use hd_records::{Texts, read_records};
 use hd_spell::spell;
 use hd_subs::{DumpSubs, Subs, read_segment_into};
 use hd_terms::{EdgeKind, IdSize, ReadFault, Span};
-use std::alloc::{AllocError, Global};
+use std::alloc::Global;
 use std::test::Fail;
 
 /// Whether texts lie within so many bytes.
@@ -49,52 +49,47 @@ fn classes_of(alloc: Global, bytes: &[u8]) -> Result<Classes, ReadFault> {
     Classes::build(alloc, bytes, &records, &list, 1)
 }
 
-/// The IDs of the chain of a class, if it is whole.
-fn chain_of(alloc: Global, classes: &Classes, id: u64) -> Result<Option<Vec<u64>>, AllocError> {
+/// The classes of the file that a text spells, which is as above.
+fn classes_in(alloc: Global, text: &str) -> Option<Classes> {
+    let bytes = spell(alloc, text).ok()?;
+    classes_of(alloc, bytes.as_slice()).ok()
+}
+
+/// Whether the chain of a class is whole and has these IDs.
+fn has_chain(classes: &Classes, id: u64, expected: &[u64]) -> bool {
     let Some(mut rest) = classes.chain(id) else {
-        return Ok(None);
+        return false;
     };
-    let mut ids = Vec::new(alloc);
-    for _i in 0..classes.len() {
+    for id in expected {
         match rest.split_first() {
-            Some((first, above)) => {
-                ids.push(first)?;
-                rest = above;
-            }
-            None => return Ok(Some(ids)),
+            Some((first, above)) if first == *id => rest = above,
+            _ => return false,
         }
     }
-    Ok(Some(ids))
+    rest.split_first().is_none()
 }
 
-/// The fields of the layout of a class, if its chain is whole.
-fn layout_of(
-    alloc: Global,
-    classes: &Classes,
-    id: u64,
-) -> Result<Option<Vec<LayoutField>>, AllocError> {
+/// Whether the chain of a class is whole and has these fields.
+fn has_layout(classes: &Classes, id: u64, expected: &[LayoutField]) -> bool {
     let Some(mut rest) = classes.layout(id) else {
-        return Ok(None);
+        return false;
     };
-    let mut fields = Vec::new(alloc);
+    let mut left = expected;
     for _i in 0..classes.len() {
-        match rest.split_first_class() {
-            Some((own, above)) => {
-                push_all(&mut fields, own)?;
-                rest = above;
-            }
-            None => return Ok(Some(fields)),
+        let Some((own, above)) = rest.split_first_class() else {
+            return left.is_empty();
+        };
+        if left.len() < own.len() {
+            return false;
         }
+        let (front, behind) = left.split_at(own.len());
+        if front != own {
+            return false;
+        }
+        left = behind;
+        rest = above;
     }
-    Ok(Some(fields))
-}
-
-/// Adds fields to a list.
-fn push_all(fields: &mut Vec<LayoutField>, more: &[LayoutField]) -> Result<(), AllocError> {
-    for field in more {
-        fields.push(*field)?;
-    }
-    Ok(())
+    left.is_empty()
 }
 
 /// A field of a class, by the IDs of the class and of its name and by its type.
@@ -106,19 +101,16 @@ fn field(owner: u64, name: u64, code: u8) -> LayoutField {
 fn chains_and_layouts(rt: HostRuntime) -> Result<(), Fail> {
     let text = "ids 4\nsegment\nclass 11: 107=object\nclass 12 extends 11: 108=object 109=boolean\n\
         class 13 extends 99:\n";
-    let bytes = spell(rt.alloc(), text)?;
-    let classes = classes_of(rt.alloc(), bytes.as_slice())?;
-    let chain = chain_of(rt.alloc(), &classes, 0x12)?.ok_or("the chain is whole")?;
-    let layout = layout_of(rt.alloc(), &classes, 0x12)?.ok_or("so is the layout")?;
-    let expected = [
+    let classes = classes_in(rt.alloc(), text).ok_or("the file has classes")?;
+    let layout = [
         field(0x12, 0x108, 2),
         field(0x12, 0x109, 4),
         field(0x11, 0x107, 2),
     ];
     assert_eq!(rt; classes.len(), 2);
     assert_eq!(rt; classes.index_of(0x12), Some(1));
-    assert!(rt; chain.as_slice() == [0x12, 0x11].as_slice());
-    assert!(rt; layout.as_slice() == expected.as_slice());
+    assert!(rt; has_chain(&classes, 0x12, &[0x12, 0x11]));
+    assert!(rt; has_layout(&classes, 0x12, &layout));
     assert!(rt; classes.chain(0x13).is_none());
     assert!(rt; classes.layout(0).is_none());
     Ok(())
@@ -128,14 +120,11 @@ fn chains_and_layouts(rt: HostRuntime) -> Result<(), Fail> {
 fn class_without_fields_in_a_chain(rt: HostRuntime) -> Result<(), Fail> {
     let text =
         "ids 4\nsegment\nclass 13 extends 12: 108=int\nclass 12 extends 11:\nclass 11: 107=object\n";
-    let bytes = spell(rt.alloc(), text)?;
-    let classes = classes_of(rt.alloc(), bytes.as_slice())?;
-    let chain = chain_of(rt.alloc(), &classes, 0x13)?.ok_or("the chain is whole")?;
-    let layout = layout_of(rt.alloc(), &classes, 0x13)?.ok_or("so is the layout")?;
-    let expected = [field(0x13, 0x108, 10), field(0x11, 0x107, 2)];
+    let classes = classes_in(rt.alloc(), text).ok_or("the file has classes")?;
+    let layout = [field(0x13, 0x108, 10), field(0x11, 0x107, 2)];
     assert_eq!(rt; classes.len(), 3);
-    assert!(rt; chain.as_slice() == [0x13, 0x12, 0x11].as_slice());
-    assert!(rt; layout.as_slice() == expected.as_slice());
+    assert!(rt; has_chain(&classes, 0x13, &[0x13, 0x12, 0x11]));
+    assert!(rt; has_layout(&classes, 0x13, &layout));
     Ok(())
 }
 
@@ -143,8 +132,7 @@ fn class_without_fields_in_a_chain(rt: HostRuntime) -> Result<(), Fail> {
 fn kinds_of_references(rt: HostRuntime) -> Result<(), Fail> {
     let text =
         "ids 4\nreference-names\nsegment\nreference-classes\nclass 17 extends 13: 107=object\n";
-    let bytes = spell(rt.alloc(), text)?;
-    let classes = classes_of(rt.alloc(), bytes.as_slice())?;
+    let classes = classes_in(rt.alloc(), text).ok_or("the file has classes")?;
     for (id, kind, referent) in [
         (0x11, EdgeKind::Strong, Some(0)),
         (0x12, EdgeKind::Soft, Some(0)),
@@ -166,8 +154,7 @@ fn first_names(rt: HostRuntime) -> Result<(), Fail> {
     let text =
         "ids 4\ntext 101 a/B\ntext 101 c\ntext 102 d\nload 11 101\nload 11 102\nload 12 109\n\
         segment\nclass 11:\nclass 12:\n";
-    let bytes = spell(rt.alloc(), text)?;
-    let classes = classes_of(rt.alloc(), bytes.as_slice())?;
+    let classes = classes_in(rt.alloc(), text).ok_or("the file has classes")?;
     assert_eq!(rt; classes.name(0x11), Some(Span { start: 44, len: 3 }));
     assert_eq!(rt; classes.name(0x12), None);
     assert_eq!(rt; classes.name(0x101), None);

@@ -1,6 +1,7 @@
 //! The IDs of objects, compared with a set of the library: close together, at odd addresses, far apart, and repeated.
 use hd_ids::ObjectIds;
 use indexmap::IndexSet;
+use std::alloc::AllocError;
 use std::test::Fail;
 
 /// The next number of a sequence that looks random.
@@ -22,72 +23,107 @@ fn id_at(step: u64, random: u64) -> u64 {
     }
 }
 
+/// Whether an index answers for an ID, and for the one beside it, what a set does, before and after both note it.
+fn agree(ids: &mut ObjectIds, set: &mut IndexSet<u64>, id: u64) -> Result<bool, AllocError> {
+    let before = ids.index_of(id) == set.get_index_of(&id);
+    let noted = ids.note(id)? == set.insert(id)?;
+    let after = ids.index_of(id) == set.get_index_of(&id);
+    let beside = ids.index_of(id ^ 1) == set.get_index_of(&(id ^ 1));
+    Ok(before && noted && after && beside)
+}
+
+/// Whether they agree for the IDs of so many steps.
+fn agree_for(ids: &mut ObjectIds, set: &mut IndexSet<u64>, steps: u64) -> Result<bool, AllocError> {
+    let mut random = 1;
+    for step in 0..steps {
+        random = next(random);
+        if !agree(ids, set, id_at(step, random))? {
+            return Ok(false);
+        }
+    }
+    Ok(ids.as_slice() == set.as_slice())
+}
+
 #[test]
 fn ids_as_in_a_set(rt: HostRuntime) -> Result<(), Fail> {
     let mut ids = ObjectIds::with_capacity(rt.alloc(), 0, 0x1234_5678_9abc_def1)?;
     let mut set: IndexSet<u64> = IndexSet::new(rt.alloc());
-    let mut random = 1;
-    for step in 0..20_000 {
-        random = next(random);
-        let id = id_at(step, random);
-        assert_eq!(rt; ids.index_of(id), set.get_index_of(&id));
-        assert_eq!(rt; ids.note(id)?, set.insert(id)?);
-        assert_eq!(rt; ids.index_of(id), set.get_index_of(&id));
-        assert_eq!(rt; ids.index_of(id ^ 1), set.get_index_of(&(id ^ 1)));
-    }
-    assert_eq!(rt; ids.as_slice(), set.as_slice());
+    assert!(rt; agree_for(&mut ids, &mut set, 20_000)?);
     Ok(())
+}
+
+/// Whether an ID that wasn't noted is new when it is noted, and isn't the next time.
+fn is_noted_once(ids: &mut ObjectIds, id: u64) -> Result<bool, AllocError> {
+    Ok(ids.index_of(id).is_none() && ids.note(id)? && !ids.note(id)?)
+}
+
+/// Where the IDs of steps lie.
+#[derive(Clone, Copy)]
+enum Spread {
+    /// One to a page, far from each other.
+    FarApart,
+    /// On 120 pages in turns, so that IDs of one page are 120 numbers apart.
+    InTurns,
+}
+
+/// The ID of a step.
+fn id_of(spread: Spread, step: u64) -> u64 {
+    match spread {
+        Spread::FarApart => step << 40,
+        Spread::InTurns => (step % 120)
+            .wrapping_mul(4096)
+            .wrapping_add((step / 120).wrapping_mul(8)),
+    }
+}
+
+/// Whether each of so many IDs is new, and then has the number of its step.
+fn are_noted(ids: &mut ObjectIds, spread: Spread, steps: u64) -> Result<bool, AllocError> {
+    for step in 0..steps {
+        if !is_noted_once(ids, id_of(spread, step))? {
+            return Ok(false);
+        }
+    }
+    for step in 0..steps {
+        if ids.index_of(id_of(spread, step)) != Some(step as usize) {
+            return Ok(false);
+        }
+    }
+    Ok(true)
 }
 
 /// One ID to a page, so that the rows are given up after 130 of them.
 #[test]
 fn ids_far_apart(rt: HostRuntime) -> Result<(), Fail> {
     let mut ids = ObjectIds::with_capacity(rt.alloc(), 0, 7)?;
-    for i in 0..3000u64 {
-        assert_eq!(rt; ids.note(i << 40)?, true);
-        assert_eq!(rt; ids.note(i << 40)?, false);
-    }
+    assert!(rt; are_noted(&mut ids, Spread::FarApart, 3000)?);
     assert_eq!(rt; ids.len(), 3000);
-    for i in 0..3000u64 {
-        assert_eq!(rt; ids.index_of(i << 40), Some(i as usize));
-        assert_eq!(rt; ids.index_of((i << 40) + 8), None);
-    }
+    assert_eq!(rt; ids.index_of((2999 << 40) + 8), None);
     Ok(())
-}
-
-/// The ID of a step: 120 pages in turns, so that IDs of one page are 120 numbers apart.
-fn id_in_turns(step: u64) -> u64 {
-    (step % 120)
-        .wrapping_mul(4096)
-        .wrapping_add((step / 120).wrapping_mul(8))
 }
 
 /// Numbers that are near the first of their page, and numbers that are far behind it.
 #[test]
 fn ids_in_turns(rt: HostRuntime) -> Result<(), Fail> {
     let mut ids = ObjectIds::with_capacity(rt.alloc(), 0, 3)?;
-    for step in 0..1200u64 {
-        assert_eq!(rt; ids.index_of(id_in_turns(step)), None);
-        assert_eq!(rt; ids.note(id_in_turns(step))?, true);
-        assert_eq!(rt; ids.note(id_in_turns(step))?, false);
-    }
-    for step in 0..1200u64 {
-        assert_eq!(rt; ids.index_of(id_in_turns(step)), Some(step as usize));
-    }
+    assert!(rt; are_noted(&mut ids, Spread::InTurns, 1200)?);
     Ok(())
+}
+
+/// Notes IDs, and answers the numbers that two others have then.
+fn noted(ids: &mut ObjectIds, more: &[u64]) -> Result<(Option<usize>, Option<usize>), AllocError> {
+    for id in more {
+        ids.note(*id)?;
+    }
+    Ok((ids.index_of(4095), ids.index_of(16)))
 }
 
 #[test]
 fn ids_at_the_ends(rt: HostRuntime) -> Result<(), Fail> {
     let mut ids = ObjectIds::with_capacity(rt.alloc(), 0, 0)?;
-    assert!(rt; ids.is_empty());
-    assert_eq!(rt; ids.index_of(0), None);
-    for id in [0, u64::MAX, 0, 1, u64::MAX - 7, 4096, 4095, 8] {
-        ids.note(id)?;
-    }
-    let noted = [0, u64::MAX, 1, u64::MAX - 7, 4096, 4095, 8];
-    assert_eq!(rt; ids.as_slice(), noted.as_slice());
-    assert_eq!(rt; ids.index_of(4095), Some(5));
-    assert_eq!(rt; ids.index_of(16), None);
+    assert_eq!(rt; (ids.is_empty(), ids.index_of(0)), (true, None));
+    let more = [0, u64::MAX, 0, 1, u64::MAX - 7, 4096, 4095, 8];
+    assert_eq!(rt; noted(&mut ids, &more)?, (Some(5), None));
+    let once = [0, u64::MAX, 1, u64::MAX - 7, 4096, 4095, 8];
+    assert_eq!(rt; ids.as_slice(), once.as_slice());
     Ok(())
 }

@@ -42,18 +42,14 @@ fn versions_of_a_list(rt: HostRuntime) -> Result<(), Fail> {
     put(&mut second, 1024, 5)?;
     let third = second.share(rt.alloc())?;
     put(&mut second, 1024, 6)?;
-    assert_eq!(rt; first.len(), 300_000);
-    assert_eq!(rt; at(&first, 0), Some(1));
-    assert_eq!(rt; at(&first, 1), Some(9));
-    assert_eq!(rt; at(&first, 1024), Some(9));
-    assert_eq!(rt; at(&first, 262_143), Some(9));
-    assert_eq!(rt; at(&first, 262_144), Some(2));
-    assert_eq!(rt; at(&first, 299_999), Some(3));
-    assert_eq!(rt; at(&second, 0), Some(4));
-    assert_eq!(rt; at(&second, 1024), Some(6));
-    assert_eq!(rt; at(&second, 299_999), Some(9));
-    assert_eq!(rt; at(&third, 0), Some(4));
-    assert_eq!(rt; at(&third, 1024), Some(5));
+    let ends = [0, 1, 1024, 262_143, 262_144, 299_999].map(|i| at(&first, i));
+    assert_eq!(rt;
+        ends,
+        [Some(1), Some(9), Some(9), Some(9), Some(2), Some(3)]
+    );
+    let ends = [0, 1024, 299_999].map(|i| at(&second, i));
+    assert_eq!(rt; ends, [Some(4), Some(6), Some(9)]);
+    assert_eq!(rt; (at(&third, 0), at(&third, 1024)), (Some(4), Some(5)));
     Ok(())
 }
 
