@@ -35,8 +35,8 @@ impl<T> Model for Pages<T> {
 }
 
 impl<T: Copy> Pages<T> {
-    /// The list of the items of a `Vec`, which are moved group by group, the last one first: what the `Vec` has left is given
-    /// back to the system on the way, so that the items are never in memory twice.
+    /// The list of the items of a `Vec`, which are moved group by group, the last one first. What the `Vec` has left is given back
+    /// to the system on the way, so only the items of one group are in memory twice.
     ///
     /// # Errors
     ///
