@@ -213,8 +213,8 @@ deficit-le : (ks : List Reached) → deficit_of ks ≤ length ks * 5
 deficit-le ks = sum_by-le (λ k. 5 - rank k.strength) 5 ks (λ k d lt. omega arith)
 
 -- a stamp is small
-pub stamp_room : (r : Rows) (ks0 ks : List Reached) (offers : List Offer) (changes : List StrengthChange) → IsRepairing r ks0 ks offers changes → length ks0 < 2 ^ 32 → ((o : ℕ) → (reached_at ks0 o).stamp ≤ 2 ^ 63) → (o : ℕ) → (reached_at ks o).stamp < 2 ^ 64 - 1
-stamp_room r ks0 ks offers changes h few small o = omega (arith, h.changed.stamps (2 ^ 63) small o, h.deficit, deficit-le ks0)
+pub stamp_room : (r : Rows) (ks0 ks : List Reached) (offers : List Offer) (changes : List StrengthChange) → IsRepairing r ks0 ks offers changes → length ks0 < 2 ^ 32 → ((o : ℕ) → (reached_at ks0 o).stamp ≤ 2 ^ 47) → (o : ℕ) → (reached_at ks o).stamp < 2 ^ 48 - 1
+stamp_room r ks0 ks offers changes h few small o = omega (arith, h.changed.stamps (2 ^ 47) small o, h.deficit, deficit-le ks0)
 
 -- looks at the out-edges of one more object
 pub looks_more : (f : ℕ → ℕ) (changes changes' : List StrengthChange) (d : StrengthChange) (base before after : ℕ) → changes' ≡ changes ++ d ∷ [] → before ≤ base + sum_by f (changed_objects changes) → after ≤ before + f d.object → after ≤ base + sum_by f (changed_objects changes')

@@ -28,7 +28,7 @@ pub fn gain<E: Edges>(
     gained: &[Held],
 ) -> Result<Vec<Change>, NoMemory>
     requires count { length kept.old ≡ (E.rows edges.old).objects }
-    requires room { (o : ℕ) → (reached_at kept.old o).stamp ≤ 2 ^ 63 }
+    requires room { (o : ℕ) → (reached_at kept.old o).stamp ≤ 2 ^ 47 }
     requires targets { All (λ (h : Holding). h.target < (E.rows edges.old).objects) gained.now }
     requires settled { WasSettledWithout (E.rows edges.old).standing gained.now kept.old }
     ensures same { E.rows edges.new ≡ E.rows edges.old }

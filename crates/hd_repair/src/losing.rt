@@ -49,7 +49,7 @@ pub fn lose<E: Edges>(
     lost: &[Held],
 ) -> Result<Vec<Change>, NoMemory>
     requires count { length kept.old ≡ (E.rows edges.old).objects }
-    requires room { (o : ℕ) → (reached_at kept.old o).stamp ≤ 2 ^ 63 }
+    requires room { (o : ℕ) → (reached_at kept.old o).stamp ≤ 2 ^ 47 }
     requires targets { All (λ (h : Holding). h.target < (E.rows edges.old).objects) lost.now }
     requires holders { All (λ (h : Holding). h.holder ≢ supports.Nothing) lost.now }
     requires settled { WasSettledWith (E.rows edges.old).standing lost.now kept.old }

@@ -65,9 +65,10 @@ fn offer_out<E: Edges>(
 /// The stamp of what a support holds: above that of its source.
 fn stamp_by(kept: &Supports, support: Support) -> u64
     requires within { (source : ℕ) (slot : Slot) → support ≡ supports.Edge source slot → source < length kept.now }
-    requires room { (o : ℕ) → (reached_at kept.now o).stamp < 2 ^ 64 - 1 }
+    requires room { (o : ℕ) → (reached_at kept.now o).stamp < 2 ^ 48 - 1 }
     ensures later { (source : ℕ) (slot : Slot) → support ≡ supports.Edge source slot → (reached_at kept.now source).stamp < result }
     ensures bounded { (m : ℕ) → ((o : ℕ) → (reached_at kept.now o).stamp ≤ m) → result ≤ m + 1 }
+    ensures small { result < 2 ^ 48 }
 {
     match support {
         Support::Edge { source, .. } => kept.stamp(source) + 1,
@@ -87,7 +88,7 @@ fn accept_offer<E: Edges>(
     requires target { offer.target < (E.rows edges.old).objects }
     requires count { length kept.old ≡ (E.rows edges.old).objects }
     requires backed { IsBacked (E.rows edges.old).standing kept.old offer.target offer.strength offer.support }
-    requires room { (o : ℕ) → (reached_at kept.old o).stamp < 2 ^ 64 - 1 }
+    requires room { (o : ℕ) → (reached_at kept.old o).stamp < 2 ^ 48 - 1 }
     ensures same { E.rows edges.new ≡ E.rows edges.old }
     ensures count { length kept.new ≡ length kept.old }
     ensures ok { OnOk result (
@@ -119,7 +120,7 @@ pub(crate) fn spread<E: Edges>(
     requires count { length kept.old ≡ (E.rows edges.old).objects }
     requires targets { (x : OneOffer) → Contains offers x → x.target < (E.rows edges.old).objects }
     requires spreading { IsSpreading (E.rows edges.old).standing kept.old offers NoRoot NoEdge }
-    requires room { (o : ℕ) → (reached_at kept.old o).stamp ≤ 2 ^ 63 }
+    requires room { (o : ℕ) → (reached_at kept.old o).stamp ≤ 2 ^ 47 }
     ensures same { E.rows edges.new ≡ E.rows edges.old }
     ensures count { length kept.new ≡ length kept.old }
     ensures settled { OnOk result (Settled (E.rows edges.old).standing kept.new) }

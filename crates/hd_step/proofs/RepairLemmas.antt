@@ -48,7 +48,7 @@ none_lost dump before after lost gained next h k some =
     ]
 
 -- each event raises stamps by no more than the number of objects, so all of a lawful log stay small
-pub stamps_small : (events objects : ℕ) → events ≤ 4096 → objects < 2 ^ 32 → (events + 1) * objects ≤ 2 ^ 63
+pub stamps_small : (events objects : ℕ) → events ≤ 4096 → objects < 2 ^ 32 → (events + 1) * objects ≤ 2 ^ 47
 stamps_small events objects few small = omega (arith, mul-le-mul_right objects (let le : events + 1 ≤ 4097 = omega arith in le))
 
 -- one event more

@@ -48,7 +48,7 @@ pub fn repaired(
     requires after { IsRemovedBy after.graph.now after.front.now after.removed.now }
     requires added { IsAddedBy after.graph.now after.front.now added.now }
     requires kept { AreKept before.graph.now before.front.now supports.now }
-    requires room { (o : ℕ) → (reached_at supports.now o).stamp ≤ 2 ^ 63 }
+    requires room { (o : ℕ) → (reached_at supports.now o).stamp ≤ 2 ^ 47 }
     ensures kept { IfOk result (λ r. AreKept after.entry.graph.now after.entry.front.now r.supports) }
     ensures changes { IfOk result (λ r. AreChanges supports.now r.supports r.changes.items) }
     ensures outside { IfOk result (λ r. (o : ℕ) → (InEventRegion after.entry.graph.now before.entry.front.now after.entry.front.now supports.now r.supports o → ⊥) → reached_at r.supports o ≡ reached_at supports.now o) }

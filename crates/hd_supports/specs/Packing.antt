@@ -1,7 +1,6 @@
 -- What is kept of an object, packed: each strength, support and stamp has one form in which it is stored.
 -- Source: this project.
-use Rattle.std.specs.Prelude.{◌≡◌, ℕ}
-use Rattle.hd_terms.specs.declared.slots.SlotKind.TheVariants as slot_kinds
+use Rattle.std.specs.Prelude.{◌≡◌, ℕ, ◌+◌, ◌*◌, ◌/◌, ◌%◌, ◌^◌}
 use Rattle.hd_terms.specs.declared.Strength.{Strength}
 use Rattle.hd_terms.specs.declared.Support.{Support}
 use Rattle.hd_terms.specs.declared.Support.TheVariants as supports
@@ -9,22 +8,21 @@ use Rattle.hd_terms.specs.Settled.{Reached}
 use Rattle.hd_terms.specs.SlotKinds.{slot_parts}
 use Rattle.hd_supports.specs.declared.packed_reached.How.TheVariants as hows
 use Rattle.hd_supports.specs.declared.packed_reached.PackedReached.TheInside.{Inside}
-use Rattle.hd_supports.specs.PackedReached.{support_by, IsSlotNumber}
+use Rattle.hd_supports.specs.PackedReached.{edge_from, support_by}
 
 -- what is stored, read
 abbrev pub reached_of : Inside → Reached
-reached_of h = record { strength = h.strength; support = support_by h.how h.source h.slot h.number; stamp = h.stamp }
+reached_of h = record { strength = h.strength; support = support_by h.how h.high h.low; stamp = h.stamp_high * 2 ^ 32 + h.stamp_low }
 
--- the form in which it is stored. A field that says nothing is 0, or the slot of the class
+-- the form in which it is stored. A field that says nothing is 0
 abbrev pub packed_by : Strength → Support → (stamp : ℕ) → Inside
-packed_by strength supports.Nothing stamp = record { stamp = stamp; number = 0; source = 0; how = hows.Nothing; slot = slot_kinds.OfClass; strength = strength }
-packed_by strength (supports.Root n) stamp = record { stamp = stamp; number = n; source = 0; how = hows.Root; slot = slot_kinds.OfClass; strength = strength }
-packed_by strength (supports.Edge source slot) stamp = record { stamp = stamp; number = (slot_parts slot).1; source = source; how = hows.Edge; slot = (slot_parts slot).0; strength = strength }
+packed_by strength supports.Nothing stamp = record { stamp_low = stamp % 2 ^ 32; stamp_high = stamp / 2 ^ 32; how = hows.Nothing; strength = strength; low = 0; high = 0 }
+packed_by strength (supports.Root n) stamp = record { stamp_low = stamp % 2 ^ 32; stamp_high = stamp / 2 ^ 32; how = hows.Root; strength = strength; low = n % 2 ^ 32; high = n / 2 ^ 32 }
+packed_by strength (supports.Edge source slot) stamp = record { stamp_low = stamp % 2 ^ 32; stamp_high = stamp / 2 ^ 32; how = edge_from (slot_parts slot).0; strength = strength; low = (slot_parts slot).1; high = source }
 
 abbrev pub packed_of : Reached → Inside
 packed_of k = packed_by k.strength k.support k.stamp
 
--- the number of a slot has 32 bits, and the form is that of what is read
+-- the form is that of what is read
 pub record IsPacked (h : Inside) : Type 0 where
-  pub number : IsSlotNumber h.how h.number
   pub same : packed_of (reached_of h) ≡ h

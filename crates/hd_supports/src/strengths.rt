@@ -67,7 +67,8 @@ impl Strengths {
     /// The number that orders objects of one strength: that of a source is less.
     pub fn stamp(&self, o: u32) -> u64
         requires { o < length self.now }
-        ensures { result ≡ (reached_at self.now o).stamp }
+        ensures stamp { result ≡ (reached_at self.now o).stamp }
+        ensures small { result < 2 ^ 48 }
     {
         self.kept[o as usize].stamp()
     }

@@ -82,7 +82,8 @@ impl Supports {
     /// The number that orders objects of one strength: that of a source is less.
     pub fn stamp(&self, o: u32) -> u64
         requires { o < length self.now }
-        ensures { result ≡ (reached_at self.now o).stamp }
+        ensures stamp { result ≡ (reached_at self.now o).stamp }
+        ensures small { result < 2 ^ 48 }
     {
         self.kept.get(o).stamp()
     }
@@ -99,7 +100,8 @@ impl Supports {
         support: Support,
         stamp: u64,
     ) -> Result<(), NoMemory>
-        requires { o < length self.old }
+        requires object { o < length self.old }
+        requires room { stamp < 2 ^ 48 }
         ensures count { length self.new ≡ length self.old }
         ensures whole { OnOk result (self.new ≡ slice_set self.old o (record { strength = strength; support = support; stamp = stamp })) }
         ensures here { OnOk result (reached_at self.new o ≡ record { strength = strength; support = support; stamp = stamp }) }
