@@ -1,5 +1,7 @@
 //! How many edges and roots a repair looks at.
+ghost use Rattle.std.specs.Prelude.{◌≡◌};
 ghost use Rattle.hd_step.specs.Next.{IsNextLog};
+ghost use Rattle.hd_strength.specs.Removed.{IsRemovedBy};
 
 use hd_graph::Graph;
 use hd_log::Front;
@@ -11,6 +13,22 @@ use hd_terms::{Event, NoMemory};
 use hd_view::{AddedRoots, Edited};
 use std::alloc::Global;
 
+/// How many looks the repair takes from a graph under one log to the graph under the next.
+fn looks_over(alloc: Global, before: Edited<'_>, after: Edited<'_>) -> Result<u64, NoMemory>
+    requires same { after.graph.now ≡ before.graph.now }
+    requires next { IsNextLog before.front.now after.front.now }
+    requires before { IsRemovedBy before.graph.now before.front.now before.removed.now }
+    requires after { IsRemovedBy after.graph.now after.front.now after.removed.now }
+{
+    let reverse = ReverseRows::of(alloc, after.graph)?;
+    let strengths = from_scratch(alloc, before.graph, before.front)?;
+    let supports = Supports::of(alloc, strengths)?;
+    supports.are_few();
+    let added = AddedRoots::of(alloc, after.graph, after.front)?;
+    let repair = repaired(alloc, &reverse, before, after, &added, &supports)?;
+    Ok(repair.looks)
+}
+
 /// How many looks the repair from one log of a graph to the next takes.
 fn looks_between(
     alloc: Global,
@@ -20,13 +38,8 @@ fn looks_between(
 ) -> Result<u64, NoMemory>
     requires { IsNextLog before.now after.now }
 {
-    let reverse = ReverseRows::of(alloc, graph)?;
-    let strengths = from_scratch(alloc, graph, before)?;
-    let supports = Supports::of(alloc, strengths)?;
-    supports.are_few();
     let taken_before = Removed::of(alloc, graph, before)?;
     let taken_after = Removed::of(alloc, graph, after)?;
-    let added = AddedRoots::of(alloc, graph, after)?;
     let before = Edited {
         graph,
         front: before,
@@ -37,8 +50,7 @@ fn looks_between(
         front: after,
         removed: &taken_after,
     };
-    let repair = repaired(alloc, &reverse, before, after, &added, &supports)?;
-    Ok(repair.looks)
+    looks_over(alloc, before, after)
 }
 
 /// How many looks the repair for one more event of a log takes, where the log takes the event.
