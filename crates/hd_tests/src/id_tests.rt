@@ -91,13 +91,23 @@ fn are_noted(ids: &mut ObjectIds, spread: Spread, steps: u64) -> Result<bool, Al
     Ok(true)
 }
 
+/// Whether the IDs 8 behind those of so many steps, far apart, have no number.
+fn none_behind(ids: &ObjectIds, steps: u64) -> bool {
+    for step in 0..steps {
+        if ids.index_of(id_of(Spread::FarApart, step) | 8).is_some() {
+            return false;
+        }
+    }
+    true
+}
+
 /// One ID to a page, so that the rows are given up after 130 of them.
 #[test]
 fn ids_far_apart(rt: HostRuntime) -> Result<(), Fail> {
     let mut ids = ObjectIds::with_capacity(rt.alloc(), 0, 7)?;
     assert!(rt; are_noted(&mut ids, Spread::FarApart, 3000)?);
     assert_eq!(rt; ids.len(), 3000);
-    assert_eq!(rt; ids.index_of((2999 << 40) + 8), None);
+    assert!(rt; none_behind(&ids, 3000));
     Ok(())
 }
 

@@ -42,6 +42,7 @@ fn versions_of_a_list(rt: HostRuntime) -> Result<(), Fail> {
     put(&mut second, 1024, 5)?;
     let third = second.share(rt.alloc())?;
     put(&mut second, 1024, 6)?;
+    assert_eq!(rt; first.len(), 300_000);
     let ends = [0, 1, 1024, 262_143, 262_144, 299_999].map(|i| at(&first, i));
     assert_eq!(rt;
         ends,
