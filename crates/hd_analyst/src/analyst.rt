@@ -28,12 +28,23 @@ pub(crate) struct PrivatePart {
 
 /// The desk that an analyst works at, and the marks by their numbers. Mark 0 is the desk's state as the session began. In a
 /// private part the desk is that of the part.
-#[derive(Drop)]
 pub struct Analyst<'a> {
     pub(crate) board: &'a Board,
     pub(crate) desk: Desk,
     pub(crate) marks: Vec<Mark>,
     pub(crate) private: Option<PrivatePart>,
+}
+
+impl Drop for Analyst<'_> {
+    /// Drops the fields. A derived drop would be proved anew at each place that lets go of one.
+    fn drop(self) {
+        let Self {
+            board: _,
+            desk,
+            marks,
+            private,
+        } = self;
+    }
 }
 
 impl<'a> Model for Analyst<'a> {
@@ -99,7 +110,13 @@ impl<'a> Analyst<'a> {
         ensures dump { result.dump ≡ self.entry.analyst.dump }
         ensures seen { result.seen ≡ board_log self.entry.memory }
     {
-        let Analyst { desk, private, .. } = self;
+        let Self {
+            board: _,
+            desk,
+            marks,
+            private,
+        } = self;
+        drop(marks);
         match private {
             Some(part) => part.home,
             None => desk,

@@ -24,13 +24,25 @@ use std::thread::Threads;
 /// The log of several analysts' desks over one dump, behind a lock, with what never changes: how many roots the dump has, the
 /// log from which the board began, and the numbers of its desks. The lock holds the log and nothing else, and is held for one
 /// append or one look, never while a state is stepped or a query runs.
-#[derive(Drop)]
 pub struct Board {
     log: Mutex<Front>,
     roots: u64,
     base: Front,
     first: u8,
     count: u8,
+}
+
+impl Drop for Board {
+    /// Drops the fields. A derived drop would be proved anew at each place that lets go of one.
+    fn drop(self) {
+        let Self {
+            log,
+            roots: _,
+            base,
+            first: _,
+            count: _,
+        } = self;
+    }
 }
 
 impl Model for Board {
@@ -136,13 +148,18 @@ impl Board {
         ensures ok { IfOk result (λ log. Closes self log (map numbered desks.now)) }
         ensures err { IfErr result (RefusesClose self (map numbered desks.now)) }
     {
-        let log = self.log.into_inner();
-        if !all_find(&log, self.first, self.count, desks)
-            || !are_members(&log, self.base.len(), self.first, self.count)
-        {
+        let Self {
+            log,
+            roots: _,
+            base,
+            first,
+            count,
+        } = self;
+        let log = log.into_inner();
+        if !all_find(&log, first, count, desks) || !are_members(&log, base.len(), first, count) {
             return Err(CloseFault::Mismatch(log));
         }
-        if !has_all(self.first, self.count, desks) {
+        if !has_all(first, count, desks) {
             return Err(CloseFault::MissingDesk(log));
         }
         Ok(log)

@@ -26,11 +26,21 @@ use std::sync::Wait;
 
 /// An analyst's replica: a state of the dump under some log, and what the analyst has seen of the board's log. The state's log
 /// is a beginning of what was seen.
-#[derive(Drop)]
 pub struct Desk {
     who: u8,
     seen: Front,
     state: State,
+}
+
+impl Drop for Desk {
+    /// Drops the fields. A derived drop would be proved anew at each place that lets go of one.
+    fn drop(self) {
+        let Self {
+            who: _,
+            seen,
+            state,
+        } = self;
+    }
 }
 
 /// Why the desk hasn't come to an event that it asked for.

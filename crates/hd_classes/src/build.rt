@@ -127,6 +127,7 @@ impl Classes {
         let hasher = IdHasher::new(secret);
         let source = source_of(alloc, bytes, records, list, hasher)?;
         let known = resolved_classes(alloc, &source, hasher)?;
-        Ok(Classes::new(source.texts, source.names, known))
+        let (texts, names) = source.into_names();
+        Ok(Classes::new(texts, names, known))
     }
 }

@@ -13,13 +13,23 @@ use indexmap::IndexMap;
 use std::marker::Model;
 
 /// The names of classes, and the classes whose chains are whole, numbered from 0.
-#[derive(Drop)]
 pub struct Classes {
     /// Where the first text of each ID lies.
     texts: IndexMap<u64, Span, IdHasher>,
     /// The ID of the text that is a class's name, by the class's ID.
     names: IndexMap<u64, u64, IdHasher>,
     known: IndexMap<u64, LinkedClass, IdHasher>,
+}
+
+impl Drop for Classes {
+    /// Drops the fields. A derived drop would be proved anew at each place that lets go of one.
+    fn drop(self) {
+        let Self {
+            texts,
+            names,
+            known,
+        } = self;
+    }
 }
 
 impl Model for Classes {

@@ -16,7 +16,6 @@ use indexmap::IndexMap;
 use std::alloc::{AllocError, Global};
 
 /// A file with its records and sub-records, and its texts and classes by their IDs.
-#[derive(Drop)]
 pub(crate) struct Source<'a> {
     pub(crate) bytes: &'a [u8],
     pub(crate) records: &'a Records,
@@ -27,6 +26,20 @@ pub(crate) struct Source<'a> {
     pub(crate) names: IndexMap<u64, u64, IdHasher>,
     /// The class objects, in file order.
     pub(crate) classes: IndexMap<u64, FirstClass<'a>, IdHasher>,
+}
+
+impl Drop for Source<'_> {
+    /// Drops the fields. A derived drop would be proved anew at each place that lets go of one.
+    fn drop(self) {
+        let Self {
+            bytes: _,
+            records: _,
+            list: _,
+            texts,
+            names,
+            classes,
+        } = self;
+    }
 }
 
 /// The file as classes are resolved from it.
@@ -54,6 +67,23 @@ pub(crate) fn source_of<'a>(
 }
 
 impl<'a> Source<'a> {
+    /// The texts and the class names, by their IDs.
+    pub(crate) fn into_names(self) -> (IndexMap<u64, Span, IdHasher>, IndexMap<u64, u64, IdHasher>)
+        ensures texts { result.0 ≡ self.entry.texts }
+        ensures names { result.1 ≡ self.entry.names }
+    {
+        let Self {
+            bytes: _,
+            records: _,
+            list: _,
+            texts,
+            names,
+            classes,
+        } = self;
+        drop(classes);
+        (texts, names)
+    }
+
     /// The class of an ID, if there is one; none has the ID 0.
     pub(crate) fn class_of(&self, id: u64) -> Option<&'a ClassDump>
         requires { IsSource self.now }

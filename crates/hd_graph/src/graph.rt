@@ -16,7 +16,6 @@ use hd_terms::{EdgeKind, Group, Mode, RootKind, Slot};
 use std::marker::Model;
 
 /// The objects, references and roots of a dump. Objects are numbered from 0 in file order.
-#[derive(Drop)]
 pub struct Graph {
     slot_table: SlotTable,
     shapes: Shapes,
@@ -26,6 +25,22 @@ pub struct Graph {
     mode: Mode,
     names: ClassNames,
     kinds: KindLists,
+}
+
+impl Drop for Graph {
+    /// Drops the fields. A derived drop would be proved anew at each place that lets go of one.
+    fn drop(self) {
+        let Self {
+            slot_table,
+            shapes,
+            roots,
+            repeats: _,
+            opaque: _,
+            mode: _,
+            names,
+            kinds,
+        } = self;
+    }
 }
 
 /// How many sub-records of objects and records have the ID of an earlier one.

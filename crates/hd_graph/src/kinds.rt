@@ -23,12 +23,23 @@ pub(crate) struct KeptEdge {
 const _: () = prove!(size_of::<KeptEdge>() <= 8);
 
 /// The references that go through referents, a list for each kind, in the order of their sources.
-#[derive(Drop)]
 pub(crate) struct KindLists {
     soft: Vec<KeptEdge>,
     weak: Vec<KeptEdge>,
     finals: Vec<KeptEdge>,
     phantom: Vec<KeptEdge>,
+}
+
+impl Drop for KindLists {
+    /// Drops the fields. A derived drop would be proved anew at each place that lets go of one.
+    fn drop(self) {
+        let Self {
+            soft,
+            weak,
+            finals,
+            phantom,
+        } = self;
+    }
 }
 
 impl KindLists {

@@ -41,13 +41,24 @@ const _: () = prove!(size_of::<PackedShape>() <= 8);
 
 /// The shapes of objects, in the order of their numbers. The shape that all instances of a class share is made with the first
 /// of them, so a class without instances takes four bytes.
-#[derive(Drop)]
 pub(crate) struct Shapes {
     kept: Vec<PackedShape>,
     classes: Vec<ClassShape>,
     layouts: Vec<LayoutShape>,
     /// Of each class that is known: 0 if no shape of its instances was made, and else the index of that shape plus one.
     numbers: Vec<u32>,
+}
+
+impl Drop for Shapes {
+    /// Drops the fields. A derived drop would be proved anew at each place that lets go of one.
+    fn drop(self) {
+        let Self {
+            kept,
+            classes,
+            layouts,
+            numbers,
+        } = self;
+    }
 }
 
 impl Model for Shapes {

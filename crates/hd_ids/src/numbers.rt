@@ -20,7 +20,6 @@ const FAR: u8 = 255;
 /// Objects that lie near one another in the heap mostly follow one another in the file, so their numbers are close. Of each
 /// block of 32 places the first number that is set is the base. The others are kept as their distance from it, in one byte. A
 /// number that is farther away, or less than the base, is kept by itself.
-#[derive(Drop)]
 pub(crate) struct Numbers {
     /// Of each block the number that was set first; 0 where there is none.
     bases: Vec<u32>,
@@ -28,6 +27,13 @@ pub(crate) struct Numbers {
     steps: Vec<u8>,
     /// The numbers that are too far, by their places.
     far: IndexMap<u64, u32, PageHasher>,
+}
+
+impl Drop for Numbers {
+    /// Drops the fields. A derived drop would be proved anew at each place that lets go of one.
+    fn drop(self) {
+        let Self { bases, steps, far } = self;
+    }
 }
 
 impl Model for Numbers {

@@ -14,7 +14,6 @@ use std::marker::Model;
 /// IDs by pages of the heap: the numbers of those of one page stand in one row.
 ///
 /// The rows have at most 8 numbers for each ID, and 65,536 more.
-#[derive(Drop)]
 pub(crate) struct PagedIds {
     alloc: Global,
     secret: u64,
@@ -26,6 +25,21 @@ pub(crate) struct PagedIds {
     /// The page that was noted last, and its row.
     last_page: u64,
     last_row: usize,
+}
+
+impl Drop for PagedIds {
+    /// Drops the fields. A derived drop would be proved anew at each place that lets go of one.
+    fn drop(self) {
+        let Self {
+            alloc: _,
+            secret: _,
+            ids,
+            pages,
+            numbers,
+            last_page: _,
+            last_row: _,
+        } = self;
+    }
 }
 
 impl Model for PagedIds {

@@ -9,9 +9,15 @@ use std::alloc::{AllocError, Global};
 use std::marker::Model;
 
 /// IDs by one index of them all: about 24 bytes for each, however far apart they lie.
-#[derive(Drop)]
 pub(crate) struct PlainIds {
     set: IndexSet<u64, IdHasher>,
+}
+
+impl Drop for PlainIds {
+    /// Drops the fields. A derived drop would be proved anew at each place that lets go of one.
+    fn drop(self) {
+        let Self { set } = self;
+    }
 }
 
 impl Model for PlainIds {

@@ -14,12 +14,18 @@ use std::alloc::{AllocError, Global};
 use std::marker::Model;
 
 /// The names of classes by the IDs of the classes, as the file has them.
-#[derive(Drop)]
 pub struct ClassNames {
     /// The texts that are names, one after another, each once.
     text: Vec<u8>,
     /// Which part of them is the name of the class of an ID.
     parts: IndexMap<u64, Span, IdHasher>,
+}
+
+impl Drop for ClassNames {
+    /// Drops the fields. A derived drop would be proved anew at each place that lets go of one.
+    fn drop(self) {
+        let Self { text, parts } = self;
+    }
 }
 
 impl Model for ClassNames {

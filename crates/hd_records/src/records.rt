@@ -32,7 +32,7 @@ const HEAP_DUMP_SEGMENT: u8 = 0x1c;
 const SERIAL_LEN: usize = 4;
 
 /// What the records of a file say.
-#[derive(Debug, Drop)]
+#[derive(Debug)]
 pub struct Records {
     /// What identifiers measure.
     pub id_size: IdSize,
@@ -42,6 +42,18 @@ pub struct Records {
     pub loads: Loads,
     /// Where the bodies of the segments lie.
     pub segments: Segments,
+}
+
+impl Drop for Records {
+    /// Drops the fields. A derived drop would be proved anew at each place that lets go of one.
+    fn drop(self) {
+        let Self {
+            id_size: _,
+            strings,
+            loads,
+            segments,
+        } = self;
+    }
 }
 
 /// The record that some bytes begin with, and the bytes after it.

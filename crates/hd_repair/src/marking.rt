@@ -11,10 +11,16 @@ use hd_terms::{NoMemory, Strength, Support};
 use std::alloc::Global;
 
 /// Objects that lost their support, in the order in which they were marked, and the strength that each had.
-#[derive(Drop)]
 pub(crate) struct Region {
     pub(crate) objects: Vec<u32>,
     pub(crate) strengths: Vec<Strength>,
+}
+
+impl Drop for Region {
+    /// Drops the fields. A derived drop would be proved anew at each place that lets go of one.
+    fn drop(self) {
+        let Self { objects, strengths } = self;
+    }
 }
 
 /// Marks an object, if this is what holds it: the object loses its support, and is unreachable until it gets another.

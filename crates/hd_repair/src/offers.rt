@@ -39,13 +39,25 @@ fn pop_queued(queue: &mut VecDeque<Queued>, strength: Strength) -> Option<Offer>
 }
 
 /// Offers, in a queue for each strength.
-#[derive(Drop)]
 pub(crate) struct Offers {
     strong: VecDeque<Queued>,
     soft: VecDeque<Queued>,
     weak: VecDeque<Queued>,
     finals: VecDeque<Queued>,
     phantom: VecDeque<Queued>,
+}
+
+impl Drop for Offers {
+    /// Drops the fields. A derived drop would be proved anew at each place that lets go of one.
+    fn drop(self) {
+        let Self {
+            strong,
+            soft,
+            weak,
+            finals,
+            phantom,
+        } = self;
+    }
 }
 
 impl Model for Offers {

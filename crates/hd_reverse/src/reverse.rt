@@ -14,11 +14,21 @@ use std::marker::Model;
 
 /// Of each object of a graph the slots that refer to it, in the order of their objects and indexes, and the roots of the
 /// dump on it, in their order. It takes 8 bytes a reference, 4 an object, and 8 a root.
-#[derive(Drop)]
 pub struct ReverseRows {
     starts: Vec<u32>,
     referrers: Vec<Referrer>,
     roots: NumbersByObject,
+}
+
+impl Drop for ReverseRows {
+    /// Drops the fields. A derived drop would be proved anew at each place that lets go of one.
+    fn drop(self) {
+        let Self {
+            starts,
+            referrers,
+            roots,
+        } = self;
+    }
 }
 
 impl Model for ReverseRows {

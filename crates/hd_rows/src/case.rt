@@ -7,7 +7,6 @@ use hd_terms::Mode;
 use std::alloc::{AllocError, Global};
 
 /// The case that is being run.
-#[derive(Drop)]
 pub struct Case {
     alloc: Global,
     spelling: String,
@@ -15,6 +14,20 @@ pub struct Case {
     most_workers: u32,
     mode: Mode,
     written: Vec<u8>,
+}
+
+impl Drop for Case {
+    /// Drops the fields. A derived drop would be proved anew at each place that lets go of one.
+    fn drop(self) {
+        let Self {
+            alloc: _,
+            spelling,
+            input,
+            most_workers: _,
+            mode: _,
+            written,
+        } = self;
+    }
 }
 
 impl Case {

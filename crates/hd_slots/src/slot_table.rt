@@ -13,12 +13,23 @@ pub(crate) const NULL: u32 = 0xffff_ffff;
 
 /// The references of objects: for each object a row of IDs, each kept as a number of four bytes. A number below that
 /// of the objects is the object's; `NULL` is null; any other stands for an ID that is no object's.
-#[derive(Drop)]
 pub struct SlotTable {
     ids: ObjectIds,
     starts: Vec<u32>,
     items: Vec<u32>,
     absent: Vec<u64>,
+}
+
+impl Drop for SlotTable {
+    /// Drops the fields. A derived drop would be proved anew at each place that lets go of one.
+    fn drop(self) {
+        let Self {
+            ids,
+            starts,
+            items,
+            absent,
+        } = self;
+    }
 }
 
 impl Model for SlotTable {

@@ -13,13 +13,25 @@ use std::thread::Threads;
 
 /// The references of objects as the file has them: for each object a row of IDs, each kept as its offset in the file, in four
 /// bytes.
-#[derive(Drop)]
 pub struct UnresolvedSlots<'a> {
     bytes: &'a [u8],
     id_size: IdSize,
     ids: ObjectIds,
     starts: Vec<u32>,
     offsets: Vec<u32>,
+}
+
+impl Drop for UnresolvedSlots<'_> {
+    /// Drops the fields. A derived drop would be proved anew at each place that lets go of one.
+    fn drop(self) {
+        let Self {
+            bytes: _,
+            id_size: _,
+            ids,
+            starts,
+            offsets,
+        } = self;
+    }
 }
 
 impl<'a> Model for UnresolvedSlots<'a> {
@@ -112,23 +124,36 @@ impl<'a> UnresolvedSlots<'a> {
         requires room { length ids + self.count < 2 ^ 32 }
         ensures { result ≡ record self.entry { ids = ids } }
     {
-        UnresolvedSlots { ids, ..self }
+        let Self {
+            bytes,
+            id_size,
+            ids: before,
+            starts,
+            offsets,
+        } = self;
+        drop(before);
+        UnresolvedSlots {
+            bytes,
+            id_size,
+            ids,
+            starts,
+            offsets,
+        }
     }
 
     /// The rows by numbers of objects, which are looked for on all processors.
     pub fn resolve<R: Threads + Sync>(self, rt: &R, alloc: Global) -> Result<SlotTable, AllocError>
         ensures { IfOk result (λ t. t ≡ record { ids = self.entry.ids; rows = self.entry.rows }) }
     {
-        let mut items = self.offsets;
-        let absent = resolve_offsets(
-            rt,
-            alloc,
-            &self.ids,
-            self.id_size,
-            self.bytes,
-            items.as_mut_slice(),
-        )?;
-        let slot_table = SlotTable::new(self.ids, self.starts, items, absent);
+        let Self {
+            bytes,
+            id_size,
+            ids,
+            starts,
+            offsets: mut items,
+        } = self;
+        let absent = resolve_offsets(rt, alloc, &ids, id_size, bytes, items.as_mut_slice())?;
+        let slot_table = SlotTable::new(ids, starts, items, absent);
         Ok(slot_table)
     }
 }

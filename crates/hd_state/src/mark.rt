@@ -14,12 +14,23 @@ use std::sync::Arc;
 
 /// What a log makes of a dump: the log, the strength of each object under it, and when these last changed. A mark owns these parts together with
 /// the state that it is of, and copies none of them.
-#[derive(Drop)]
 pub struct Mark {
     graph: Arc<Graph>,
     front: Front,
     supports: Arc<Supports>,
     last_changes: Arc<LastChanges>,
+}
+
+impl Drop for Mark {
+    /// Drops the fields. A derived drop would be proved anew at each place that lets go of one.
+    fn drop(self) {
+        let Self {
+            graph,
+            front,
+            supports,
+            last_changes,
+        } = self;
+    }
 }
 
 impl Model for Mark {

@@ -46,7 +46,6 @@ use std::thread::Threads;
 /// What one log makes of a dump: the dump's graph and its reverse rows, which all states share, the log, what its live edits
 /// take away, the roots that its events add, the strength of each object with its support, when these last changed, and the
 /// totals of groups, in pages that states share.
-#[derive(Drop)]
 pub struct State {
     graph: Arc<Graph>,
     reverse: Arc<ReverseRows>,
@@ -56,6 +55,22 @@ pub struct State {
     supports: Arc<Supports>,
     last_changes: Arc<LastChanges>,
     totals: Arc<GroupTotals>,
+}
+
+impl Drop for State {
+    /// Drops the fields. A derived drop would be proved anew at each place that lets go of one.
+    fn drop(self) {
+        let Self {
+            graph,
+            reverse,
+            front,
+            removed,
+            added,
+            supports,
+            last_changes,
+            totals,
+        } = self;
+    }
 }
 
 /// What an event did.

@@ -16,12 +16,23 @@ pub struct Offer {
 }
 
 /// Offers of less than the greatest strength, in a bucket for each strength, in the order in which they were made.
-#[derive(Drop)]
 pub struct Buckets {
     pub soft: VecDeque<Offer>,
     pub weak: VecDeque<Offer>,
     pub finals: VecDeque<Offer>,
     pub phantom: VecDeque<Offer>,
+}
+
+impl Drop for Buckets {
+    /// Drops the fields. A derived drop would be proved anew at each place that lets go of one.
+    fn drop(self) {
+        let Self {
+            soft,
+            weak,
+            finals,
+            phantom,
+        } = self;
+    }
 }
 
 impl Buckets {

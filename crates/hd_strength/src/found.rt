@@ -15,7 +15,6 @@ use std::marker::Model;
 ///
 /// A search asks this of the target of each reference, in no order of memory. The flags take a byte each, so most of them
 /// stay in the processor's cache.
-#[derive(Drop)]
 pub(crate) struct Found {
     kept: Vec<PackedReached>,
     reached: Vec<bool>,
@@ -23,6 +22,18 @@ pub(crate) struct Found {
     ahead: usize,
     /// The sum of what was read ahead.
     read: u32,
+}
+
+impl Drop for Found {
+    /// Drops the fields. A derived drop would be proved anew at each place that lets go of one.
+    fn drop(self) {
+        let Self {
+            kept,
+            reached,
+            ahead: _,
+            read: _,
+        } = self;
+    }
 }
 
 impl Model for Found {
@@ -92,7 +103,13 @@ impl Found {
     pub(crate) fn into_kept(self) -> Vec<PackedReached>
         ensures { result.items ≡ self }
     {
-        let Found { kept, .. } = self;
+        let Self {
+            kept,
+            reached,
+            ahead: _,
+            read: _,
+        } = self;
+        drop(reached);
         kept
     }
 }

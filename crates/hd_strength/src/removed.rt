@@ -17,11 +17,21 @@ use std::alloc::Global;
 use std::marker::Model;
 
 /// What the live edits of a log take away from a graph: references in slots, and roots.
-#[derive(Drop)]
 pub struct Removed {
     slots: IndexSet<u64>,
     cleared: Cleared,
     roots: IndexSet<u64>,
+}
+
+impl Drop for Removed {
+    /// Drops the fields. A derived drop would be proved anew at each place that lets go of one.
+    fn drop(self) {
+        let Self {
+            slots,
+            cleared: _,
+            roots,
+        } = self;
+    }
 }
 
 impl Model for Removed {

@@ -31,7 +31,7 @@ pub struct Field {
 }
 
 /// A class object. Its lists are in the order of the file.
-#[derive(Debug, Drop)]
+#[derive(Debug)]
 pub struct ClassDump {
     pub id: u64,
     /// The ID of the super class, 0 where there is none.
@@ -45,4 +45,20 @@ pub struct ClassDump {
     pub statics: Vec<Static>,
     /// The instance fields that the class itself declares.
     pub fields: Vec<Field>,
+}
+
+impl Drop for ClassDump {
+    /// Drops the fields. A derived drop would be proved anew at each place that lets go of one.
+    fn drop(self) {
+        let Self {
+            id: _,
+            super_id: _,
+            loader: _,
+            signers: _,
+            domain: _,
+            constants,
+            statics,
+            fields,
+        } = self;
+    }
 }

@@ -13,10 +13,17 @@ use std::alloc::{AllocError, Global};
 use std::marker::Model;
 
 /// Sub-records as rows, in the order in which they were added.
-#[derive(Debug, Drop)]
+#[derive(Debug)]
 pub(crate) struct SubRows {
     rows: Vec<Row>,
     classes: Vec<ClassDump>,
+}
+
+impl Drop for SubRows {
+    /// Drops the fields. A derived drop would be proved anew at each place that lets go of one.
+    fn drop(self) {
+        let Self { rows, classes } = self;
+    }
 }
 
 impl Model for SubRows {

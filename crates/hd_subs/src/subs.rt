@@ -22,13 +22,25 @@ const FIRST_ROW: u32 = 0x8000_0000;
 ///
 /// An instance or an array that can be read again from the bytes at its file offset is kept by that offset, in four bytes. So
 /// most of a dump are. All others, classes and roots among them, are kept as rows.
-#[derive(Debug, Drop)]
+#[derive(Debug)]
 pub struct Subs<'a> {
     bytes: &'a [u8],
     id_size: IdSize,
     /// Of each sub-record its file offset, or the number of its row.
     entries: Vec<u32>,
     rows: SubRows,
+}
+
+impl Drop for Subs<'_> {
+    /// Drops the fields. A derived drop would be proved anew at each place that lets go of one.
+    fn drop(self) {
+        let Self {
+            bytes: _,
+            id_size: _,
+            entries,
+            rows,
+        } = self;
+    }
 }
 
 impl<'a> Model for Subs<'a> {

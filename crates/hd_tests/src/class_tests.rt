@@ -31,7 +31,9 @@ fn subs_of<'a>(alloc: Global, bytes: &'a [u8], start: u64) -> Result<DumpSubs<'a
     if start <= 2_147_483_647 {
         read_segment_into(&mut part, body, IdSize::Four, start)?;
     }
-    list.push(part)?;
+    if part.len() > 0 {
+        list.push(part)?;
+    }
     Ok(list)
 }
 

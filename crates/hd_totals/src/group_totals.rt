@@ -20,10 +20,16 @@ use std::sync::Arc;
 
 /// How many objects of each group have each strength, and their recorded bytes. Versions share the keys of the groups,
 /// which never change, and the pages of totals that are equal.
-#[derive(Drop)]
 pub struct GroupTotals {
     pub(crate) keys: Arc<GroupKeys>,
     pub(crate) rows: Pages<StrengthTotals>,
+}
+
+impl Drop for GroupTotals {
+    /// Drops the fields. A derived drop would be proved anew at each place that lets go of one.
+    fn drop(self) {
+        let Self { keys, rows } = self;
+    }
 }
 
 impl Model for GroupTotals {

@@ -39,9 +39,15 @@ pub(crate) fn group_of_key(key: u128) -> Group
 }
 
 /// The keys of groups, each once, in the order in which they were added.
-#[derive(Drop)]
 pub(crate) struct GroupKeys {
     set: IndexSet<u128>,
+}
+
+impl Drop for GroupKeys {
+    /// Drops the fields. A derived drop would be proved anew at each place that lets go of one.
+    fn drop(self) {
+        let Self { set } = self;
+    }
 }
 
 impl Model for GroupKeys {

@@ -111,6 +111,18 @@ fn over_file<'a>(alloc: Global, name: &'a str, about: &'a str) -> Result<Command
     Ok(command)
 }
 
+/// The command that serves several analysts.
+fn serve_command<'a>(alloc: Global) -> Result<Command<'a>, AllocError> {
+    let command = over_file(
+        alloc,
+        "serve",
+        "Serve several analysts over one log: example, hdesk serve heap.hprof --port 7070 --analysts 2",
+    )?
+    .arg(port_option(alloc))?
+    .arg(analysts_option(alloc))?;
+    Ok(command)
+}
+
 /// All words that the program takes.
 fn all_words<'a>(alloc: Global) -> Result<Command<'a>, AllocError> {
     let run = over_file(
@@ -118,26 +130,20 @@ fn all_words<'a>(alloc: Global) -> Result<Command<'a>, AllocError> {
         "run",
         "Serve one analyst's lines over a dump: example, hdesk run heap.hprof",
     )?;
-    let stat = over_file(
-        alloc,
-        "stat",
-        "Print a dump's counts and totals: example, hdesk stat heap.hprof",
-    )?;
-    let serve = over_file(
-        alloc,
-        "serve",
-        "Serve several analysts over one log: example, hdesk serve heap.hprof --port 7070 --analysts 2",
-    )?
-    .arg(port_option(alloc))?
-    .arg(analysts_option(alloc))?;
     let command = Command::new(alloc, "hdesk")
         .about("A verified workbench for questions of reachability on Java heap dumps")
         .after_help(EXAMPLES)
         .no_binary_name(true)
         .subcommand_required(true)
-        .subcommand(run)?
-        .subcommand(stat)?
-        .subcommand(serve)?;
+        .subcommand(run)?;
+    let stat = over_file(
+        alloc,
+        "stat",
+        "Print a dump's counts and totals: example, hdesk stat heap.hprof",
+    )?;
+    let command = command.subcommand(stat)?;
+    let serve = serve_command(alloc)?;
+    let command = command.subcommand(serve)?;
     Ok(command)
 }
 
