@@ -3,6 +3,7 @@ ghost use Rattle.std.specs.Prelude.{◌≡◌, nat_eq, ◌<◌, ◌==◌, ℕ, [
 ghost use Rattle.std.specs.List.{IsDistinct};
 ghost use Rattle.hd_ids.specs.Noted.{is_noted, noted};
 
+use crate::finder::{Finder, FoundBy};
 use crate::paged::PagedIds;
 use crate::plain::PlainIds;
 use std::alloc::{AllocError, Global};
@@ -90,18 +91,43 @@ impl ObjectIds {
         }
     }
 
+    /// What finds the numbers of these IDs, one after another.
+    pub fn finder(&self) -> Finder<'_>
+        ensures { result ≡ self.now }
+    {
+        let by = match &self.index {
+            Index::Paged(paged) => FoundBy::Pages(paged.near()),
+            Index::Plain(plain) => FoundBy::Plain(plain),
+        };
+        Finder { by }
+    }
+
     /// Notes an ID, and answers whether it is new. Out of memory, nothing is noted.
     pub fn note(&mut self, id: u64) -> Result<bool, AllocError>
         ensures noted { OnOk result (self.new ≡ noted self.old id) }
         ensures is_new { IfOk result (λ new. new ≡ not (is_noted self.old id)) }
         ensures err { OnErr result (self.new ≡ self.old) }
     {
+        let noted = match &mut self.index {
+            Index::Plain(plain) => return plain.note(id),
+            Index::Paged(paged) => paged.note(id)?,
+        };
+        match noted {
+            Some(new) => Ok(new),
+            None => self.note_in_plain(id),
+        }
+    }
+
+    /// Notes an ID that the pages have no room for: all go over to one index. This is a function of its own, since a function
+    /// zeroes what it has room for at its beginning, and `note` runs for each object.
+    fn note_in_plain(&mut self, id: u64) -> Result<bool, AllocError>
+        ensures noted { OnOk result (self.new ≡ noted self.old id) }
+        ensures is_new { IfOk result (λ new. new ≡ not (is_noted self.old id)) }
+        ensures err { OnErr result (self.new ≡ self.old) }
+    {
         let (plain, new) = match &mut self.index {
             Index::Plain(plain) => return plain.note(id),
-            Index::Paged(paged) => match paged.note(id)? {
-                Some(new) => return Ok(new),
-                None => paged.to_plain_with(id)?,
-            },
+            Index::Paged(paged) => paged.to_plain_with(id)?,
         };
         self.index = Index::Plain(plain);
         Ok(new)

@@ -1,8 +1,10 @@
 //! The IDs of a heap dump's objects, each once, in the order in which they are first met, and the number of each.
 #![tactic(auto)]
 
+mod finder;
 mod id_hasher;
 mod ids;
+mod near;
 mod numbers;
 mod page_hasher;
 mod paged;
@@ -11,6 +13,7 @@ mod rows;
 mod scatter;
 mod seed;
 
+pub use finder::Finder;
 pub use id_hasher::IdHasher;
 pub use ids::ObjectIds;
 pub use seed::secret;

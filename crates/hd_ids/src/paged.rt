@@ -3,6 +3,7 @@ ghost use Rattle.std.specs.Prelude.{◌≡◌, nat_eq, ◌<◌, ◌==◌, ℕ, [
 ghost use Rattle.std.specs.List.{IsDistinct};
 ghost use Rattle.hd_ids.specs.Noted.{is_noted, noted};
 
+use crate::near::NearIds;
 use crate::numbers::{Numbers, ROW};
 use crate::page_hasher::PageHasher;
 use crate::plain::PlainIds;
@@ -95,6 +96,19 @@ impl PagedIds {
         ensures distinct { (o : ℕ) → o < length self.now → slice_index self.now o ≡ id → result ≡ Some o }
     {
         (number_at(&self.pages, &self.numbers, id) as usize).checked_sub(1)
+    }
+
+    /// What finds the numbers of these IDs, one after another.
+    pub(crate) fn near(&self) -> NearIds<'_>
+        ensures { result ≡ self.now }
+    {
+        NearIds {
+            ids: self.ids.as_slice(),
+            pages: &self.pages,
+            numbers: &self.numbers,
+            last_page: self.last_page,
+            last_row: self.last_row,
+        }
     }
 
     /// Notes an ID, and answers whether it is new, or `None` where rows don't serve: a further row would have too few IDs,

@@ -52,17 +52,25 @@ pub(crate) fn row_after(
     }
 }
 
-/// What stands at the place of an ID, 0 where its page has no row.
-pub(crate) fn number_at(pages: &IndexSet<u64, PageHasher>, numbers: &Numbers, id: u64) -> u32
-    requires { length pages.now.keys ≤ 2 ^ 32 }
-    ensures { result ≡ slice_index numbers.now (rows.slot_of pages.now.keys id) }
+/// What stands at the place of an ID in a row, 0 where there is no such row.
+pub(crate) fn number_in(numbers: &Numbers, row: usize, id: u64) -> u32
+    requires { row ≤ 2 ^ 32 }
+    ensures { result ≡ slice_index numbers.now (row * 512 + rows.place_of id) }
 {
-    let slot = row_of(pages, page_of(id)) * ROW + place_of(id);
+    let slot = row * ROW + place_of(id);
     if slot < numbers.len() {
         numbers.get(slot)
     } else {
         0
     }
+}
+
+/// What stands at the place of an ID, 0 where its page has no row.
+pub(crate) fn number_at(pages: &IndexSet<u64, PageHasher>, numbers: &Numbers, id: u64) -> u32
+    requires { length pages.now.keys ≤ 2 ^ 32 }
+    ensures { result ≡ slice_index numbers.now (rows.slot_of pages.now.keys id) }
+{
+    number_in(numbers, row_of(pages, page_of(id)), id)
 }
 
 /// Gives a page its row, of zeros.

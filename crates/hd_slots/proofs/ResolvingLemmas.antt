@@ -3,7 +3,7 @@ use Rattle.std.proofs.Common.{◌≡◌, ◌≢◌, ◌∙◌, ℕ, ◌+◌, ◌
 use Rattle.std.specs.List.{position}
 use Rattle.std.specs.Option.{option_map_or}
 use Rattle.std.proofs.lemmas.Bool.{cases_eq, lt-ltb, le-ltb}
-use Rattle.std.proofs.lemmas.List.{take_more, take_more_set, map-append, drop-set-lt, get_or-drop}
+use Rattle.std.proofs.lemmas.List.{take_all, take_more, take_more_set, map-append, drop-set-lt, get_or-drop, length-set}
 use Rattle.std.proofs.lemmas.List.Elements.{All-head, All-tail, All-push, All-nil, All-cons}
 use Rattle.std.proofs.lemmas.List.Quantifiers.{position-Some}
 use Rattle.std.proofs.lemmas.Grind.{drop_more_same}
@@ -13,6 +13,39 @@ use Rattle.hd_slots.specs.Table.{null_code, id_at, IsIdWithin}
 use Rattle.hd_slots.specs.Codes.{id_of_code, target_of_code, IsCode, IsLonger}
 use Rattle.hd_slots.specs.Resolving.{mark, found_for, found_code, id_of_found, IsFound}
 use Rattle.hd_slots.proofs.CodeLemmas.{null-nowhere, null-code, absent-code, id-object, codes-longer, ids-longer}
+
+-- what stands at an index, where nothing from it on has changed
+at-rest : (before items : List ℕ) (i : ℕ) → drop i items ≡ drop i before → get_or items i 0 ≡ get_or before i 0
+at-rest before items i rest =
+    ap (λ (n : ℕ). get_or items n 0) (sym (add-zero i)) ∙ sym (get_or-drop i items 0 0) ∙ ap (λ (xs : List ℕ). get_or xs 0 0) rest ∙ get_or-drop i before 0 0 ∙ ap (λ (n : ℕ). get_or before n 0) (add-zero i)
+
+module _ (f : ℕ → ℕ) (before : List ℕ) where
+  -- the numbers before an index are mapped, those from it on are as they were
+  pub record AreMapped (items : List ℕ) (i : ℕ) : Type 0 where
+    pub done : take i items ≡ map f (take i before)
+    pub rest : drop i items ≡ drop i before
+    pub len : length items ≡ length before
+
+  -- the number at the index is as it was
+  pub as-it-was : (items : List ℕ) (i : ℕ) → AreMapped items i → get_or items i 0 ≡ get_or before i 0
+  as-it-was items i h = at-rest before items i h.rest
+
+  -- it is mapped
+  pub mapped-next : (items : List ℕ) (i : ℕ) → AreMapped items i → i < length items → (x : ℕ) → x ≡ f (get_or items i 0) → AreMapped (set items i x) (i + 1)
+  mapped-next items i h lt x is = record {
+    done =
+        take_more_set items i x lt
+        ∙ ap (λ (xs : List ℕ). xs ++ x ∷ []) h.done
+        ∙ ap (λ (y : ℕ). map f (take i before) ++ y ∷ []) (is ∙ ap f (as-it-was items i h))
+        ∙ sym (map-append f (take i before) (get_or before i 0 ∷ []))
+        ∙ ap (map f) (sym (take_more before i 0 (omega (arith, lt, h.len))));
+    rest = drop-set-lt (i + 1) items i x (omega arith) ∙ drop_more_same items before i h.rest;
+    len = length-set items i x ∙ h.len;
+  }
+
+  -- all are mapped
+  pub all-mapped : (items : List ℕ) (i : ℕ) → AreMapped items i → length items ≤ i → items ≡ map f before
+  all-mapped items i h past = sym (take_all i items past) ∙ h.done ∙ ap (map f) (take_all i before (omega (arith, past, h.len)))
 
 module _ (ids bytes : List ℕ) (size : IdSize) where
   -- the ID of a number that is an object's, and of a marked offset
@@ -98,8 +131,7 @@ module _ (ids bytes : List ℕ) (size : IdSize) where
   module _ (before items absent : List ℕ) (i : ℕ) (h : ArePackedSoFar before items absent i) (lt : i < length items) (lt' : i < length before) where
     -- the number at the index is as it was found
     pub as-found : get_or items i 0 ≡ get_or before i 0
-    as-found =
-        ap (λ (n : ℕ). get_or items n 0) (sym (add-zero i)) ∙ sym (get_or-drop i items 0 0) ∙ ap (λ (xs : List ℕ). get_or xs 0 0) h.rest ∙ get_or-drop i before 0 0 ∙ ap (λ (n : ℕ). get_or before n 0) (add-zero i)
+    as-found = at-rest before items i h.rest
 
     abbrev item : ℕ
     item = get_or items i 0

@@ -1,9 +1,5 @@
 -- Lemmas on rows of IDs: one more ID, one more row, what a row holds.
-use Rattle.std.proofs.Common.{◌≡◌, ◌≢◌, ◌∙◌, ℕ, zero, suc, eqb, eq-eqb, ne_eqb, true≢false, false, Some, refl, ◌+◌, ◌-◌, ◌<◌, ◌≤◌, ◌^◌, List, [], ◌∷◌, ◌++◌, length, map, take, drop, get_or, sym, ap, subst, arith, All, length-append}
-use Rattle.std.specs.Prelude.{not}
-use Rattle.std.specs.List.{position, prefix_len, IsDistinct}
-use Rattle.std.proofs.lemmas.Bool.{lt-ltb}
-use Rattle.std.proofs.lemmas.Map.Keys.{IsDistinct-tail, apart_from_distinct}
+use Rattle.std.proofs.Common.{◌≡◌, ◌∙◌, ℕ, suc, ◌+◌, ◌-◌, ◌<◌, ◌≤◌, ◌^◌, List, [], ◌∷◌, ◌++◌, length, map, take, drop, get_or, sym, ap, subst, arith, All, length-append}
 use Rattle.std.proofs.lemmas.List.{map-append, length-map, drop-append-le, take_all, length-take, length-drop, get_or-take, get_or-drop, get_or-map, drop_all}
 use Rattle.std.proofs.lemmas.List.Elements.{All-push, All-weaker}
 use Rattle.hd_terms.specs.declared.IdSize.{IdSize}

@@ -5,34 +5,52 @@ ghost use Rattle.hd_slots.specs.Codes.{IsCode, IsLonger, id_of_code};
 ghost use Rattle.hd_slots.specs.Resolving.{found_code, id_of_found, IsFound, AreCodesOf};
 
 use crate::slot_table::NULL;
-use hd_ids::ObjectIds;
+use hd_ids::{Finder, ObjectIds};
 use hd_terms::IdSize;
-use rayon::prelude::par_for_each_mut;
+use rayon::prelude::par_chunks_mut_for_each;
 use std::alloc::{AllocError, Global};
 use std::thread::Threads;
 
 /// Marks the offset of an ID that is no object's. Numbers of objects and offsets into the file are below it.
 const ABSENT: u32 = 0x8000_0000;
 
+/// How many IDs one finder finds.
+const PART: usize = 65_536;
+
 /// The number of the object whose ID lies at an offset of the file, `NULL` for the ID 0, and the marked offset where no object
 /// has the ID.
-fn found(ids: &ObjectIds, id_size: IdSize, bytes: &[u8], offset: u32) -> u32
+fn found(finder: &mut Finder<'_>, id_size: IdSize, bytes: &[u8], offset: u32) -> u32
     requires within { IsIdWithin id_size (length bytes.now) offset }
     requires small { length bytes.now < 2 ^ 31 }
-    requires few { length ids.now < 2 ^ 31 }
-    ensures { result ≡ found_code ids.now bytes.now id_size offset }
+    requires few { length finder.old < 2 ^ 31 }
+    ensures found { result ≡ found_code finder.old bytes.now id_size offset }
+    ensures same { finder.new ≡ finder.old }
 {
     let id = id_size.read(&bytes[offset as usize..]);
     if id == 0 {
         return NULL;
     }
-    match ids.index_of(id) {
+    match finder.index_of(id) {
         Some(object) => object as u32,
         None => ABSENT + offset,
     }
 }
 
-/// Turns offsets of IDs into what is found there, on all processors.
+/// Turns the offsets of IDs of one part into what is found there. IDs that follow one another are mostly near, so one finder
+/// finds all.
+fn find_part(ids: &ObjectIds, id_size: IdSize, bytes: &[u8], part: &mut [u32])
+    requires within { All (IsIdWithin id_size (length bytes.now)) part.old }
+    requires small { length bytes.now < 2 ^ 31 }
+    requires few { length ids.now < 2 ^ 31 }
+    ensures { part.new ≡ map (found_code ids.now bytes.now id_size) part.old }
+{
+    let mut finder = ids.finder();
+    for i in 0..part.len() {
+        part[i] = found(&mut finder, id_size, bytes, part[i]);
+    }
+}
+
+/// Turns offsets of IDs into what is found there, on all processors, part by part.
 fn find_objects<R: Threads + Sync>(
     rt: &R,
     ids: &ObjectIds,
@@ -45,13 +63,14 @@ fn find_objects<R: Threads + Sync>(
     requires few { length ids.now < 2 ^ 31 }
     ensures { items.new ≡ map (found_code ids.now bytes.now id_size) items.old }
 {
-    par_for_each_mut(
+    par_chunks_mut_for_each(
         rt,
         items,
-        |_, item: &mut u32|
-            requires { IsIdWithin id_size (length bytes.now) item.now × (length bytes.now < 2 ^ 31) × (length ids.now < 2 ^ 31) }
-            ensures { item.exit.now ≡ found_code ids.entry.now bytes.entry.now id_size item.entry.now }
-        { *item = found(ids, id_size, bytes, *item) },
+        PART,
+        |_, part: &mut [u32]|
+            requires { All (IsIdWithin id_size (length bytes.now)) part.now × (length bytes.now < 2 ^ 31) × (length ids.now < 2 ^ 31) }
+            ensures { part.exit.now ≡ map (found_code ids.entry.now bytes.entry.now id_size) part.entry.now }
+        { find_part(ids, id_size, bytes, part) },
     );
 }
 

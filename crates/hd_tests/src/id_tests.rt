@@ -83,8 +83,9 @@ fn are_noted(ids: &mut ObjectIds, spread: Spread, steps: u64) -> Result<bool, Al
             return Ok(false);
         }
     }
+    let mut finder = ids.finder();
     for step in 0..steps {
-        if ids.index_of(id_of(spread, step)) != Some(step as usize) {
+        if finder.index_of(id_of(spread, step)) != Some(step as usize) {
             return Ok(false);
         }
     }
