@@ -1,3 +1,2 @@
-pub mod Tasks
 pub mod Performing
 pub mod Listening

@@ -10,8 +10,8 @@ use Rattle.hd_protocol.specs.Stating.{StatsDump}
 use Rattle.hdesk.specs.Listening.{EndsServer}
 use Rattle.hdesk.specs.declared.server.ServerFault.{ServerFault}
 use Rattle.hdesk.specs.declared.server.ServerFault.TheVariants as server_faults
-use Rattle.hdesk.specs.declared.arguments.Task.{Task}
-use Rattle.hdesk.specs.declared.arguments.Task.TheVariants as tasks
+use Rattle.hd_arguments.specs.declared.task.Task.{Task}
+use Rattle.hd_arguments.specs.declared.task.Task.TheVariants as tasks
 
 -- the exit status that a run ends with
 abbrev pub status : Result (Unit {0}) RunFault → ℕ

@@ -1,7 +1,6 @@
 //! The workbench: a dump is opened, and an analyst's lines are read, run over it, and answered, or those of several.
 #![tactic(auto)]
 
-mod arguments;
 mod counts;
 mod file;
 mod program;

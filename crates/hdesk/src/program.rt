@@ -6,15 +6,12 @@ ghost use Rattle.hd_terms.specs.declared.Mode.TheVariants.{Direct};
 ghost use Rattle.hd_protocol.specs.declared.run.RunFault.{RunFault};
 ghost use Rattle.hd_protocol.specs.Running.{RunsDump};
 ghost use Rattle.hdesk.specs.Performing.{server_status, status, Performs, RunsFile, RunsWords, FailsFirst, ServesOrFails};
-ghost use Rattle.hdesk.specs.Tasks.{IsAnalysts};
-ghost use Rattle.hdesk.specs.Tasks.{TaskWorkers};
+ghost use Rattle.hd_arguments.specs.Tasks.{IsAnalysts, TaskWorkers};
 
-use crate::arguments::{Opening, Serving, Task, WORKERS, read_arguments};
 use crate::counts::{end_status, shown_counts};
 use crate::file::{FileFault, read_file};
 use crate::server::{ServerFault, serve_bytes};
-use clap::Error;
-use clap::error::ErrorKind;
+use hd_arguments::{Opening, Serving, Task, WORKERS, WordsFault, read_arguments};
 use hd_protocol::{RunFault, SAMPLE, open_alone, open_bytes, run_bytes, serve_alone, stat_bytes};
 use hd_terminal::StatusLine;
 use hd_terms::Mode;
@@ -94,13 +91,13 @@ fn report_file<E: Write>(fault: FileFault, path: &str, faults: &mut E) -> u8
 }
 
 /// Reports what is wrong with the words, or prints what was asked of help, and answers the exit status.
-fn report_usage<E: Write>(error: &Error, faults: &mut E) -> u8
+fn report_usage<E: Write>(fault: &WordsFault, faults: &mut E) -> u8
     ensures { result ≢ DONE }
 {
-    match error.kind() {
-        ErrorKind::OutOfMemory => report(Err(RunFault::Memory), faults),
-        _ => {
-            let _ = write!(faults, "{error}");
+    match fault {
+        WordsFault::Memory => report(Err(RunFault::Memory), faults),
+        WordsFault::Usage(text) => {
+            let _ = faults.write_all(text.as_bytes());
             USAGE
         }
     }
@@ -283,6 +280,6 @@ where
             );
             USAGE
         }
-        Err(error) => report_usage(&error, faults),
+        Err(fault) => report_usage(&fault, faults),
     }
 }

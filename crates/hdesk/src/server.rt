@@ -4,10 +4,10 @@ ghost use Rattle.std.specs.Arc.{arc_value};
 ghost use Rattle.std.specs.Io.KnownBytes.{Appends, Keeps};
 ghost use Rattle.hd_terms.specs.Workers.{IsWorkers};
 ghost use Rattle.hdesk.specs.Listening.{listening_text, EndsEarly, EndsServer, PrintsServer};
-ghost use Rattle.hdesk.specs.Tasks.{IsAnalysts};
+ghost use Rattle.hd_arguments.specs.Tasks.{IsAnalysts};
 
-use crate::arguments::Serving;
 use crate::counts::{end_status, shown_counts};
+use hd_arguments::Serving;
 use hd_graph::Graph;
 use hd_protocol::{RunFault, open_bytes};
 use hd_server::{ServeOnFault, serve_on};

@@ -1,6 +1,6 @@
 use Rattle.std.proofs.Common.{inl, inr, ℕ, List, Option}
-use Rattle.hdesk.specs.declared.arguments.Task.{Task}
-use Rattle.hdesk.specs.declared.arguments.Task.TheVariants as tasks
+use Rattle.hd_arguments.specs.declared.task.Task.{Task}
+use Rattle.hd_arguments.specs.declared.task.Task.TheVariants as tasks
 use Rattle.hdesk.specs.Performing.{Performs, RunsWords}
 use Rattle.hdesk.proofs.program.program.Goals as goal
 

@@ -2,8 +2,8 @@
 -- Source: this project.
 use Rattle.std.specs.Prelude.{ℕ, ◌≤◌, Option, None, Some}
 use Rattle.hd_terms.specs.Workers.{IsWorkers}
-use Rattle.hdesk.specs.declared.arguments.Task.{Task}
-use Rattle.hdesk.specs.declared.arguments.Task.TheVariants as tasks
+use Rattle.hd_arguments.specs.declared.task.Task.{Task}
+use Rattle.hd_arguments.specs.declared.task.Task.TheVariants as tasks
 
 -- from one analyst to the most
 abbrev pub IsAnalysts : ℕ → Type 0
