@@ -154,7 +154,7 @@ pub(crate) fn all_rows_of<'a>(
 {
     let mut shapes = Shapes::with_capacity(alloc, list.len(), classes.len())?;
     let no_ids = ObjectIds::with_capacity(alloc, 0, 0)?;
-    let mut slot_table = UnresolvedSlots::new(alloc, bytes, id_size, no_ids)?;
+    let mut slot_table = UnresolvedSlots::new(alloc, bytes, id_size, no_ids, list.len())?;
     fill_all_rows(alloc, &mut slot_table, &mut shapes, classes, list)?;
     Ok(Rows { slot_table, shapes })
 }
@@ -177,8 +177,9 @@ fn first_rows_of<'a>(
     requires classes { AreFewAndShort classes.now }
     ensures { IfOk result (λ rows. HasRowsOf (known_at classes.now) bytes.now id_size list.now (columns rows.slot_table rows.shapes.objects)) }
 {
-    let mut shapes = Shapes::with_capacity(alloc, ids.len(), classes.len())?;
-    let mut slot_table = UnresolvedSlots::new(alloc, bytes, id_size, ids)?;
+    let count = ids.len();
+    let mut shapes = Shapes::with_capacity(alloc, count, classes.len())?;
+    let mut slot_table = UnresolvedSlots::new(alloc, bytes, id_size, ids, count)?;
     fill_first_rows(alloc, &mut slot_table, &mut shapes, classes, list)?;
     Ok(Rows { slot_table, shapes })
 }

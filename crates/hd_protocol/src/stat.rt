@@ -93,7 +93,7 @@ fn stat_text<T: Threads + Sync>(rt: &T, alloc: Global, graph: &Graph) -> Result<
         rt,
         || -> Result<StrengthTotals, NoMemory>
             ensures { IfOk result (λ t. (s : OneStrength) → IsTotal graph.entry.now [] s (total_for t s).count (total_for t s).bytes) }
-        { opening_totals(alloc, graph) },
+        { opening_totals(rt, alloc, graph) },
         || -> Counts
             ensures { result ≡ counts_of graph.entry.now }
         { graph.counts() },

@@ -1,11 +1,12 @@
 -- The totals of strengths and of groups, by what is kept of the objects.
-use Rattle.std.proofs.Common.{◌≡◌, ◌∙◌, ℕ, ◌+◌, ◌<◌, ◌≤◌, Bool, true, false, List, length, take, cond, eq-eqb, refl, sym, ap, subst, arith, zero-add}
+use Rattle.std.proofs.Common.{◌≡◌, ◌∙◌, ℕ, ◌+◌, ◌<◌, ◌≤◌, ◌^◌, Bool, true, false, List, length, take, cond, eq-eqb, refl, sym, ap, subst, arith, add-zero, zero-add}
 use Rattle.std.specs.Prelude.{sum_by}
 use Rattle.std.specs.List.{range_with_len}
 use Rattle.std.proofs.lemmas.List.{take_all}
 use Rattle.std.proofs.lemmas.List.FromFn.{length-range_with_len, get_or-range_with_len}
 use Rattle.std.proofs.lemmas.List.Sums.{sum_by_more}
 use Rattle.hd_terms.specs.declared.Strength.{Strength}
+use Rattle.hd_terms.specs.declared.Strength.TheVariants as strengths
 use Rattle.hd_terms.specs.declared.Event.{Event}
 use Rattle.hd_terms.specs.Ranks.{rank}
 use Rattle.hd_terms.specs.Records.{largest_file}
@@ -20,7 +21,7 @@ use Rattle.hd_totals.specs.Members.{has_kept, bytes_if}
 use Rattle.hd_totals.specs.Running.{plus_one}
 use Rattle.hd_totals.specs.Totals.{no_totals, total_for}
 use Rattle.hd_totals.proofs.TotalLemmas.{one-rank, plus-count, plus-bytes, total-none}
-use Rattle.hd_queries.specs.Totals.{AreCounted}
+use Rattle.hd_queries.specs.Totals.{AreCounted, sum_of}
 use Rattle.hd_queries.proofs.FallenLemmas.{count-more, count-all}
 
 case-le : (b : Bool) (n : ℕ) → cond b n 0 ≤ n
@@ -28,16 +29,16 @@ case-le true n = omega arith
 case-le false n = omega arith
 
 -- no object
-pub none-counted : (dump : Dump) (ks : List Reached) → AreCounted dump ks 0 no_totals
-none-counted dump ks = record {
-  counts = λ s. ap (λ t. t.count) (total-none s);
-  bytes = λ s. ap (λ t. t.bytes) (total-none s);
+pub none-counted : (dump : Dump) (ks : List Reached) (start : ℕ) → AreCounted dump ks start start no_totals
+none-counted dump ks start = record {
+  counts = λ s. omega (arith, ap (λ t. t.count) (total-none s));
+  bytes = λ s. omega (arith, ap (λ t. t.bytes) (total-none s));
   few = λ s. omega (arith, ap (λ t. t.count) (total-none s));
   small = λ s. omega (arith, ap (λ t. t.bytes) (total-none s));
 }
 
 -- one more object
-module _ (dump : Dump) (ks : List Reached) (o : ℕ) (old : StrengthTotals) (h : AreCounted dump ks o old) (within : o < length dump.objects) (small : (object_at dump o).bytes ≤ largest_file) where
+module _ (dump : Dump) (ks : List Reached) (start o : ℕ) (old : StrengthTotals) (h : AreCounted dump ks start o old) (within : o < length dump.objects) (small : (object_at dump o).bytes ≤ largest_file) where
   sum-more : (f : ℕ → ℕ) → sum_by f (take (o + 1) (range_with_len 0 (length dump.objects))) ≡ sum_by f (take o (range_with_len 0 (length dump.objects))) + f o
   sum-more f =
       sum_by_more f (range_with_len 0 (length dump.objects)) o 0 (omega (arith, length-range_with_len 0 (length dump.objects)))
@@ -52,13 +53,46 @@ module _ (dump : Dump) (ks : List Reached) (o : ℕ) (old : StrengthTotals) (h :
   bytes-is : (s : Strength) → (total_for new s).bytes ≡ (total_for old s).bytes + bytes_if dump (has_kept ks s) o
   bytes-is s = plus-bytes old (reached_at ks o).strength s (object_at dump o).bytes
 
-  pub one-more-counted : AreCounted dump ks (o + 1) new
+  pub one-more-counted : AreCounted dump ks start (o + 1) new
   one-more-counted = record {
-    counts = λ s. count-is s ∙ ap (λ (n : ℕ). n + cond (has_kept ks s o) 1 0) (h.counts s) ∙ sym (count-more (has_kept ks s) (length dump.objects) o within (has_kept ks s o) refl);
-    bytes = λ s. bytes-is s ∙ ap (λ (n : ℕ). n + bytes_if dump (has_kept ks s) o) (h.bytes s) ∙ sym (sum-more (bytes_if dump (has_kept ks s)));
+    counts = λ s. omega (arith, count-is s, h.counts s, count-more (has_kept ks s) (length dump.objects) o within (has_kept ks s o) refl);
+    bytes = λ s. omega (arith, bytes-is s, h.bytes s, sum-more (bytes_if dump (has_kept ks s)));
     few = λ s. omega (arith, count-is s, h.few s, case-le (has_kept ks s o) 1);
     small = λ s. omega (arith, bytes-is s, h.small s, case-le (has_kept ks s o) (object_at dump o).bytes);
   }
+
+-- the sums of the strengths one by one
+module _ (one other all : StrengthTotals)
+    (strong : all.strong ≡ sum_of one.strong other.strong)
+    (soft : all.soft ≡ sum_of one.soft other.soft)
+    (weak : all.weak ≡ sum_of one.weak other.weak)
+    (finalizable : all.finalizable ≡ sum_of one.finalizable other.finalizable)
+    (phantom : all.phantom ≡ sum_of one.phantom other.phantom)
+    (unreachable : all.unreachable ≡ sum_of one.unreachable other.unreachable) where
+  pub each-sum : (s : Strength) → total_for all s ≡ sum_of (total_for one s) (total_for other s)
+  each-sum strengths.Strong = strong
+  each-sum strengths.Soft = soft
+  each-sum strengths.Weak = weak
+  each-sum strengths.Final = finalizable
+  each-sum strengths.Phantom = phantom
+  each-sum strengths.Unreachable = unreachable
+
+-- the objects of two parts, of which one begins where the other ends
+module _ (dump : Dump) (ks : List Reached) (start middle end : ℕ) (one other : StrengthTotals) (first : AreCounted dump ks start middle one) (second : AreCounted dump ks middle end other) where
+  pub both-counted : (all : StrengthTotals) → ((s : Strength) → total_for all s ≡ sum_of (total_for one s) (total_for other s)) → AreCounted dump ks start end all
+  both-counted all is = record {
+    counts = λ s. omega (arith, ap (λ t. t.count) (is s), first.counts s, second.counts s);
+    bytes = λ s. omega (arith, ap (λ t. t.bytes) (is s), first.bytes s, second.bytes s);
+    few = λ s. omega (arith, ap (λ t. t.count) (is s), first.few s, second.few s);
+    small = λ s. omega (arith, ap (λ t. t.bytes) (is s), first.small s, second.small s);
+  }
+
+  -- neither sum is too great
+  pub counts-fit : end < 2 ^ 32 → (s : Strength) → (total_for one s).count + (total_for other s).count < 2 ^ 64
+  counts-fit small s = omega (arith, first.few s, second.few s)
+
+  pub bytes-fit : end < 2 ^ 32 → (s : Strength) → (total_for one s).bytes + (total_for other s).bytes < 2 ^ 64
+  bytes-fit small s = omega (arith, first.small s, second.small s)
 
 -- all objects, where what is kept is settled for the dump under a log
 module _ (gives : (g : Standing) (ks : List Reached) → Settled g ks → (o : ℕ) → HasStrength g o (reached_at ks o).strength)
@@ -70,10 +104,10 @@ module _ (gives : (g : Standing) (ks : List Reached) → Settled g ks → (o : �
   pub is-kept : (s : Strength) (o : ℕ) → HasStrength (standing dump log) o s → has_kept ks s o ≡ true
   is-kept s o h = eq-eqb (rank (reached_at ks o).strength) (rank s) (ap rank (one (standing dump log) o (reached_at ks o).strength s (gives (standing dump log) ks settled o) h))
 
-  pub total-is : (totals : StrengthTotals) → AreCounted dump ks (length dump.objects) totals → (s : Strength) → IsTotal dump log s (total_for totals s).count (total_for totals s).bytes
+  pub total-is : (totals : StrengthTotals) → AreCounted dump ks 0 (length dump.objects) totals → (s : Strength) → IsTotal dump log s (total_for totals s).count (total_for totals s).bytes
   total-is totals h s = record {
     has = has_kept ks s;
     decides = λ o within. (has-strength s o, is-kept s o);
-    count_is = h.counts s ∙ count-all (has_kept ks s) (length dump.objects);
-    bytes_is = h.bytes s ∙ ap (sum_by (bytes_if dump (has_kept ks s))) (take_all (length dump.objects) (range_with_len 0 (length dump.objects)) (omega (arith, length-range_with_len 0 (length dump.objects))));
+    count_is = sym (add-zero (total_for totals s).count) ∙ h.counts s ∙ count-all (has_kept ks s) (length dump.objects);
+    bytes_is = sym (add-zero (total_for totals s).bytes) ∙ h.bytes s ∙ ap (sum_by (bytes_if dump (has_kept ks s))) (take_all (length dump.objects) (range_with_len 0 (length dump.objects)) (omega (arith, length-range_with_len 0 (length dump.objects))));
   }

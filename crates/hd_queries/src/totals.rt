@@ -1,8 +1,8 @@
 //! How many objects have each strength, and how many bytes, with no edit.
-ghost use Rattle.std.specs.Prelude.{◌≡◌, [], length, IfOk};
+ghost use Rattle.std.specs.Prelude.{◌≡◌, ◌+◌, ◌<◌, ◌≤◌, ◌^◌, [], length, IfOk};
 ghost use Rattle.hd_terms.specs.declared.Strength.{Strength};
 ghost use Rattle.hd_terms.specs.Totals.{IsTotal};
-ghost use Rattle.hd_queries.specs.Totals.{AreCounted};
+ghost use Rattle.hd_queries.specs.Totals.{AreCounted, sum_of};
 ghost use Rattle.hd_totals.specs.Totals.{total_for};
 
 use hd_graph::Graph;
@@ -10,19 +10,99 @@ use hd_log::Front;
 use hd_strength::from_scratch;
 use hd_supports::Strengths;
 use hd_terms::{NoMemory, one_strength, settled_supports_give_strengths};
-use hd_totals::StrengthTotals;
+use hd_totals::{StrengthTotals, Total};
 use std::alloc::Global;
+use std::thread::{Threads, join};
 
-/// The totals of all objects, in one pass.
-fn count_totals(graph: &Graph, strengths: &Strengths) -> StrengthTotals
-    requires { length strengths.now ≡ length graph.now.objects }
-    ensures { AreCounted graph.now strengths.now (length graph.now.objects) result }
+/// The totals of the objects from one number on, before another.
+fn count_part(graph: &Graph, strengths: &Strengths, start: u32, end: u32) -> StrengthTotals
+    requires count { length strengths.now ≡ length graph.now.objects }
+    requires order { start ≤ end }
+    requires within { end ≤ length graph.now.objects }
+    ensures { AreCounted graph.now strengths.now start end result }
 {
     let mut totals = StrengthTotals::none();
-    for o in 0..graph.objects() {
+    for o in start..end {
         totals.add(strengths.strength(o), graph.bytes_of(o));
     }
     totals
+}
+
+/// The objects of two totals together.
+fn sum(one: Total, other: Total) -> Total
+    requires count { one.count + other.count < 2 ^ 64 }
+    requires bytes { one.bytes + other.bytes < 2 ^ 64 }
+    ensures { result ≡ sum_of one other }
+{
+    Total {
+        count: one.count + other.count,
+        bytes: one.bytes + other.bytes,
+    }
+}
+
+/// The objects of two parts together.
+fn sums(one: StrengthTotals, other: StrengthTotals) -> StrengthTotals
+    requires count { (s : Strength) → (total_for one s).count + (total_for other s).count < 2 ^ 64 }
+    requires bytes { (s : Strength) → (total_for one s).bytes + (total_for other s).bytes < 2 ^ 64 }
+    ensures { (s : Strength) → total_for result s ≡ sum_of (total_for one s) (total_for other s) }
+{
+    StrengthTotals {
+        strong: sum(one.strong, other.strong),
+        soft: sum(one.soft, other.soft),
+        weak: sum(one.weak, other.weak),
+        finalizable: sum(one.finalizable, other.finalizable),
+        phantom: sum(one.phantom, other.phantom),
+        unreachable: sum(one.unreachable, other.unreachable),
+    }
+}
+
+/// The same as `count_part`, in two halves side by side; where the system refuses a thread, one after the other.
+fn count_halves<R: Threads + Sync>(
+    rt: &R,
+    graph: &Graph,
+    strengths: &Strengths,
+    start: u32,
+    end: u32,
+) -> StrengthTotals
+    requires count { length strengths.now ≡ length graph.now.objects }
+    requires order { start ≤ end }
+    requires within { end ≤ length graph.now.objects }
+    ensures { AreCounted graph.now strengths.now start end result }
+{
+    let middle = start + (end - start) / 2;
+    let (one, other) = join(
+        rt,
+        || -> StrengthTotals
+            requires { (length strengths.now ≡ length graph.now.objects) × (start ≤ middle) × (middle ≤ length graph.now.objects) }
+            ensures { AreCounted graph.entry.now strengths.entry.now start middle result }
+        { count_part(graph, strengths, start, middle) },
+        || -> StrengthTotals
+            requires { (length strengths.now ≡ length graph.now.objects) × (middle ≤ end) × (end ≤ length graph.now.objects) }
+            ensures { AreCounted graph.entry.now strengths.entry.now middle end result }
+        { count_part(graph, strengths, middle, end) },
+    );
+    sums(one, other)
+}
+
+/// The totals of all objects, in four parts side by side.
+fn count_totals<R: Threads + Sync>(rt: &R, graph: &Graph, strengths: &Strengths) -> StrengthTotals
+    requires { length strengths.now ≡ length graph.now.objects }
+    ensures { AreCounted graph.now strengths.now 0 (length graph.now.objects) result }
+{
+    let end = graph.objects();
+    let middle = end / 2;
+    let (one, other) = join(
+        rt,
+        || -> StrengthTotals
+            requires { (length strengths.now ≡ length graph.now.objects) × (middle ≤ length graph.now.objects) }
+            ensures { AreCounted graph.entry.now strengths.entry.now 0 middle result }
+        { count_halves(rt, graph, strengths, 0, middle) },
+        || -> StrengthTotals
+            requires { (length strengths.now ≡ length graph.now.objects) × (middle ≤ end) × (end ≤ length graph.now.objects) }
+            ensures { AreCounted graph.entry.now strengths.entry.now middle end result }
+        { count_halves(rt, graph, strengths, middle, end) },
+    );
+    sums(one, other)
 }
 
 /// How many objects of a graph have each strength with no edit, and their recorded bytes. Nothing is kept for edits.
@@ -30,13 +110,17 @@ fn count_totals(graph: &Graph, strengths: &Strengths) -> StrengthTotals
 /// # Errors
 ///
 /// Memory ran out.
-pub fn opening_totals(alloc: Global, graph: &Graph) -> Result<StrengthTotals, NoMemory>
+pub fn opening_totals<R: Threads + Sync>(
+    rt: &R,
+    alloc: Global,
+    graph: &Graph,
+) -> Result<StrengthTotals, NoMemory>
     ensures { IfOk result (λ t. (s : Strength) → IsTotal graph.now [] s (total_for t s).count (total_for t s).bytes) }
 {
     settled_supports_give_strengths();
     one_strength();
     let front = Front::empty(alloc)?;
     let strengths = from_scratch(alloc, graph, &front)?;
-    let totals = count_totals(graph, &strengths);
+    let totals = count_totals(rt, graph, &strengths);
     Ok(totals)
 }

@@ -43,10 +43,6 @@ module _ (f : ℕ → ℕ) (before : List ℕ) where
     len = length-set items i x ∙ h.len;
   }
 
-  -- all are mapped
-  pub all-mapped : (items : List ℕ) (i : ℕ) → AreMapped items i → length items ≤ i → items ≡ map f before
-  all-mapped items i h past = sym (take_all i items past) ∙ h.done ∙ ap (map f) (take_all i before (omega (arith, past, h.len)))
-
 module _ (ids bytes : List ℕ) (size : IdSize) where
   -- the ID of a number that is an object's, and of a marked offset
   found-object : (item : ℕ) → length ids < 2 ^ 31 → item < length ids → id_of_found ids bytes size item ≡ get_or ids item 0

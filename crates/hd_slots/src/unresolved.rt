@@ -47,19 +47,20 @@ impl<'a> Model for UnresolvedSlots<'a> {
 }
 
 impl<'a> UnresolvedSlots<'a> {
-    /// No rows yet, over the objects of these IDs, in the order of their numbers.
+    /// No rows yet, over the objects of these IDs, in the order of their numbers. There is room for so many rows.
     pub fn new(
         alloc: Global,
         bytes: &'a [u8],
         id_size: IdSize,
         ids: ObjectIds,
+        rows: usize,
     ) -> Result<UnresolvedSlots<'a>, AllocError>
         requires small { length bytes.now < 2 ^ 31 }
         requires few { length ids < 2 ^ 31 }
         requires no_null { All (λ id. 0 < id) ids }
         ensures { IfOk result (λ t. t ≡ record { bytes = bytes.now; size = id_size; ids = ids; rows = []; filling = []; count = 0 }) }
     {
-        let mut starts = Vec::new(alloc);
+        let mut starts = Vec::with_capacity(alloc, rows.saturating_add(1))?;
         starts.push(0)?;
         Ok(UnresolvedSlots {
             bytes,

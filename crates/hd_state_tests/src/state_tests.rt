@@ -73,7 +73,7 @@ fn steps_keep_old_states(rt: HostRuntime) -> Result<(), Fail> {
     assert!(rt; last == (2, Some(Strength::Strong), Some(LogFault::NotLive)));
     assert!(rt; next == (1, Some(Strength::Unreachable), None));
     assert!(rt; seen(&state) == (0, Some(Strength::Strong), Some(LogFault::NoSuchEvent)));
-    let totals = opening_totals(rt.alloc(), state.graph())?;
+    let totals = opening_totals(&rt, rt.alloc(), state.graph())?;
     assert_eq!(rt; totals.of(Strength::Strong).bytes, 12);
     Ok(())
 }

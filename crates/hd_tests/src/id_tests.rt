@@ -76,7 +76,7 @@ fn id_of(spread: Spread, step: u64) -> u64 {
     }
 }
 
-/// Whether each of so many IDs is new, and then has the number of its step.
+/// Whether each of so many IDs is new, and then has the number of its step, as often as it is asked for.
 fn are_noted(ids: &mut ObjectIds, spread: Spread, steps: u64) -> Result<bool, AllocError> {
     for step in 0..steps {
         if !is_noted_once(ids, id_of(spread, step))? {
@@ -85,8 +85,10 @@ fn are_noted(ids: &mut ObjectIds, spread: Spread, steps: u64) -> Result<bool, Al
     }
     let mut finder = ids.finder();
     for step in 0..steps {
-        if finder.index_of(id_of(spread, step)) != Some(step as usize) {
-            return Ok(false);
+        for _ in 0..2 {
+            if finder.index_of(id_of(spread, step)) != Some(step as usize) {
+                return Ok(false);
+            }
         }
     }
     Ok(true)

@@ -7,7 +7,7 @@ use Rattle.hd_totals.specs.declared.total.StrengthTotals.{StrengthTotals}
 use Rattle.hd_totals.specs.Running.{plus_one}
 use Rattle.hd_queries.specs.Totals.{AreCounted}
 use Rattle.hd_queries.proofs.TotalLemmas.{one-more-counted}
-use Rattle.hd_queries.proofs.totals.count_totals.Goals as goal
+use Rattle.hd_queries.proofs.totals.count_part.Goals as goal
 
 pub loop-o-preserved : goal.loop-o-preserved
 loop-o-preserved c =
@@ -18,4 +18,4 @@ loop-o-preserved c =
     let small = subst (λ (n : ℕ). n ≤ largest_file) c.bytes_of.ensures.bytes c.bytes_of.ensures.small in
     let is : c.add.new.self ≡ plus_one old (reached_at ks c.loop-o.o).strength (object_at dump c.loop-o.o).bytes =
     c.add.ensures ∙ ap (λ (s : Strength). plus_one old s c.bytes_of.result) c.strength.ensures ∙ ap (λ (n : ℕ). plus_one old (reached_at ks c.loop-o.o).strength n) c.bytes_of.ensures.bytes in
-    subst (λ (totals : StrengthTotals). AreCounted dump ks (c.loop-o.o + 1) totals) (sym is) (one-more-counted dump ks c.loop-o.o old c.loop-o.invariant within small)
+    subst (λ (totals : StrengthTotals). AreCounted dump ks c.args.start (c.loop-o.o + 1) totals) (sym is) (one-more-counted dump ks c.args.start c.loop-o.o old c.loop-o.invariant within small)
