@@ -1,3 +1,5 @@
 pub mod AnswerLemmas
 pub mod EditLemmas
 pub mod QueryLemmas
+pub mod EventRows
+pub mod ChainReplies

@@ -4,3 +4,5 @@ pub mod Marking
 pub mod Replying
 pub mod Editing
 pub mod Answering
+pub mod EventRows
+pub mod ChainLines

@@ -9,7 +9,7 @@ ghost use Rattle.hd_analyst.specs.Replying.{IsAnswerIn, IsQueryReply, is_query};
 
 use crate::fixed_buffer::FixedBuffer;
 use crate::reply::{LONGEST_REPLY, put_line, put_refused, refusal_text};
-use hd_replies::{
+use crate::texts::{
     chain_text, classes_text, events_text, fell_text, into_text, members_text, roots_text,
     slots_text,
 };

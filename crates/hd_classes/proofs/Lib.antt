@@ -9,3 +9,5 @@ pub mod ResolvedLemmas
 pub mod KeptLemmas
 pub mod PathLemmas
 pub mod KnownLemmas
+pub mod ClassNameLemmas
+pub mod RepeatLemmas

@@ -9,3 +9,6 @@ pub mod Sources
 pub mod Paths
 pub mod Linking
 pub mod Building
+pub mod Names
+pub mod NamesInside
+pub mod Repeats

@@ -1,8 +1,10 @@
-//! The classes of a dump: their names, chains and layouts, and what their referent fields are.
+//! The classes of a dump: their names, chains and layouts, and what their referent fields are; and how many records of
+//! names repeat the ID of an earlier one.
 #![tactic(auto)]
 
 mod build;
 mod chain;
+mod class_names;
 mod classes;
 mod first_class;
 mod known;
@@ -12,10 +14,13 @@ mod linking;
 mod names;
 mod path;
 mod reference;
+mod repeats;
 mod source;
 
 pub use chain::Chain;
+pub use class_names::{ClassNames, names_of};
 pub use classes::Classes;
 pub use known::{LayoutField, ResolvedClass};
 pub use layout::Layout;
 pub use names::bytes_of;
+pub use repeats::{note_id, repeated_loads, repeated_strings};

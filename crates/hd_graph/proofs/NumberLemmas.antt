@@ -22,10 +22,10 @@ use Rattle.hd_graph.specs.GraphInside.{root_of_row}
 use Rattle.hd_graph.specs.ArrayRows.{object_id, roots_in}
 use Rattle.hd_classes.specs.Firsts.{firsts, firsts_from}
 use Rattle.hd_ids.specs.Noted.{is_noted}
-use Rattle.hd_repeats.specs.Noted.{NotesId}
+use Rattle.hd_classes.specs.Repeats.{NotesId}
 use Rattle.hd_graph.specs.Numbering.{IsNumbered, NotesObject, IsNullIdOrMemory, IsObjectStop, memory, null, size_mismatch, StopsAt, IsObjectFaultOrMemory}
 use Rattle.hd_classes.proofs.FirstLemmas.{first_of_each-firsts, firsts-push, firsts_from-append, firsts-le, is_known, if_new, known-map, filter_map-le}
-use Rattle.hd_repeats.proofs.RepeatLemmas.{noted-push, repeats-le}
+use Rattle.hd_classes.proofs.RepeatLemmas.{noted-push, repeats-le}
 
 abbrev same : ℕ → ℕ
 same id = id

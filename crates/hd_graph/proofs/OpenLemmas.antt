@@ -41,9 +41,9 @@ use Rattle.hd_graph.proofs.TextLemmas.{texts-in-file}
 use Rattle.hd_graph.proofs.ArrayRowLemmas.{object_of_entry}
 use Rattle.hd_graph.proofs.DumpLemmas.{all_of, objects_in, roots_all, within_all, weight_all, weight-cons, row_objects-entries}
 use Rattle.hd_graph.proofs.SmallLemmas.{shapes-small, shapes-fit}
-use Rattle.hd_names.specs.Names.{first_names}
-use Rattle.hd_repeats.proofs.RepeatLemmas.{repeats-map}
-use Rattle.hd_names.proofs.NameLemmas.{first-names, names-in-file}
+use Rattle.hd_classes.specs.Names.{first_names}
+use Rattle.hd_classes.proofs.RepeatLemmas.{repeats-map}
+use Rattle.hd_classes.proofs.ClassNameLemmas.{first-names, names-in-file}
 
 -- functions of one value everywhere are one
 fun_ext : {A B : Type 0} {f g : A → B} → ((x : A) → f x ≡ g x) → f ≡ g

@@ -15,7 +15,7 @@ use Rattle.hd_graph.specs.declared.graph.StoredRoot.{StoredRoot}
 use Rattle.hd_graph.specs.declared.number.Tally.{Tally}
 use Rattle.hd_graph.specs.GraphInside.{root_of_row}
 use Rattle.hd_ids.specs.Noted.{is_noted}
-use Rattle.hd_repeats.specs.Noted.{NotesId}
+use Rattle.hd_classes.specs.Repeats.{NotesId}
 use Rattle.hd_graph.specs.ArrayRows.{object_id, object_ids, roots_in}
 
 -- out of memory, or the first fault of objects

@@ -10,7 +10,7 @@ ghost use Rattle.hd_graph.specs.PackedShapes.{shape_view};
 
 use crate::kinds::KindLists;
 use crate::shape::{Shape, Shapes};
-use hd_names::ClassNames;
+use hd_classes::ClassNames;
 use hd_slots::SlotTable;
 use hd_terms::{EdgeKind, Group, Mode, RootKind, Slot};
 use std::marker::Model;

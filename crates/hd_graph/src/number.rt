@@ -5,14 +5,13 @@ ghost use Rattle.hd_terms.specs.SubRecords.{Instance};
 ghost use Rattle.hd_classes.specs.Known.{known_at};
 ghost use Rattle.hd_subs.specs.Views.{sub_view};
 ghost use Rattle.hd_ids.specs.Noted.{is_noted};
-ghost use Rattle.hd_repeats.specs.Noted.{NotesId};
+ghost use Rattle.hd_classes.specs.Repeats.{NotesId};
 ghost use Rattle.hd_graph.specs.Numbering.{IsNumbered, NumbersOneMore, IsObjectFaultOrMemory, NotesObject, IsObjectStop, IsNullIdOrMemory, StopsAt, length_of};
 
 use crate::graph::StoredRoot;
 use crate::layouts::bytes_of_layout;
-use hd_classes::Classes;
+use hd_classes::{Classes, note_id};
 use hd_ids::ObjectIds;
-use hd_repeats::note_id;
 use hd_subs::{DumpSubs, Item, Sub};
 use hd_terms::{Cause, IdSize, ReadFault, Span};
 use std::alloc::Global;

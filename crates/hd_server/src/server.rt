@@ -7,9 +7,9 @@ ghost use Rattle.hd_server.specs.Logs.{PrintsLog};
 
 use crate::connection::attend;
 use crate::fault::ServeOnFault;
+use hd_analyst::log_text;
 use hd_board::{Board, Desk, open};
 use hd_graph::Graph;
-use hd_replies::log_text;
 use std::alloc::Global;
 use std::io::Write;
 use std::net::TcpListener;

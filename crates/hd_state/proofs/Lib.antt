@@ -1,0 +1,2 @@
+pub mod OneWayLemmas
+pub mod RepairLemmas

@@ -4,3 +4,4 @@ pub mod StateInside
 pub mod MarkInside
 pub mod Done
 pub mod Opening
+pub mod Next

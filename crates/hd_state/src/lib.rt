@@ -3,7 +3,9 @@
 
 mod mark;
 mod parts;
+mod repairing;
 mod state;
 
 pub use mark::Mark;
+pub use repairing::{Repair, repaired};
 pub use state::{Done, State};

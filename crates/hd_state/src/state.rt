@@ -18,18 +18,18 @@ ghost use Rattle.hd_terms.specs.declared.Strength.{Strength};
 ghost use Rattle.hd_terms.specs.Totals.{IsGroupTotal};
 ghost use Rattle.hd_terms.specs.Listed.{AreClassRows, AreFallen, AreMembers};
 ghost use Rattle.hd_terms.specs.Kept.{AreKept};
-ghost use Rattle.hd_step.specs.Next.{IsNextLog};
+ghost use Rattle.hd_state.specs.Next.{IsNextLog};
 ghost use Rattle.hd_queries.specs.ChainFound.{IsChainFound};
 ghost use Rattle.hd_totals.specs.LastChanges.{AreLastChanges};
 ghost use Rattle.hd_totals.specs.Totals.{AreTotals};
 
 use crate::mark::Mark;
 use crate::parts::{KeptParts, LogParts, kept_and_reverse};
+use crate::repairing::{Repair, repaired};
 use hd_graph::Graph;
 use hd_log::Front;
 use hd_queries::{Chain, Solved, chain_of, fallen_ids, into_rows, member_ids, root_rows, rows_of};
 use hd_reverse::ReverseRows;
-use hd_step::{Repair, repaired};
 use hd_strength::Removed;
 use hd_supports::Supports;
 use hd_terms::{

@@ -1,12 +1,12 @@
 //! How many edges and roots a repair looks at.
 ghost use Rattle.std.specs.Prelude.{◌≡◌};
-ghost use Rattle.hd_step.specs.Next.{IsNextLog};
+ghost use Rattle.hd_state.specs.Next.{IsNextLog};
 ghost use Rattle.hd_strength.specs.Removed.{IsRemovedBy};
 
 use hd_graph::Graph;
 use hd_log::Front;
 use hd_reverse::ReverseRows;
-use hd_step::repaired;
+use hd_state::repaired;
 use hd_strength::{Removed, from_scratch};
 use hd_supports::Supports;
 use hd_terms::{Event, NoMemory};

@@ -4,7 +4,7 @@ use Rattle.hd_terms.specs.Dump.{Dump}
 use Rattle.hd_terms.specs.Lost.{InEventRegion}
 use Rattle.hd_terms.specs.Settled.{Reached, reached_at}
 use Rattle.hd_state.specs.Solution.{Solution}
-use Rattle.hd_step.proofs.RepairLemmas.{one_more}
+use Rattle.hd_state.proofs.RepairLemmas.{one_more}
 use Rattle.hd_state.proofs.state.State.repaired.Goals as goal
 
 pub returns-clause-stamps : goal.returns-clause-stamps

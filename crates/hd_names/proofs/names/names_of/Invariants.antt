@@ -1,7 +1,0 @@
-use Rattle.std.proofs.Common.{take}
-use Rattle.hd_names.specs.Names.{HasNames}
-use Rattle.hd_names.proofs.names.names_of.Given as goal
-
--- the names of the classes loaded so far
-abbrev pub invariant-loop-load : goal.invariant-loop-load
-invariant-loop-load l = HasNames l.bytes l.classes (take l.load-index l.load-items) l.copied

@@ -1,2 +1,0 @@
-pub mod EventRows
-pub mod ChainReplies

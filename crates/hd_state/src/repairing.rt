@@ -1,0 +1,80 @@
+//! The repair of supports from one log of a graph to the next.
+ghost use Rattle.std.specs.Prelude.{◌≡◌, ◌+◌, ◌*◌, ◌^◌, ◌≤◌, ℕ, List, length, Contains, sum_by, IfOk};
+ghost use Rattle.hd_terms.specs.EdgeRows.{degree, rows_of};
+ghost use Rattle.hd_terms.specs.Lost.{InEventRegion};
+ghost use Rattle.hd_terms.specs.Regions.{AreChanges};
+ghost use Rattle.hd_terms.specs.Settled.{reached_at};
+ghost use Rattle.hd_strength.specs.Removed.{IsRemovedBy};
+ghost use Rattle.hd_reverse.specs.Reverse.{IsReverseOf};
+ghost use Rattle.hd_view.specs.Added.{IsAddedBy};
+ghost use Rattle.hd_terms.specs.Kept.{AreKept};
+ghost use Rattle.hd_state.specs.Next.{IsNextLog};
+
+use hd_edges::Edges;
+use hd_repair::{Change, gain, lose};
+use hd_reverse::ReverseRows;
+use hd_supports::Supports;
+use hd_terms::NoMemory;
+use hd_view::{AddedRoots, Edited, View, lost_between};
+use std::alloc::Global;
+
+/// What a repair answers: the repaired supports, the objects whose strength has changed, and how many edges and roots it
+/// looked at.
+#[derive(Drop)]
+pub struct Repair {
+    pub supports: Supports,
+    pub changes: Vec<Change>,
+    pub looks: u64,
+}
+
+/// The supports of a graph under one log, repaired for the log with one more event. An event takes away or gives, and never
+/// both. The looks are at most twice the degree of its region, and what is kept of all other objects stays.
+///
+/// # Errors
+///
+/// Memory ran out. The supports that are given stay as they are.
+pub fn repaired(
+    alloc: Global,
+    reverse: &ReverseRows,
+    before: Edited<'_>,
+    after: Edited<'_>,
+    added: &AddedRoots,
+    supports: &Supports,
+) -> Result<Repair, NoMemory>
+    requires same { after.graph.now ≡ before.graph.now }
+    requires next { IsNextLog before.front.now after.front.now }
+    requires reverse { IsReverseOf after.graph.now reverse.now }
+    requires before { IsRemovedBy before.graph.now before.front.now before.removed.now }
+    requires after { IsRemovedBy after.graph.now after.front.now after.removed.now }
+    requires added { IsAddedBy after.graph.now after.front.now added.now }
+    requires kept { AreKept before.graph.now before.front.now supports.now }
+    requires room { (o : ℕ) → (reached_at supports.now o).stamp ≤ 2 ^ 47 }
+    ensures kept { IfOk result (λ r. AreKept after.entry.graph.now after.entry.front.now r.supports) }
+    ensures changes { IfOk result (λ r. AreChanges supports.now r.supports r.changes.items) }
+    ensures outside { IfOk result (λ r. (o : ℕ) → (InEventRegion after.entry.graph.now before.entry.front.now after.entry.front.now supports.now r.supports o → ⊥) → reached_at r.supports o ≡ reached_at supports.now o) }
+    ensures looks { IfOk result (λ r. (region : List ℕ)
+        → ((o : ℕ) → InEventRegion after.entry.graph.now before.entry.front.now after.entry.front.now supports.now r.supports o → Contains region o)
+        → r.looks ≤ 2 * sum_by (degree (rows_of after.entry.graph.now after.entry.front.now)) region) }
+    ensures stamps { IfOk result (λ r. (m : ℕ) → ((o : ℕ) → (reached_at supports.now o).stamp ≤ m) → (o : ℕ) → (reached_at r.supports o).stamp ≤ m + length after.entry.graph.now.objects) }
+{
+    let lost = lost_between(alloc, before, after)?;
+    let gained = lost_between(alloc, after, before)?;
+    let mut supports = supports.share(alloc)?;
+    let mut view = View::new(after.graph, reverse, after.front, after.removed, added);
+    if gained.is_empty() {
+        let changes = lose(alloc, &mut view, &mut supports, &lost)?;
+        let looks = view.looks();
+        return Ok(Repair {
+            supports,
+            changes,
+            looks,
+        });
+    }
+    let changes = gain(alloc, &mut view, &mut supports, &gained)?;
+    let looks = view.looks();
+    Ok(Repair {
+        supports,
+        changes,
+        looks,
+    })
+}

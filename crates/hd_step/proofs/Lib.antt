@@ -1,2 +1,0 @@
-pub mod OneWayLemmas
-pub mod RepairLemmas
