@@ -1,24 +1,23 @@
 #!/usr/bin/env bash
-# Measures how long a program takes to open a heap dump and compute one strength, and how much memory it needs, beside
-# a plain reading of the same file and a plain Rust program that opens it and computes the strengths too, in the same
-# run. The plain program also counts references and totals as `hdesk stat` does. Prints a Markdown table.
+# Measures how long `hdesk stat` takes over synthetic heap dumps, and how much memory it needs, beside a plain reading of
+# the same file and a plain Rust program that prints the same lines, in the same run. Prints a Markdown table.
 #
 #   bench/measure.sh PROGRAM [SIZE..]
 #
-# PROGRAM is run as `PROGRAM FILE ID WORKERS`. It opens FILE, computes the strengths and prints several lines, as
-# hd_bench does. One has to be `strength Strong`, which is right for the ID that the generator gives, and one
-# `objects N`, where N is how many objects the generator wrote. The plain program gets as many workers. A SIZE is a
-# number of bytes, or a number and M or G (2^20, 2^30 bytes); without any they are 100M and 1G. Each size is measured
-# with 4-byte and with 8-byte identifiers.
+# PROGRAM is `hdesk` as `rt run` builds it, crates/hdesk/out/hdesk. It gets large pages, as the script `hdesk` asks for
+# them. A SIZE is a number of bytes, or a number and M or G (2^20, 2^30 bytes); without any they are 100M and 1G. Each
+# size is measured with 4-byte and with 8-byte identifiers, and with 4 workers.
 #
-# The answers of the plain programs are checked too. Where an answer is wrong or a status not 0, the row says `failed`
-# or is left out, standard error tells why, and the script's status is 1.
+# Both programs have to count as many objects and roots as the generator wrote, and to print the same lines. Where an
+# answer is wrong or a status not 0, the row says `failed` or is left out, standard error tells why, and the script's
+# status is 1.
 #
 # The dumps are generated into a temporary folder, which is removed at the end. It needs room for the largest of them:
 # set TMPDIR where the usual folder has too little. Needed are bash 5, rustc, coreutils, awk, and either GNU time or
 # a system with /proc.
 set -euo pipefail
 export LC_ALL=C
+export GLIBC_TUNABLES=glibc.malloc.hugetlb=1
 
 readonly runs=3
 readonly seed=1
@@ -104,6 +103,14 @@ printed_line() {
     }
 }
 
+# Whether the last run printed the lines that the plain program printed.
+same_lines() {
+    cmp -s "$room/output" "$room/plain_output" || {
+        complain "the plain program printed other lines, and the last run: $(all_printed)"
+        return 1
+    }
+}
+
 # What the last run printed, in one line.
 all_printed() {
     head -n 20 "$room/output" | paste -s -d ';'
@@ -140,12 +147,12 @@ time_cat() {
     least "${times[@]}"
 }
 
-# Generates the dump and sets `id`, an object that a root holds, and `bytes`, `objects` and `roots`.
+# Generates the dump and sets `bytes`, `objects` and `roots`.
 generate() {
     local dump=$1 asked=$2 id_size=$3
     complain "generating $asked bytes with $id_size-byte identifiers"
     rm -f "$dump"
-    id=$("$room/generate" "$dump" "$asked" "$id_size" "$seed" present 2>"$room/counts") || {
+    "$room/generate" "$dump" "$asked" "$id_size" "$seed" present >/dev/null 2>"$room/counts" || {
         complain "the generator refused: $(tail -n 3 "$room/counts" | tr '\n' ' ')"
         return 1
     }
@@ -161,22 +168,21 @@ peak_to_file() {
 
 # Measures one dump and prints its row of the table.
 measure_dump() {
-    local asked=$1 id_size=$2 dump=$room/dump id bytes objects roots
+    local asked=$1 id_size=$2 dump=$room/dump bytes objects roots
     local cat_time read_time plain_time plain_peak row
     generate "$dump" "$asked" "$id_size" || return
     cat_time=$(time_cat "$dump")
     best_of_runs 'sum [0-9]+' "$room/read" "$dump" || return
     read_time=$best
     row="| $id_size-byte IDs, seed $seed | $bytes | $objects | $(seconds "$cat_time") | $(seconds "$read_time")"
-    if ! best_of_runs "$id STRONG" "$room/plain" "$dump" "$id" "$workers" || ! printed_line "objects $objects" plain \
-        || ! printed_line "roots $roots" plain; then
+    if ! best_of_runs "objects $objects" "$room/plain" "$dump" "$workers" || ! printed_line "roots $roots" plain; then
         echo "$row | failed | | | | | |"
         return 1
     fi
     plain_time=$best plain_peak=$peak_kilobytes
     row+=" | $(seconds "$plain_time")"
-    if ! best_of_runs 'strength Strong' "$program" "$dump" "$id" "$workers" \
-        || ! printed_line "objects $objects" "$program"; then
+    cp "$room/output" "$room/plain_output"
+    if ! best_of_runs "objects $objects" "$program" stat "$dump" --workers "$workers" || ! same_lines; then
         echo "$row | failed | | | | $(peak_to_file "$plain_peak") |"
         return 1
     fi
@@ -204,7 +210,7 @@ for tool in generate read; do
 done
 rustc --edition 2021 -O "$here/plain/main.rs" -o "$room/plain"
 
-echo '| Dump | Bytes | Objects | `cat`, s | Plain reading, s | Plain program, s | Opening and one strength, s | Ratio to plain reading | Ratio to plain program | Peak memory to file | Plain program'"'"'s peak to file |'
+echo '| Dump | Bytes | Objects | `cat`, s | Plain reading, s | Plain program, s | `hdesk stat`, s | Ratio to plain reading | Ratio to plain program | Peak memory to file | Plain program'"'"'s peak to file |'
 echo '|---|---|---|---|---|---|---|---|---|---|---|'
 failed=0
 for size in "${sizes[@]}"; do

@@ -1,8 +1,7 @@
-//! How long it takes to open a board, to fork its first desk, and to append to it from sixteen threads.
+//! How long it takes to open a board, to fork its first desk, and to append to it from a thread for each desk.
 ghost use Rattle.std.specs.Prelude.{◌≤◌, IfOk};
 
-use crate::lap;
-use anyhow::{Result, anyhow};
+use anyhow::{Context, Result, anyhow};
 use hd_board::{Board, Desk, append_to, open};
 use hd_graph::Graph;
 use hd_log::Front;
@@ -17,6 +16,21 @@ use std::time::Instant;
 
 /// How many events each analyst appends. Sixteen times this fills the log.
 const EACH: u32 = 256;
+
+/// What took how long since a moment, in microseconds; answers the moment now.
+fn lap(rt: &(impl Print + Clock), name: &str, start: Instant) -> Result<Instant> {
+    let micros = start.elapsed(rt)?.as_micros();
+    println!(rt; "{name} {micros}")?;
+    Ok(Instant::now(rt)?)
+}
+
+/// The ID of the first object, the one that the added roots hold.
+fn first_id(graph: &Graph) -> Option<u64> {
+    if graph.objects() == 0 {
+        return None;
+    }
+    Some(graph.id_of(0))
+}
 
 /// An added root by an analyst.
 fn add_by(who: u8, id: u64) -> Event {
@@ -93,9 +107,9 @@ fn desks_of(word: &str) -> Result<u8>
 pub(crate) fn measure_boards<R: Clock + Print + AllocGlobal + Threads + Wait + Sync>(
     rt: &R,
     graph: Arc<Graph>,
-    id: u64,
     desks: &str,
 ) -> Result<()> {
+    let id = first_id(&graph).context("the dump has no object")?;
     let start = Instant::now(rt)?;
     let (board, mut desks) = open(rt, rt.alloc(), graph, desks_of(desks)?).map_err(|_| anyhow!(
         "out of memory"

@@ -8,6 +8,8 @@ use hd_state_tests::looks::looks_of_event;
 use hd_supports::Supports;
 use hd_terms::{Edit, Event, Support, What};
 use std::alloc::Global;
+use std::sync::Arc;
+use std::thread::Threads;
 
 /// Adds the objects that an object supports.
 fn push_supported(
@@ -102,18 +104,19 @@ fn print_looks(
 }
 
 /// Cuts the supports of so many objects of a dump, one at a time, spread evenly over all.
-pub(crate) fn measure_looks(
-    rt: &(impl Print + AllocGlobal),
-    state: &State,
+pub(crate) fn measure_looks<R: Print + AllocGlobal + Threads + Sync>(
+    rt: &R,
+    graph: Arc<Graph>,
     count: &str,
 ) -> Result<()> {
     let count: u32 = count.parse()?;
+    let state = State::open(rt, rt.alloc(), graph).map_err(|_| anyhow!("out of memory"))?;
     let supports = state
         .supports(rt.alloc())
         .map_err(|_| anyhow!("out of memory"))?;
     for k in 0..count {
         let o = u64::from(state.graph().objects()) * u64::from(k) / u64::from(count);
-        print_looks(rt, state, &supports, o as u32)?;
+        print_looks(rt, &state, &supports, o as u32)?;
     }
     Ok(())
 }

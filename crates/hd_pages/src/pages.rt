@@ -1,4 +1,4 @@
-//! The list itself.
+//! `Pages`: a list of items in groups of pages.
 ghost use Rattle.std.specs.Prelude.{◌≡◌, ◌^◌, ◌<◌, length, slice_get, slice_set, IfOk, OnOk, OnErr, Some};
 
 use crate::group::Group;

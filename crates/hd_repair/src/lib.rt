@@ -1,4 +1,4 @@
-//! Repairs of settled supports after a loss or a gain of edges and roots. What a repair looks at is bound by what it
+//! Repairs of settled supports after a loss or a gain of edges and roots. What a repair looks at is bounded by what it
 //! affects.
 #![tactic(auto)]
 

@@ -1,4 +1,4 @@
-//! A graph as a log leaves it, to be looked at edge by edge.
+//! `View`: the edges and roots of a graph under a log.
 ghost use Rattle.std.specs.Prelude.{◌≡◌, ◌+◌, ◌-◌, ◌<◌, ◌^◌, min, true, length, slice_get, Some};
 ghost use Rattle.hd_terms.specs.Dump.{SlotEntry, object_at};
 ghost use Rattle.hd_edges.specs.Marks.{marked_edge, marked_root};
