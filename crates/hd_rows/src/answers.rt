@@ -89,20 +89,32 @@ fn both(alloc: Global, first: Vec<u8>, workers: u32, other: &[u8]) -> Result<Vec
     Ok(text)
 }
 
-/// How a dump opens in mode Direct: the first line of its `stat`, with the newline, or its fault.
-pub fn opening<R: AllocGlobal + RandomSource + Threads + Wait + Sync>(
-    rt: &R,
-    dump: &[u8],
-) -> Result<Vec<u8>, AllocError> {
-    let whole = answer(rt, dump, 1, Mode::Direct, Question::Stat)?;
-    let mut line = Vec::new(rt.alloc());
-    for byte in whole.as_slice() {
+/// The first line of a text, with the newline.
+fn first_line(alloc: Global, text: &[u8]) -> Result<Vec<u8>, AllocError> {
+    let mut line = Vec::new(alloc);
+    for byte in text {
         line.push(*byte)?;
         if *byte == b'\n' {
             break;
         }
     }
     Ok(line)
+}
+
+/// How a dump opens in mode Direct: the first line of its `stat`, with the newline, or its fault. Where the answer isn't
+/// the same with 16 workers as with one, the line of 16 stands behind it.
+pub fn opening<R: AllocGlobal + RandomSource + Threads + Wait + Sync>(
+    rt: &R,
+    dump: &[u8],
+) -> Result<Vec<u8>, AllocError> {
+    let one = answer(rt, dump, 1, Mode::Direct, Question::Stat)?;
+    let most = answer(rt, dump, 16, Mode::Direct, Question::Stat)?;
+    let line = first_line(rt.alloc(), one.as_slice())?;
+    if most.as_slice() == one.as_slice() {
+        return Ok(line);
+    }
+    let other = first_line(rt.alloc(), most.as_slice())?;
+    both(rt.alloc(), line, 16, other.as_slice())
 }
 
 /// The last lines of a text, so many of them.

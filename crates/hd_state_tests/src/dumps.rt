@@ -16,6 +16,12 @@ pub const TWO_ARRAYS: &str = "ids 4\nsegment\nroot 1\narray 1: 2 0 9\narray 2:\n
 pub const WEAK_AND_FINAL: &str = "ids 4\nreference-names\nsegment\nreference-classes\nroot 1\n\
     array 1: 21 31\nreference 21 of 13: 5\nreference 31 of 16: 5\narray 5:\n";
 
+/// Two soft references 0x21 and 0x23 behind the six classes, and a list of both: the first leads to a weak reference 0x22 on
+/// the array 3, the second to the array 5, and both arrays refer to the array 4.
+pub const SOFT_THEN_WEAK: &str = "ids 4\nreference-names\nsegment\nreference-classes\nroot 1\n\
+    array 1: 21 23\nreference 21 of 12: 22\nreference 22 of 13: 3\narray 3: 4\nreference 23 of 12: 5\n\
+    array 5: 4\narray 4:\n";
+
 /// Five arrays in a row, the third leading back to the second and the fifth to the fourth.
 pub const CYCLE: &str =
     "ids 4\nsegment\nroot 1\narray 1: 2\narray 2: 3\narray 3: 2 4\narray 4: 5\narray 5: 4\n";

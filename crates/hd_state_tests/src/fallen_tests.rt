@@ -103,6 +103,33 @@ fn wide<R: RandomSource + Threads + Sync>(rt: &R, alloc: Global) -> Option<State
     State::open(rt, alloc, graph).ok()
 }
 
+/// What has fallen since the opening in a state after a cut, and since the opening and a mark in between once the cut is
+/// taken back.
+fn fallen_around_undo(alloc: Global, state: &State, opening: &Mark) -> Option<(Vec<u64>, Fallen)>
+    requires { opening.now.dump ≡ state.now.dump }
+{
+    let by_cut = state.fell(alloc, opening).ok()?;
+    let between = state.mark().ok()?;
+    let by_undo = fallen_after_undo(alloc, state, opening, &between)?;
+    Some((by_cut, by_undo))
+}
+
+/// What has fallen after the cut of an element, and once it is taken back.
+fn fallen_and_back(alloc: Global, state: &State, element: u32) -> Option<(Vec<u64>, Fallen)> {
+    let opening = state.mark().ok()?;
+    let next = stepped(alloc, state, cut(element))?;
+    fallen_around_undo(alloc, &next, &opening)
+}
+
+#[test]
+fn fell_until_an_undo(rt: HostRuntime) -> Result<(), Fail> {
+    let state = wide(&rt, rt.alloc()).ok_or("the dump opens")?;
+    let (by_cut, by_undo) = fallen_and_back(rt.alloc(), &state, 2999).ok_or("both are taken")?;
+    assert_eq!(rt; by_cut.as_slice(), [3001u64].as_slice());
+    assert!(rt; by_undo.is(&[], &[]));
+    Ok(())
+}
+
 #[test]
 fn fell_between_versions(rt: HostRuntime) -> Result<(), Fail> {
     let state = wide(&rt, rt.alloc()).ok_or("the dump opens")?;

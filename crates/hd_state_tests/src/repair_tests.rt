@@ -1,9 +1,9 @@
 //! Repairs look at what an event concerns, and at nothing else. The bounds are the degrees of the regions, counted by hand.
-use crate::dumps::{CYCLE, graph_of};
+use crate::dumps::{CYCLE, SOFT_THEN_WEAK, graph_of};
 use crate::looks::looks_of_event;
 use hd_graph::Graph;
 use hd_log::Front;
-use hd_terms::{Edit, Event, NoMemory, Slot, What};
+use hd_terms::{Edit, Event, NoMemory, RefKind, Slot, What};
 use std::alloc::Global;
 use std::fmt::Write as _;
 use std::test::Fail;
@@ -25,13 +25,18 @@ const UNDO: Event = Event {
     what: What::Undo(0),
 };
 
+/// How many looks an event of an empty log takes, and how many its undo.
+fn looks_of_both(alloc: Global, graph: &Graph, event: Event) -> Option<(u64, u64)> {
+    let empty = Front::empty(alloc).ok()?;
+    let with_event = empty.extend(alloc, event).ok()?;
+    let lost = looks_of_event(alloc, graph, &empty, event)?;
+    let gained = looks_of_event(alloc, graph, &with_event, UNDO)?;
+    Some((lost, gained))
+}
+
 /// How many looks a cut of an element of the array 1 takes, and how many its undo.
 fn looks_of_cut(alloc: Global, graph: &Graph, element: u32) -> Option<(u64, u64)> {
-    let empty = Front::empty(alloc).ok()?;
-    let with_cut = empty.extend(alloc, cut(element)).ok()?;
-    let lost = looks_of_event(alloc, graph, &empty, cut(element))?;
-    let gained = looks_of_event(alloc, graph, &with_cut, UNDO)?;
-    Some((lost, gained))
+    looks_of_both(alloc, graph, cut(element))
 }
 
 /// The dump of the cycle, with more empty arrays in elements of the first array, of IDs from 4,096 to below a last one.
@@ -77,5 +82,21 @@ fn looks_of_parallel_edges(rt: HostRuntime) -> Result<(), Fail> {
     let (other, _) = looks_of_cut(alloc, &graph, 1).ok_or("the log takes both")?;
     assert!(rt; support > 0 && support <= 6);
     assert!(rt; other <= 2);
+    Ok(())
+}
+
+/// Two references are lost at once. Five objects fall, of degree 11: the weak reference 3, its class 2, and 2 for each of the
+/// three arrays.
+#[test]
+fn looks_of_a_cleared_kind(rt: HostRuntime) -> Result<(), Fail> {
+    let alloc = rt.alloc();
+    let graph = graph_of(&rt, alloc, SOFT_THEN_WEAK).ok_or("the dump opens")?;
+    let event = Event {
+        who: 0,
+        what: What::Do(Edit::ClearAll(RefKind::Soft)),
+    };
+    let (lost, gained) = looks_of_both(alloc, &graph, event).ok_or("the log takes both")?;
+    assert!(rt; lost > 0 && lost <= 22);
+    assert!(rt; gained > 0 && gained <= 22);
     Ok(())
 }

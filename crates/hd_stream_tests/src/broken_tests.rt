@@ -8,25 +8,31 @@ use std::test::Fail;
 use std::thread::Threads;
 
 /// The lines of a session.
-const LINES: [&str; 5] = [
+const LINES: [&str; 8] = [
     "strength 0x2\n",
     "cut 0x1 e0\n",
+    "strength 0x2\n",
     "fell 0\n",
     "undo\n",
+    "undo 0\n",
+    "events\n",
     "quit\n",
 ];
 
 /// Their replies.
-const REPLIES: [&str; 5] = [
+const REPLIES: [&str; 8] = [
     "ok 1\nSTRONG\n",
     "ok 1\nevent 0 fell 1 back 0\n",
+    "ok 1\nUNREACHABLE\n",
     "ok 1\n0x2\n",
     "ok 1\nevent 1 fell 0 back 1\n",
+    "no NotLive\n",
+    "ok 2\n0 0 cut 0x1 e0 undone\n1 0 undo 0\n",
     "ok 0\n",
 ];
 
 /// How many events the log has after so many lines.
-const EVENTS: [u32; 6] = [0, 0, 1, 1, 2, 2];
+const EVENTS: [u32; 9] = [0, 0, 1, 1, 1, 2, 2, 2, 2];
 
 /// The first bytes of some, so many.
 fn first(bytes: &[u8], count: usize) -> &[u8] {
@@ -123,5 +129,18 @@ fn writer_breaks_at_each_byte(rt: HostRuntime) -> Result<(), Fail> {
         assert_eq!(rt; served.written.as_slice(), first(replies.as_bytes(), k));
         assert_eq!(rt; Some(&events), EVENTS.get(lines));
     }
+    Ok(())
+}
+
+/// A line that is too long is answered once it has ended, so a reader that fails before leaves no reply.
+#[test]
+fn reader_breaks_in_a_line_too_long(rt: HostRuntime) -> Result<(), Fail> {
+    let mut line = Vec::new(rt.alloc());
+    line.resize(4_097, b'x')?;
+    let read = read_some(&rt, line.as_slice());
+    let (served, events) = read.ok_or("the board opens")?;
+    assert_eq!(rt; served.ended, Err(ServeFault::Read));
+    assert_eq!(rt; served.written.len(), 0);
+    assert_eq!(rt; events, 0);
     Ok(())
 }

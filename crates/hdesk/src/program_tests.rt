@@ -6,7 +6,7 @@ use hd_terms::Mode;
 use std::alloc::{AllocError, Global};
 use std::fs::{self, File};
 use std::io::{self, BufRead, Read};
-use std::net::{Net, TcpListener, TcpStream};
+use std::net::{Ipv4Addr, Net, SocketAddr, TcpListener, TcpStream};
 use std::random::RandomSource;
 use std::rt::Files;
 use std::sync::Wait;
@@ -275,6 +275,18 @@ fn file_too_large(rt: HostRuntime) -> io::Result<()> {
     let large: &[u8] = b"hdesk: TooLarge at 0\n";
     assert!(rt; ends(&rt, &["stat", path], BAD_DUMP, b"", large)?);
     assert!(rt; ends(&rt, &["run", path], BAD_DUMP, b"", large)?);
+    fs::remove_file(&rt, path)?;
+    Ok(())
+}
+
+#[test]
+fn port_in_use(rt: HostRuntime) -> io::Result<()> {
+    let path = "port-test.hprof";
+    fs::write(&rt, path, &SAMPLE)?;
+    let listener = TcpListener::bind(&rt, SocketAddr::from((Ipv4Addr::LOCALHOST, 0)))?;
+    let port = format!(in rt.alloc(); "{}", listener.local_addr()?.port())?;
+    let words = ["serve", path, "--port", port.as_str(), "--analysts", "1"];
+    assert!(rt; ends(&rt, &words, FAILED, b"", b"hdesk: cannot listen\n")?);
     fs::remove_file(&rt, path)?;
     Ok(())
 }
