@@ -1,0 +1,5 @@
+pub mod OneStat
+pub mod OneList
+pub mod OneReply
+pub mod OneTurn
+pub mod OneSession

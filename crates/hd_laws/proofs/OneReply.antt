@@ -1,0 +1,132 @@
+-- The reply to a command that changes nothing is one, but for `chain`.
+use Rattle.std.proofs.Common.{◌≡◌, ◌∙◌, ℕ, List, [], ◌∷◌, ◌++◌, length, Option, Some, None, Result, Ok, Err, refl, sym, ap, subst}
+use Rattle.std.specs.Prelude.{map, slice_get, decimal}
+use Rattle.std.specs.List.{AllByRecursion}
+use Rattle.std.specs.List.Sorted.{IsStrictlyIncreasing}
+use Rattle.hd_terms.specs.declared.ClassRow.{ClassRow}
+use Rattle.hd_terms.specs.declared.Event.{Event}
+use Rattle.hd_terms.specs.declared.Group.{Group}
+use Rattle.hd_terms.specs.declared.Strength.{Strength}
+use Rattle.hd_terms.specs.declared.commands.Command.{Command}
+use Rattle.hd_terms.specs.declared.commands.Command.TheVariants as commands
+use Rattle.hd_terms.specs.declared.commands.LineFault.{LineFault}
+use Rattle.hd_terms.specs.Dump.{Dump}
+use Rattle.hd_terms.specs.Edges.{index_of}
+use Rattle.hd_terms.specs.EditedDump.{standing}
+use Rattle.hd_terms.specs.Fell.{Falls, FellCount}
+use Rattle.hd_terms.specs.Listed.{AreIdsOf, group_key}
+use Rattle.hd_terms.specs.Memory.{Memory}
+use Rattle.hd_terms.specs.Names.{id_text, group_text, group_name}
+use Rattle.hd_terms.specs.Replies.{answered, class_line, strength_name, RepliesStrength, RepliesSlots, RepliesInto, RepliesClasses, RepliesIds, RepliesFell, RefusesPrivate, RefusesBack, RepliesTo, RepliesDone, event_line}
+use Rattle.hd_terms.specs.Totals.{IsMember, IsGroupTotal}
+use Rattle.hd_terms.proofs.OneStrength.{one_strength}
+use Rattle.hd_laws.specs.Plain.{AsksNoChain}
+use Rattle.hd_laws.proofs.OneList.{one_list, rises_numbers, rises_keys, same_head, same_tail, no_items}
+use Rattle.hd_laws.proofs.OneStat.{same_number, same_count, same_bytes}
+
+-- the IDs of the objects that are meant, ascending
+one_ids : (dump : Dump) (IsMeant : ℕ → Type 0) (ids others : List ℕ) → AreIdsOf dump IsMeant ids → AreIdsOf dump IsMeant others → ids ≡ others
+one_ids dump IsMeant ids others a b =
+    one_list (λ n. n) ids others (rises_numbers ids a.ascending) (rises_numbers others b.ascending)
+    (λ z at. (b.meant z).1 ((a.meant z).0 at))
+    (λ z at. (a.meant z).1 ((b.meant z).0 at))
+
+-- how many objects fell
+pub one_fell : (dump : Dump) (before after : List Event) (n k : ℕ) → FellCount dump before after n → FellCount dump before after k → n ≡ k
+one_fell dump before after n k a b = a.count ∙ same_number dump (Falls dump before after) a.falls b.falls a.decides b.decides ∙ sym b.count
+
+-- what is answered to an event that the log has taken
+pub one_done : (dump : Dump) (before after : List Event) (reply other : List ℕ) → RepliesDone dump before after reply → RepliesDone dump before after other → reply ≡ other
+one_done dump before after reply other a b =
+    a.reply_is
+    ∙ ap (λ (n : ℕ). answered (event_line (length before) n a.back ∷ [])) (one_fell dump before after a.fell b.fell a.fell_is b.fell_is)
+    ∙ ap (λ (n : ℕ). answered (event_line (length before) b.fell n ∷ [])) (one_fell dump after before a.back b.back a.back_is b.back_is)
+    ∙ sym b.reply_is
+
+module _ (dump : Dump) (log : List Event) (s : Strength) where
+  -- the line of a row goes by its group
+  same_row : (a b : ClassRow) → a.group ≡ b.group → IsGroupTotal dump log a.group s a.count a.bytes → IsGroupTotal dump log b.group s b.count b.bytes → class_line dump a ≡ class_line dump b
+  same_row a b same t u =
+      let moved : IsGroupTotal dump log a.group s b.count b.bytes = subst (λ (g : Group). IsGroupTotal dump log g s b.count b.bytes) (sym same) u in
+      let counts = same_count dump (IsMember dump log a.group s) a.count a.bytes b.count b.bytes t moved in
+      let bytes = same_bytes dump (IsMember dump log a.group s) a.count a.bytes b.count b.bytes t moved in
+      ap (λ (g : Group). group_text g ++ 32 ∷ decimal a.count ++ 32 ∷ decimal a.bytes ++ 32 ∷ group_name dump g) same
+      ∙ ap (λ (n : ℕ). group_text b.group ++ 32 ∷ decimal n ++ 32 ∷ decimal a.bytes ++ 32 ∷ group_name dump b.group) counts
+      ∙ ap (λ (n : ℕ). group_text b.group ++ 32 ∷ decimal b.count ++ 32 ∷ decimal n ++ 32 ∷ group_name dump b.group) bytes
+
+  same_rows : (rows others : List ClassRow) → AllByRecursion (λ (row : ClassRow). IsGroupTotal dump log row.group s row.count row.bytes) rows
+      → AllByRecursion (λ (row : ClassRow). IsGroupTotal dump log row.group s row.count row.bytes) others
+      → map (λ (row : ClassRow). row.group) rows ≡ map (λ (row : ClassRow). row.group) others → map (class_line dump) rows ≡ map (class_line dump) others
+  same_rows [] [] t u h = refl
+  same_rows [] (b ∷ others) t u h = absurd (no_items b.group (map (λ (row : ClassRow). row.group) others) h)
+  same_rows (a ∷ more) [] t u h = absurd (no_items a.group (map (λ (row : ClassRow). row.group) more) (sym h))
+  same_rows (a ∷ more) (b ∷ others) t u h =
+      let first = same_head a.group b.group (map (λ (row : ClassRow). row.group) more) (map (λ (row : ClassRow). row.group) others) h in
+      let rest = same_tail a.group b.group (map (λ (row : ClassRow). row.group) more) (map (λ (row : ClassRow). row.group) others) h in
+      ap (λ (l : List ℕ). l ∷ map (class_line dump) more) (same_row a b first t.0 u.0)
+      ∙ ap (λ (ls : List (List ℕ)). class_line dump b ∷ ls) (same_rows more others t.1 u.1 rest)
+
+  -- the groups of rows rise
+  rising : (rows : List ClassRow) → IsStrictlyIncreasing (map (λ (row : ClassRow). group_key row.group) rows) → IsStrictlyIncreasing (map group_key (map (λ (row : ClassRow). row.group) rows))
+  rising rows h = subst IsStrictlyIncreasing (sym (twice rows)) h
+    where
+      twice : (rows : List ClassRow) → map group_key (map (λ (row : ClassRow). row.group) rows) ≡ map (λ (row : ClassRow). group_key row.group) rows
+      twice [] = refl
+      twice (a ∷ more) = ap (λ (ks : List ℕ). group_key a.group ∷ ks) (twice more)
+
+  one_classes : (reply other : List ℕ) → RepliesClasses dump log s reply → RepliesClasses dump log s other → reply ≡ other
+  one_classes reply other (rows, are, is) (others, too, also) =
+      let gs = map (λ (row : ClassRow). row.group) rows in
+      let hs = map (λ (row : ClassRow). row.group) others in
+      let groups : gs ≡ hs = one_list group_key gs hs (rises_keys group_key gs (rising rows are.in_order)) (rises_keys group_key hs (rising others too.in_order))
+      (λ g at. (too.groups g).1 ((are.groups g).0 at))
+      (λ g at. (are.groups g).1 ((too.groups g).0 at)) in
+      is ∙ ap (λ (ls : List (List ℕ)). answered ls) (same_rows rows others are.totals too.totals groups) ∙ sym also
+
+module _ (dump : Dump) (log : List Event) where
+  strength_of : (o : Option ℕ) (reply other : List ℕ) → RepliesStrength dump log o reply → RepliesStrength dump log o other → reply ≡ other
+  strength_of None reply other a b = a ∙ sym b
+  strength_of (Some o) reply other (s, has, is) (t, also, too) =
+      is ∙ ap (λ (x : Strength). answered (strength_name x ∷ [])) (one_strength (standing dump log) o s t has also) ∙ sym too
+
+  slots_of : (o : Option ℕ) (reply other : List ℕ) → RepliesSlots dump log o reply → RepliesSlots dump log o other → reply ≡ other
+  slots_of None reply other a b = a ∙ sym b
+  slots_of (Some o) reply other a b = a ∙ sym b
+
+  into_of : (o : Option ℕ) (reply other : List ℕ) → RepliesInto dump log o reply → RepliesInto dump log o other → reply ≡ other
+  into_of None reply other a b = a ∙ sym b
+  into_of (Some o) reply other a b = a ∙ sym b
+
+  ids_of : (IsMeant : ℕ → Type 0) (reply other : List ℕ) → RepliesIds (AreIdsOf dump IsMeant) reply → RepliesIds (AreIdsOf dump IsMeant) other → reply ≡ other
+  ids_of IsMeant reply other (ids, are, is) (others, too, also) = is ∙ ap (λ (xs : List ℕ). answered (map id_text xs)) (one_ids dump IsMeant ids others are too) ∙ sym also
+
+  fell_of : (before : Option (List Event)) (reply other : List ℕ) → RepliesFell dump log before reply → RepliesFell dump log before other → reply ≡ other
+  fell_of None reply other a b = a ∙ sym b
+  fell_of (Some before) reply other a b = ids_of (Falls dump before log) reply other a b
+
+  private_of : (home : Option (List Event)) (reply other : List ℕ) → RefusesPrivate home reply → RefusesPrivate home other → reply ≡ other
+  private_of None reply other a b = absurd a
+  private_of (Some home) reply other a b = a ∙ sym b
+
+  back_of : (home : Option (List Event)) (reply other : List ℕ) → RefusesBack home reply → RefusesBack home other → reply ≡ other
+  back_of None reply other a b = a ∙ sym b
+  back_of (Some home) reply other a b = absurd a
+
+-- what is answered to a command that changes nothing and asks for no chain
+pub one_reply : (dump : Dump) (m : Memory) (r : Result Command LineFault) (reply other : List ℕ) → AsksNoChain r → RepliesTo dump m r reply → RepliesTo dump m r other → reply ≡ other
+one_reply dump m (Err f) reply other no_chain a b = a ∙ sym b
+one_reply dump m (Ok (commands.Strength id)) reply other no_chain a b = strength_of dump m.log (index_of dump.objects id) reply other a b
+one_reply dump m (Ok (commands.Chain id)) reply other no_chain a b = absurd (no_chain id refl)
+one_reply dump m (Ok (commands.Slots id)) reply other no_chain a b = slots_of dump m.log (index_of dump.objects id) reply other a b
+one_reply dump m (Ok (commands.Into id)) reply other no_chain a b = into_of dump m.log (index_of dump.objects id) reply other a b
+one_reply dump m (Ok commands.Roots) reply other no_chain a b = a ∙ sym b
+one_reply dump m (Ok (commands.Classes s)) reply other no_chain a b = one_classes dump m.log s reply other a b
+one_reply dump m (Ok (commands.Members group s)) reply other no_chain a b = ids_of dump m.log (IsMember dump m.log group s) reply other a b
+one_reply dump m (Ok (commands.Edit edit)) reply other no_chain a b = absurd a
+one_reply dump m (Ok (commands.Undo number)) reply other no_chain a b = absurd a
+one_reply dump m (Ok commands.Mark) reply other no_chain a b = a.reply_is ∙ sym b.reply_is
+one_reply dump m (Ok (commands.Fell k)) reply other no_chain a b = fell_of dump m.log (slice_get m.marks k) reply other a b
+one_reply dump m (Ok commands.Events) reply other no_chain a b = a ∙ sym b
+one_reply dump m (Ok commands.Private) reply other no_chain a b = private_of dump m.log m.home reply other a b
+one_reply dump m (Ok commands.Back) reply other no_chain a b = back_of dump m.log m.home reply other a b
+one_reply dump m (Ok commands.Quit) reply other no_chain a b = a ∙ sym b

@@ -1,0 +1,25 @@
+//! Two laws, each the contract of a function with an empty body.
+ghost use Rattle.std.specs.Prelude.{ℕ, List, ◌≡◌};
+ghost use Rattle.std.specs.List.{AllByRecursion};
+ghost use Rattle.hd_terms.specs.declared.Mode.{Mode};
+ghost use Rattle.hd_terms.specs.Dump.{Dump};
+ghost use Rattle.hd_terms.specs.Lines.{command_of};
+ghost use Rattle.hd_terms.specs.Objects.{IsDumpOf};
+ghost use Rattle.hd_terms.specs.Sessions.{Turn};
+ghost use Rattle.hd_terms.specs.Stat.{IsStat};
+ghost use Rattle.hd_laws.specs.Plain.{AreAlike, AsksNoChain, IsServedPlainly};
+
+/// The bytes of a dump and the mode have one text of `stat`.
+pub fn one_stat()
+    ensures { (mode : Mode) (bytes text other : List ℕ) (a b : Dump) → IsDumpOf mode bytes a → IsDumpOf mode bytes b → IsStat a text → IsStat b other → text ≡ other }
+{}
+
+/// Where an analyst alone is served a whole input over the bytes of a dump, no private part begins, and memory doesn't run out,
+/// the replies are a function of the bytes, the mode and the input, but for those to `chain`. Where no chain is asked for,
+/// all that is written is.
+pub fn one_run()
+    ensures alike { (mode : Mode) (bytes input written other : List ℕ) (a b : Dump) (ts us : List Turn) → IsDumpOf mode bytes a → IsDumpOf mode bytes b
+        → IsServedPlainly a input written ts → IsServedPlainly b input other us → AreAlike ts us }
+    ensures same { (mode : Mode) (bytes input written other : List ℕ) (a b : Dump) (ts us : List Turn) → IsDumpOf mode bytes a → IsDumpOf mode bytes b
+        → IsServedPlainly a input written ts → IsServedPlainly b input other us → AllByRecursion (λ (t : Turn). AsksNoChain (command_of t.line)) ts → written ≡ other }
+{}
