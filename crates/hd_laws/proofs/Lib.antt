@@ -3,3 +3,4 @@ pub mod OneList
 pub mod OneReply
 pub mod OneTurn
 pub mod OneSession
+pub mod PlainExample

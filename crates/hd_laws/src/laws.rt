@@ -1,8 +1,9 @@
-//! Two laws, each the contract of a function with an empty body.
-ghost use Rattle.std.specs.Prelude.{ℕ, List, ◌≡◌};
+//! Two laws and an example, each the contract of a function with an empty body.
+ghost use Rattle.std.specs.Prelude.{ℕ, List, [], ◌∷◌, ◌++◌, ◌≡◌, codes};
 ghost use Rattle.std.specs.List.{AllByRecursion};
 ghost use Rattle.hd_terms.specs.declared.Mode.{Mode};
 ghost use Rattle.hd_terms.specs.Dump.{Dump};
+ghost use Rattle.hd_terms.specs.Examples as examples;
 ghost use Rattle.hd_terms.specs.Lines.{command_of};
 ghost use Rattle.hd_terms.specs.Objects.{IsDumpOf};
 ghost use Rattle.hd_terms.specs.Sessions.{Turn};
@@ -22,4 +23,10 @@ pub fn one_run()
         → IsServedPlainly a input written ts → IsServedPlainly b input other us → AreAlike ts us }
     ensures same { (mode : Mode) (bytes input written other : List ℕ) (a b : Dump) (ts us : List Turn) → IsDumpOf mode bytes a → IsDumpOf mode bytes b
         → IsServedPlainly a input written ts → IsServedPlainly b input other us → AllByRecursion (λ (t : Turn). AsksNoChain (command_of t.line)) ts → written ≡ other }
+{}
+
+/// There are such sessions: over two arrays, one that asks for a strength and ends.
+pub fn plain_session()
+    ensures { (turns : List Turn) × IsServedPlainly examples.two_arrays (codes "strength 0x2" ++ 10 ∷ codes "quit" ++ 10 ∷ [])
+        (codes "ok 1" ++ 10 ∷ codes "STRONG" ++ 10 ∷ codes "ok 0" ++ 10 ∷ []) turns }
 {}

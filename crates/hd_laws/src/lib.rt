@@ -4,4 +4,4 @@
 
 mod laws;
 
-pub use laws::{one_run, one_stat};
+pub use laws::{one_run, one_stat, plain_session};
