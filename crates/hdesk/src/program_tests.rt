@@ -279,15 +279,31 @@ fn file_too_large(rt: HostRuntime) -> io::Result<()> {
     Ok(())
 }
 
+/// Whether serving a file at a port ends because the port can't be listened on.
+fn cannot_listen<R>(rt: &R, path: &str, port: &str) -> Result<bool, AllocError>
+where
+    R: AllocGlobal
+        + Clock
+        + Files<File = File>
+        + Net<Listener = TcpListener, Stream = TcpStream>
+        + RandomSource
+        + Threads
+        + Wait
+        + Sync,
+{
+    let words = ["serve", path, "--port", port, "--analysts", "1"];
+    ends(rt, &words, FAILED, b"", b"hdesk: cannot listen\n")
+}
+
 #[test]
 fn port_in_use(rt: HostRuntime) -> io::Result<()> {
     let path = "port-test.hprof";
     fs::write(&rt, path, &SAMPLE)?;
     let listener = TcpListener::bind(&rt, SocketAddr::from((Ipv4Addr::LOCALHOST, 0)))?;
     let port = format!(in rt.alloc(); "{}", listener.local_addr()?.port())?;
-    let words = ["serve", path, "--port", port.as_str(), "--analysts", "1"];
-    assert!(rt; ends(&rt, &words, FAILED, b"", b"hdesk: cannot listen\n")?);
+    let ended = cannot_listen(&rt, path, port.as_str())?;
     fs::remove_file(&rt, path)?;
+    assert!(rt; ended);
     Ok(())
 }
 
