@@ -2,19 +2,14 @@
 use Rattle.std.proofs.Common.{◌≡◌, ℕ, ⊎_elim, List, [], ◌∷◌, ◌++◌, codes, lit<, sym, ap, refl, arith}
 use Rattle.std.specs.Prelude.{decimal}
 use Rattle.std.proofs.lemmas.Fmt.{decimal_digit}
-use Rattle.hd_terms.specs.declared.Slot.TheVariants as slots
-use Rattle.hd_terms.specs.declared.Strength.TheVariants as strengths
-use Rattle.hd_terms.specs.declared.Support.TheVariants as supports
 use Rattle.hd_terms.specs.declared.errors.LogFault.TheVariants as faults
 use Rattle.hd_terms.specs.declared.errors.Refusal.TheVariants as refusals
-use Rattle.hd_terms.specs.EditedDump.{standing}
 use Rattle.hd_terms.specs.Examples as examples
 use Rattle.hd_terms.specs.Memory.{beginning}
 use Rattle.hd_terms.specs.Replies.{IsReply, IsUnserved, answered, log_fault_name, refusal_name, refused, with_newline}
 use Rattle.hd_terms.specs.Sessions.{Turn, IsLater, IsRefreshed}
 use Rattle.hd_terms.specs.Sessions as sessions
 use Rattle.hd_terms.proofs.LawfulByTest.{lawful}
-use Rattle.hd_terms.proofs.SettledByTest.{strengths_of}
 use Rattle.hd_laws.specs.Plain.{IsPlain, IsServedPlainly}
 
 -- `ok 1` and STRONG; `ok 0`
@@ -24,22 +19,9 @@ ok_strong = codes "ok 1" ++ 10 ∷ codes "STRONG" ++ 10 ∷ []
 abbrev pub ok_none : List ℕ
 ok_none = codes "ok 0" ++ 10 ∷ []
 
--- the answers with their numbers spelled
-ok_strong_is : ok_strong ≡ answered (codes "STRONG" ∷ [])
-ok_strong_is = sym (ap (λ (digits : List ℕ). with_newline (codes "ok " ++ digits) ++ with_newline (codes "STRONG")) (decimal_digit 1 (lit< tt)))
-
+-- the answer with its number spelled
 ok_none_is : ok_none ≡ answered []
 ok_none_is = sym (ap (λ (digits : List ℕ). with_newline (codes "ok " ++ digits) ++ []) (decimal_digit 0 (lit< tt)))
-
--- the second object is strong
-strong_reply : IsReply examples.two_arrays (beginning [] []) (codes "strength 0x2") ok_strong
-strong_reply = (
-  strengths.Strong,
-  strengths_of (standing examples.two_arrays [])
-      ((record { strength = strengths.Strong; support = supports.Root 0; stamp = 0 })
-      ∷ (record { strength = strengths.Strong; support = supports.Edge 0 (slots.Element 0); stamp = 1 }) ∷ []) refl 1,
-  ok_strong_is,
-)
 
 -- a turn over the empty log that changes nothing
 abbrev turn : List ℕ → List ℕ → Turn
@@ -72,8 +54,8 @@ strong_is_plain = record { is_open = λ h. absurd cc; served = served ok_strong 
 quit_is_plain : IsPlain (turn (codes "quit") ok_none)
 quit_is_plain = record { is_open = λ h. absurd cc; served = served ok_none refl; finished = λ event is. no_refusal ok_none (codes "Accepted " ++ decimal event) refl is }
 
-pub plain_session : (turns : List Turn) × IsServedPlainly examples.two_arrays (codes "strength 0x2" ++ 10 ∷ codes "quit" ++ 10 ∷ []) (ok_strong ++ ok_none) turns
-plain_session = (
+pub plain_session : IsReply examples.two_arrays (beginning [] []) (codes "strength 0x2") ok_strong → (turns : List Turn) × IsServedPlainly examples.two_arrays (codes "strength 0x2" ++ 10 ∷ codes "quit" ++ 10 ∷ []) (ok_strong ++ ok_none) turns
+plain_session strong = (
   turn (codes "strength 0x2") ok_strong ∷ turn (codes "quit") ok_none ∷ [],
   record {
     served = record {
@@ -82,7 +64,7 @@ plain_session = (
           session = (
             nothing_new,
             nothing_came,
-            sessions.answered strong_reply refl refl,
+            sessions.answered strong refl refl,
             (nothing_new, nothing_came, sessions.answered ok_none_is refl refl, tt),
           );
           over = refl;

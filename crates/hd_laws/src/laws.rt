@@ -1,4 +1,4 @@
-//! Two laws and an example, each the contract of a function with an empty body.
+//! Two laws and an example, each the contract of a function that does nothing.
 ghost use Rattle.std.specs.Prelude.{ℕ, List, [], ◌∷◌, ◌++◌, ◌≡◌, codes};
 ghost use Rattle.std.specs.List.{AllByRecursion};
 ghost use Rattle.hd_terms.specs.declared.Mode.{Mode};
@@ -9,6 +9,8 @@ ghost use Rattle.hd_terms.specs.Objects.{IsDumpOf};
 ghost use Rattle.hd_terms.specs.Sessions.{Turn};
 ghost use Rattle.hd_terms.specs.Stat.{IsStat};
 ghost use Rattle.hd_laws.specs.Plain.{AreAlike, AsksNoChain, IsServedPlainly};
+
+use hd_terms::reply_examples;
 
 /// The bytes of a dump and the mode have one text of `stat`.
 pub fn one_stat()
@@ -29,4 +31,6 @@ pub fn one_run()
 pub fn plain_session()
     ensures { (turns : List Turn) × IsServedPlainly examples.two_arrays (codes "strength 0x2" ++ 10 ∷ codes "quit" ++ 10 ∷ [])
         (codes "ok 1" ++ 10 ∷ codes "STRONG" ++ 10 ∷ codes "ok 0" ++ 10 ∷ []) turns }
-{}
+{
+    reply_examples();
+}
