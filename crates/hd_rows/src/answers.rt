@@ -102,19 +102,23 @@ fn first_line(alloc: Global, text: &[u8]) -> Result<Vec<u8>, AllocError> {
 }
 
 /// How a dump opens in mode Direct: the first line of its `stat`, with the newline, or its fault. Where the answer isn't
-/// the same with 16 workers as with one, the line of 16 stands behind it.
+/// the same with so many workers as with one, the line of these stands behind it.
 pub fn opening<R: AllocGlobal + RandomSource + Threads + Wait + Sync>(
     rt: &R,
     dump: &[u8],
+    workers: u32,
 ) -> Result<Vec<u8>, AllocError> {
     let one = answer(rt, dump, 1, Mode::Direct, Question::Stat)?;
-    let most = answer(rt, dump, 16, Mode::Direct, Question::Stat)?;
     let line = first_line(rt.alloc(), one.as_slice())?;
-    if most.as_slice() == one.as_slice() {
+    if workers == 1 {
         return Ok(line);
     }
-    let other = first_line(rt.alloc(), most.as_slice())?;
-    both(rt.alloc(), line, 16, other.as_slice())
+    let more = answer(rt, dump, workers, Mode::Direct, Question::Stat)?;
+    if more.as_slice() == one.as_slice() {
+        return Ok(line);
+    }
+    let other = first_line(rt.alloc(), more.as_slice())?;
+    both(rt.alloc(), line, workers, other.as_slice())
 }
 
 /// The last lines of a text, so many of them.

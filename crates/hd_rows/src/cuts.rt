@@ -86,11 +86,13 @@ fn next_run(
     })
 }
 
-/// How a dump opens that is cut to each length below its own: a line for each run of lengths.
+/// How a dump opens that is cut to each length below its own, with one worker and with so many: a line for each run of
+/// lengths.
 pub fn openings_of_cuts<R: AllocGlobal + RandomSource + Threads + Wait + Sync>(
     rt: &R,
     dump: &[u8],
     cut: Cut,
+    workers: u32,
 ) -> Result<Vec<u8>, AllocError> {
     let alloc = rt.alloc();
     let mut text = Vec::new(alloc);
@@ -98,11 +100,11 @@ pub fn openings_of_cuts<R: AllocGlobal + RandomSource + Threads + Wait + Sync>(
     let mut run = Run {
         first: 0,
         last: 0,
-        opening: opening(rt, shortest.as_slice())?,
+        opening: opening(rt, shortest.as_slice(), workers)?,
     };
     for len in 1..cut_len(dump, cut) {
         let bytes = cut_to(alloc, dump, cut, len)?;
-        let answer = opening(rt, bytes.as_slice())?;
+        let answer = opening(rt, bytes.as_slice(), workers)?;
         run = next_run(alloc, &mut text, run, len, answer)?;
     }
     put_run(alloc, &mut text, &run)?;

@@ -117,7 +117,7 @@ fn run_opens<R: AllocGlobal + RandomSource + Threads + Wait + Sync>(
     case: &mut Case,
 ) -> Result<(), CaseFault> {
     let dump = case.dump()?;
-    let text = opening(rt, dump.as_slice())?;
+    let text = opening(rt, dump.as_slice(), case.settings().most_workers)?;
     case.put(text.as_slice())?;
     Ok(())
 }
@@ -139,7 +139,7 @@ fn run_change<R: AllocGlobal + RandomSource + Threads + Wait + Sync>(
         Some(place) => *place = byte,
         None => return Err(CaseFault::WrongWord),
     }
-    let text = opening(rt, dump.as_slice())?;
+    let text = opening(rt, dump.as_slice(), case.settings().most_workers)?;
     case.put(line.as_bytes())?;
     case.put(b": ")?;
     case.put(text.as_slice())?;
@@ -153,7 +153,7 @@ fn run_cuts<R: AllocGlobal + RandomSource + Threads + Wait + Sync>(
     cut: Cut,
 ) -> Result<(), CaseFault> {
     let dump = case.dump()?;
-    let text = openings_of_cuts(rt, dump.as_slice(), cut)?;
+    let text = openings_of_cuts(rt, dump.as_slice(), cut, case.settings().most_workers)?;
     case.put(text.as_slice())?;
     Ok(())
 }
