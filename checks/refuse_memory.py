@@ -13,7 +13,7 @@ the fault OutOfMemory, and nothing is written. There are three sweeps:
 - with the N-th allocation alone refused, for N = 1, 2, .. up to the first run in which nothing was left to refuse.
   `refuse.rs`, put before the C library, refuses it;
 - the same over files: `stat` and a session over a dump with a weak reference and a finalizer, and `stat` over three dumps
-  with a count of 4,294,967,295, which have to be refused for their fault or for want of memory.
+  with a count of 4,294,967,295, which have to be refused for their fault or end out of memory.
 
 Prints for each sweep how many runs had each outcome. The status is 1 where a run did anything else, or where the second
 sweep has not met each of the outcomes. Needed are Linux, bash, rustc, the GNU C library and Python 3.8 or later.
