@@ -1,5 +1,5 @@
 -- Sessions of which the definitions leave one text, but for chains.
--- Source: this project. Which chain is shown is left open; so is when memory runs out, and what others do beside a private part.
+-- Source: this project. Which chain is shown is left open; so is when memory runs out or a log is foreign, and what others do beside a private part.
 use Rattle.std.specs.Prelude.{◌≡◌, ℕ, List, [], ◌∷◌, Result, Ok}
 use Rattle.std.specs.List.{AllByRecursion}
 use Rattle.hd_terms.specs.declared.commands.Command.{Command}
@@ -14,7 +14,8 @@ use Rattle.hd_terms.specs.Sessions.{Turn, IsServedBy, IsSessionAlone}
 abbrev pub AsksNoChain : Result Command LineFault → Type 0
 AsksNoChain r = (id : ℕ) → r ≡ Ok (commands.Chain id) → ⊥
 
--- a turn that begins no private part, and for which memory didn't run out: neither before its event was taken nor after
+-- a turn that begins no private part, and whose command was served: memory didn't run out, neither before its event was
+-- taken nor after, and the board's log wasn't foreign
 pub record IsPlain (t : Turn) : Type 0 where
   pub is_open : command_of t.line ≡ Ok commands.Private → ⊥
   pub served : IsUnserved t.reply → ⊥

@@ -17,9 +17,9 @@ pub fn one_stat()
     ensures { (mode : Mode) (bytes text other : List ℕ) (a b : Dump) → IsDumpOf mode bytes a → IsDumpOf mode bytes b → IsStat a text → IsStat b other → text ≡ other }
 {}
 
-/// Where an analyst alone is served a whole input over the bytes of a dump, no private part begins, and memory doesn't run out,
-/// the replies are a function of the bytes, the mode and the input, but for those to `chain`. Where no chain is asked for,
-/// all that is written is.
+/// Where an analyst alone is served a whole input over the bytes of a dump, no private part begins, and no reply says that
+/// memory ran out or that the log is foreign, the replies are a function of the bytes, the mode and the input, but for those
+/// to `chain`. Where no chain is asked for, all that is written is.
 pub fn one_run()
     ensures alike { (mode : Mode) (bytes input written other : List ℕ) (a b : Dump) (ts us : List Turn) → IsDumpOf mode bytes a → IsDumpOf mode bytes b
         → IsServedPlainly a input written ts → IsServedPlainly b input other us → AreAlike ts us }
