@@ -48,7 +48,7 @@ module _ (gives : (g : Standing) (ks : List Reached) → Settled g ks → (o : �
         (at.0, at.1, subst (λ (a : Group). IsMember dump log a s at.0) same ((decides s (get_or rows k d).group at.0 at.1).0 at.2))
 
     is-listed : (g : Group) → HasMember dump log s g → Contains (map row_group rows) g
-    is-listed g (o, lt, member) = subst (λ (a : Group). Contains (map row_group rows) a) member.0 (h.all o lt (is-kept gives one dump log ks settled s o member.1))
+    is-listed g (o, lt, member) = subst (λ (a : Group). Contains (map row_group rows) a) member.0 (h.all o lt (is-kept one dump log ks (gives (standing dump log) ks settled) s o member.1))
 
     pub class-rows : AreClassRows dump log s rows
     class-rows = record {

@@ -59,12 +59,12 @@ module _ (gives : (g : Standing) (ks : List Reached) → Settled g ks → (o : �
       member : (o : ℕ) → is_member dump ks group s o ≡ true → IsMember dump log group s o
       member o e =
           let parts = both (has_kept ks s o) (same_group (object_at dump o).group group) e in
-          (one-group (object_at dump o).group group parts.1, has-strength gives one dump log ks settled s o parts.0)
+          (one-group (object_at dump o).group group parts.1, has-strength one dump log ks (gives (standing dump log) ks settled) s o parts.0)
 
       decided : (o : ℕ) → IsMember dump log group s o → is_member dump ks group s o ≡ true
       decided o m =
           let same : same_group (object_at dump o).group group ≡ true = subst (λ (g : Group). same_group (object_at dump o).group g ≡ true) m.0 (itself (object_at dump o).group) in
-          pass (has_kept ks s o) (same_group (object_at dump o).group group) (is-kept gives one dump log ks settled s o m.1) same
+          pass (has_kept ks s o) (same_group (object_at dump o).group group) (is-kept one dump log ks (gives (standing dump log) ks settled) s o m.1) same
 
 -- objects up to the end of the page of the first
 pub same-page : (first end o : ℕ) → end ≤ first + (1024 - first % 1024) → first ≤ o → o < end → o / 1024 ≡ first / 1024

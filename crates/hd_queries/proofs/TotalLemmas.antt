@@ -1,8 +1,8 @@
 -- The totals of strengths and of groups, by what is kept of the objects.
-use Rattle.std.proofs.Common.{◌≡◌, ◌∙◌, ℕ, ◌+◌, ◌<◌, ◌≤◌, ◌^◌, Bool, true, false, List, length, take, cond, eq-eqb, refl, sym, ap, subst, arith, add-zero, zero-add}
+use Rattle.std.proofs.Common.{◌≡◌, ◌∙◌, ℕ, zero, suc, ◌+◌, ◌<◌, ◌≤◌, ◌^◌, Bool, true, false, List, [], ◌∷◌, length, map, get_or, take, cond, eq-eqb, refl, sym, ap, subst, arith, add-zero, zero-add}
 use Rattle.std.specs.Prelude.{sum_by}
 use Rattle.std.specs.List.{range_with_len}
-use Rattle.std.proofs.lemmas.List.{take_all}
+use Rattle.std.proofs.lemmas.List.{take_all, get_or-map}
 use Rattle.std.proofs.lemmas.List.FromFn.{length-range_with_len, get_or-range_with_len}
 use Rattle.std.proofs.lemmas.List.Sums.{sum_by_more}
 use Rattle.hd_terms.specs.declared.Strength.{Strength}
@@ -14,19 +14,31 @@ use Rattle.hd_terms.specs.Paths.{Standing}
 use Rattle.hd_terms.specs.Dump.{Dump, object_at}
 use Rattle.hd_terms.specs.EditedDump.{standing}
 use Rattle.hd_terms.specs.Strengths.{HasStrength}
-use Rattle.hd_terms.specs.Settled.{Reached, Settled, reached_at}
+use Rattle.hd_terms.specs.Settled.{Reached, reached_at, unreached}
 use Rattle.hd_terms.specs.Totals.{IsTotal}
 use Rattle.hd_totals.specs.declared.total.StrengthTotals.{StrengthTotals}
 use Rattle.hd_totals.specs.Members.{has_kept, bytes_if}
 use Rattle.hd_totals.specs.Running.{plus_one}
 use Rattle.hd_totals.specs.Totals.{no_totals, total_for}
 use Rattle.hd_totals.proofs.TotalLemmas.{one-rank, plus-count, plus-bytes, total-none}
+use Rattle.hd_strength.specs.Found.{strength_of, only_strength}
 use Rattle.hd_queries.specs.Totals.{AreCounted, sum_of}
 use Rattle.hd_queries.proofs.FallenLemmas.{count-more, count-all}
 
 case-le : (b : Bool) (n : ℕ) → cond b n 0 ≤ n
 case-le true n = omega arith
 case-le false n = omega arith
+
+-- of strengths alone the same is seen
+pub alone-at : (ks : List Reached) (o : ℕ) → (reached_at (map only_strength (map strength_of ks)) o).strength ≡ (reached_at ks o).strength
+alone-at [] zero = refl
+alone-at [] (suc o) = refl
+alone-at (k ∷ ks) zero = refl
+alone-at (k ∷ ks) (suc o) = alone-at ks o
+
+-- the strength that is seen is the one that stands there
+pub only-at : (ss : List Strength) (o : ℕ) (d : Strength) → o < length ss → (reached_at (map only_strength ss) o).strength ≡ get_or ss o d
+only-at ss o d lt = ap (λ (k : Reached). k.strength) (get_or-map only_strength ss o d unreached lt)
 
 -- no object
 pub none-counted : (dump : Dump) (ks : List Reached) (start : ℕ) → AreCounted dump ks start start no_totals
@@ -94,15 +106,14 @@ module _ (dump : Dump) (ks : List Reached) (start middle end : ℕ) (one other :
   pub bytes-fit : end < 2 ^ 32 → (s : Strength) → (total_for one s).bytes + (total_for other s).bytes < 2 ^ 64
   bytes-fit small s = omega (arith, first.small s, second.small s)
 
--- all objects, where what is kept is settled for the dump under a log
-module _ (gives : (g : Standing) (ks : List Reached) → Settled g ks → (o : ℕ) → HasStrength g o (reached_at ks o).strength)
-    (one : (g : Standing) (o : ℕ) (a b : Strength) → HasStrength g o a → HasStrength g o b → a ≡ b)
-    (dump : Dump) (log : List Event) (ks : List Reached) (settled : Settled (standing dump log) ks) where
+-- all objects, where what is kept has their strengths in the dump under a log
+module _ (one : (g : Standing) (o : ℕ) (a b : Strength) → HasStrength g o a → HasStrength g o b → a ≡ b)
+    (dump : Dump) (log : List Event) (ks : List Reached) (has : (o : ℕ) → HasStrength (standing dump log) o (reached_at ks o).strength) where
   pub has-strength : (s : Strength) (o : ℕ) → has_kept ks s o ≡ true → HasStrength (standing dump log) o s
-  has-strength s o e = subst (HasStrength (standing dump log) o) (one-rank (reached_at ks o).strength s e) (gives (standing dump log) ks settled o)
+  has-strength s o e = subst (HasStrength (standing dump log) o) (one-rank (reached_at ks o).strength s e) (has o)
 
   pub is-kept : (s : Strength) (o : ℕ) → HasStrength (standing dump log) o s → has_kept ks s o ≡ true
-  is-kept s o h = eq-eqb (rank (reached_at ks o).strength) (rank s) (ap rank (one (standing dump log) o (reached_at ks o).strength s (gives (standing dump log) ks settled o) h))
+  is-kept s o h = eq-eqb (rank (reached_at ks o).strength) (rank s) (ap rank (one (standing dump log) o (reached_at ks o).strength s (has o) h))
 
   pub total-is : (totals : StrengthTotals) → AreCounted dump ks 0 (length dump.objects) totals → (s : Strength) → IsTotal dump log s (total_for totals s).count (total_for totals s).bytes
   total-is totals h s = record {

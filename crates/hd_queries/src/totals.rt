@@ -1,29 +1,29 @@
 //! How many objects have each strength, and how many bytes, with no edit.
-ghost use Rattle.std.specs.Prelude.{◌≡◌, ◌+◌, ◌<◌, ◌≤◌, ◌^◌, [], length, IfOk};
-ghost use Rattle.hd_terms.specs.declared.Strength.{Strength};
+ghost use Rattle.std.specs.Prelude.{◌≡◌, ◌+◌, ◌<◌, ◌≤◌, ◌^◌, [], length, map, IfOk};
+ghost use Rattle.hd_terms.specs.declared.Strength.{Strength as OneStrength};
 ghost use Rattle.hd_terms.specs.Totals.{IsTotal};
+ghost use Rattle.hd_strength.specs.Found.{only_strength};
 ghost use Rattle.hd_queries.specs.Totals.{AreCounted, sum_of};
 ghost use Rattle.hd_totals.specs.Totals.{total_for};
 
 use hd_graph::Graph;
 use hd_log::Front;
-use hd_strength::from_scratch;
-use hd_supports::Strengths;
-use hd_terms::{NoMemory, one_strength, settled_supports_give_strengths};
+use hd_strength::strengths_alone;
+use hd_terms::{NoMemory, Strength, one_strength, settled_supports_give_strengths};
 use hd_totals::{StrengthTotals, Total};
 use std::alloc::Global;
 use std::thread::{Threads, join};
 
 /// The totals of the objects from one number on, before another.
-fn count_part(graph: &Graph, strengths: &Strengths, start: u32, end: u32) -> StrengthTotals
+fn count_part(graph: &Graph, strengths: &[Strength], start: u32, end: u32) -> StrengthTotals
     requires count { length strengths.now ≡ length graph.now.objects }
     requires order { start ≤ end }
     requires within { end ≤ length graph.now.objects }
-    ensures { AreCounted graph.now strengths.now start end result }
+    ensures { AreCounted graph.now (map only_strength strengths.now) start end result }
 {
     let mut totals = StrengthTotals::none();
     for o in start..end {
-        totals.add(strengths.strength(o), graph.bytes_of(o));
+        totals.add(strengths[o as usize], graph.bytes_of(o));
     }
     totals
 }
@@ -42,9 +42,9 @@ fn sum(one: Total, other: Total) -> Total
 
 /// The objects of two parts together.
 fn sums(one: StrengthTotals, other: StrengthTotals) -> StrengthTotals
-    requires count { (s : Strength) → (total_for one s).count + (total_for other s).count < 2 ^ 64 }
-    requires bytes { (s : Strength) → (total_for one s).bytes + (total_for other s).bytes < 2 ^ 64 }
-    ensures { (s : Strength) → total_for result s ≡ sum_of (total_for one s) (total_for other s) }
+    requires count { (s : OneStrength) → (total_for one s).count + (total_for other s).count < 2 ^ 64 }
+    requires bytes { (s : OneStrength) → (total_for one s).bytes + (total_for other s).bytes < 2 ^ 64 }
+    ensures { (s : OneStrength) → total_for result s ≡ sum_of (total_for one s) (total_for other s) }
 {
     StrengthTotals {
         strong: sum(one.strong, other.strong),
@@ -60,34 +60,34 @@ fn sums(one: StrengthTotals, other: StrengthTotals) -> StrengthTotals
 fn count_halves<R: Threads + Sync>(
     rt: &R,
     graph: &Graph,
-    strengths: &Strengths,
+    strengths: &[Strength],
     start: u32,
     end: u32,
 ) -> StrengthTotals
     requires count { length strengths.now ≡ length graph.now.objects }
     requires order { start ≤ end }
     requires within { end ≤ length graph.now.objects }
-    ensures { AreCounted graph.now strengths.now start end result }
+    ensures { AreCounted graph.now (map only_strength strengths.now) start end result }
 {
     let middle = start + (end - start) / 2;
     let (one, other) = join(
         rt,
         || -> StrengthTotals
             requires { (length strengths.now ≡ length graph.now.objects) × (start ≤ middle) × (middle ≤ length graph.now.objects) }
-            ensures { AreCounted graph.entry.now strengths.entry.now start middle result }
+            ensures { AreCounted graph.entry.now (map only_strength strengths.entry.now) start middle result }
         { count_part(graph, strengths, start, middle) },
         || -> StrengthTotals
             requires { (length strengths.now ≡ length graph.now.objects) × (middle ≤ end) × (end ≤ length graph.now.objects) }
-            ensures { AreCounted graph.entry.now strengths.entry.now middle end result }
+            ensures { AreCounted graph.entry.now (map only_strength strengths.entry.now) middle end result }
         { count_part(graph, strengths, middle, end) },
     );
     sums(one, other)
 }
 
 /// The totals of all objects, in four parts side by side.
-fn count_totals<R: Threads + Sync>(rt: &R, graph: &Graph, strengths: &Strengths) -> StrengthTotals
+fn count_totals<R: Threads + Sync>(rt: &R, graph: &Graph, strengths: &[Strength]) -> StrengthTotals
     requires { length strengths.now ≡ length graph.now.objects }
-    ensures { AreCounted graph.now strengths.now 0 (length graph.now.objects) result }
+    ensures { AreCounted graph.now (map only_strength strengths.now) 0 (length graph.now.objects) result }
 {
     let end = graph.objects();
     let middle = end / 2;
@@ -95,11 +95,11 @@ fn count_totals<R: Threads + Sync>(rt: &R, graph: &Graph, strengths: &Strengths)
         rt,
         || -> StrengthTotals
             requires { (length strengths.now ≡ length graph.now.objects) × (middle ≤ length graph.now.objects) }
-            ensures { AreCounted graph.entry.now strengths.entry.now 0 middle result }
+            ensures { AreCounted graph.entry.now (map only_strength strengths.entry.now) 0 middle result }
         { count_halves(rt, graph, strengths, 0, middle) },
         || -> StrengthTotals
             requires { (length strengths.now ≡ length graph.now.objects) × (middle ≤ end) × (end ≤ length graph.now.objects) }
-            ensures { AreCounted graph.entry.now strengths.entry.now middle end result }
+            ensures { AreCounted graph.entry.now (map only_strength strengths.entry.now) middle end result }
         { count_halves(rt, graph, strengths, middle, end) },
     );
     sums(one, other)
@@ -115,12 +115,12 @@ pub fn opening_totals<R: Threads + Sync>(
     alloc: Global,
     graph: &Graph,
 ) -> Result<StrengthTotals, NoMemory>
-    ensures { IfOk result (λ t. (s : Strength) → IsTotal graph.now [] s (total_for t s).count (total_for t s).bytes) }
+    ensures { IfOk result (λ t. (s : OneStrength) → IsTotal graph.now [] s (total_for t s).count (total_for t s).bytes) }
 {
     settled_supports_give_strengths();
     one_strength();
     let front = Front::empty(alloc)?;
-    let strengths = from_scratch(alloc, graph, &front)?;
+    let strengths = strengths_alone(alloc, graph, &front)?;
     let totals = count_totals(rt, graph, &strengths);
     Ok(totals)
 }

@@ -1,6 +1,6 @@
 //! Whether a state is as one computed afresh.
 use hd_state::State;
-use hd_strength::{from_scratch, is_settled};
+use hd_strength::{from_scratch, is_settled, strengths_alone};
 use hd_supports::{PackedReached, Strengths, Supports};
 use hd_terms::{NoMemory, Strength};
 use hd_totals::GroupTotals;
@@ -45,6 +45,19 @@ fn have_same_strengths(a: &Strengths, b: &Strengths) -> bool {
     true
 }
 
+/// Whether these are the strengths that are kept of the objects.
+fn are_kept(strengths: &[Strength], kept: &Strengths) -> bool {
+    if strengths.len() != kept.len() as usize {
+        return false;
+    }
+    for o in 0..kept.len() {
+        if strengths[o as usize] != kept.strength(o) {
+            return false;
+        }
+    }
+    true
+}
+
 /// Whether a state has the totals of what a search from scratch found.
 fn has_totals(alloc: Global, state: &State, found: Strengths) -> Result<bool, NoMemory> {
     let supports = Supports::of(alloc, found)?;
@@ -60,7 +73,8 @@ fn has_totals(alloc: Global, state: &State, found: Strengths) -> Result<bool, No
     Ok(true)
 }
 
-/// Whether what a state keeps is settled under its log, with the strengths and totals of a search from scratch.
+/// Whether what a state keeps is settled under its log, with the strengths and totals of a search from scratch, and with the
+/// strengths of one that keeps them alone.
 pub fn is_as_afresh(alloc: Global, state: &State) -> Result<bool, NoMemory> {
     let found = from_scratch(alloc, state.graph(), state.front())?;
     let supports = state.supports(alloc)?;
@@ -69,6 +83,10 @@ pub fn is_as_afresh(alloc: Global, state: &State) -> Result<bool, NoMemory> {
         return Ok(false);
     }
     if !have_same_strengths(&found, &kept) {
+        return Ok(false);
+    }
+    let alone = strengths_alone(alloc, state.graph(), state.front())?;
+    if !are_kept(&alone, &kept) {
         return Ok(false);
     }
     has_totals(alloc, state, found)

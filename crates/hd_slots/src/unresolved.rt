@@ -47,7 +47,7 @@ impl<'a> Model for UnresolvedSlots<'a> {
 }
 
 impl<'a> UnresolvedSlots<'a> {
-    /// No rows yet, over the objects of these IDs, in the order of their numbers. There is room for so many rows.
+    /// No rows yet, over the objects of these IDs, in the order of their numbers. There is room for the starts of `rows` rows.
     pub fn new(
         alloc: Global,
         bytes: &'a [u8],

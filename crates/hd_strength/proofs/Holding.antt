@@ -148,10 +148,10 @@ reached_within ks o reached = elim (cases_lt o (length ks)) [
 ]
 
 -- a search begins with the objects that roots hold
-pub begins : (dump : Dump) (log : List Event) (search : Search) (n : ℕ) → AreHeld dump log search.found (root_count dump log) → AreQueued search.found search.queue.items n → length search.found ≤ n
-    → ((t : Strength) → bucket search.buckets t ≡ []) → search.count ≡ 0 → length search.found ≡ length dump.objects → length dump.objects < 2 ^ 32 → HasComeTo dump log search strengths.Strong
+pub begins : (dump : Dump) (log : List Event) (search : Search) (n : ℕ) → AreHeld dump log search.found.list (root_count dump log) → AreQueued search.found.list search.queue.items n → length search.found.list ≤ n
+    → ((t : Strength) → bucket search.buckets t ≡ []) → search.count ≡ 0 → length search.found.list ≡ length dump.objects → length dump.objects < 2 ^ 32 → HasComeTo dump log search strengths.Strong
 begins dump log search n h q le empty zero objects few =
-    let ks = search.found in
+    let ks = search.found.list in
     let none : (t : Strength) (x : Offer) → Contains (bucket search.buckets t) x → ⊥ = λ t x c. Contains-nil x (subst (λ (xs : List Offer). Contains xs x) (empty t) c) in
     record {
       growing = record {

@@ -5,4 +5,5 @@ pub mod RowLemmas
 pub mod Grow
 pub mod Holding
 pub mod Spreading
+pub mod SeenLemmas
 pub mod Checked

@@ -1,6 +1,6 @@
 -- What is reached so far, and what is offered.
 -- Source: this project.
-use Rattle.std.specs.Prelude.{◌≡◌, ℕ, ◌+◌, ◌^◌, ◌≤◌, ◌<◌, ◌⊎◌, List, [], ◌∷◌, ◌++◌, length, set, Contains, sum_by, nat_eq, if◌then◌else◌, Option, Some}
+use Rattle.std.specs.Prelude.{◌≡◌, ℕ, ◌+◌, ◌^◌, ◌≤◌, ◌<◌, ◌⊎◌, List, [], ◌∷◌, ◌++◌, length, set, Contains, sum_by, nat_eq, true, if◌then◌else◌, Option, Some}
 use Rattle.hd_terms.specs.declared.Event.{Event}
 use Rattle.hd_terms.specs.declared.Mode.{Mode}
 use Rattle.hd_terms.specs.declared.Slot.{Slot}
@@ -11,7 +11,7 @@ use Rattle.hd_terms.specs.Ranks.{rank, given_by, weaker_of, IsPassedOn}
 use Rattle.hd_terms.specs.Paths.{Edge, RootEntry, Standing}
 use Rattle.hd_terms.specs.Dump.{Dump}
 use Rattle.hd_terms.specs.EditedDump.{standing}
-use Rattle.hd_terms.specs.Settled.{Reached, reached_at, unreached, PassesOn, IsSupported}
+use Rattle.hd_terms.specs.Settled.{Reached, reached_at, unreached, PassesOn, IsSupported, Settled}
 use Rattle.hd_strength.specs.declared.buckets.Offer.{Offer}
 use Rattle.hd_strength.specs.declared.scratch.Gain.{Gain}
 use Rattle.hd_strength.specs.declared.scratch.Search.{Search}
@@ -62,22 +62,26 @@ pub record IsGrowing (g : Standing) (at : ℕ → ℕ → Option Edge) (ks : Lis
   pub floor : (o : ℕ) → 1 ≤ rank_at ks o → rank s ≤ rank_at ks o
   pub ceiling : (t : Strength) (x : Offer) → Contains (offers t) x → rank t < limit
 
+-- a search that keeps all of a list
+abbrev pub full : Search → List Reached → Search
+full search ks = record { found = record { whole = true; list = ks }; buckets = search.buckets; queue = search.queue; count = search.count }
+
 -- how many objects nothing reaches yet
 abbrev pub unreached_count : List Reached → ℕ
 unreached_count ks = sum_by (λ k. if nat_eq (rank k.strength) 0 then 1 else 0) ks
 
 -- how many objects are still to be reached or to pass their strength on
 abbrev pub to_do : Search → ℕ
-to_do search = unreached_count search.found + length search.queue.items
+to_do search = unreached_count search.found.list + length search.queue.items
 
 -- a search on its way: what is queued has the strength that is being spread and passes it on, and no more stamps were given
 -- than objects were reached
 pub record IsSearching (dump : Dump) (log : List Event) (search : Search) (s : Strength) (limit : ℕ) (IsDone : ℕ → ℕ → Type 0) : Type 0 where
-  pub growing : IsGrowing (standing dump log) (edge_at dump log) search.found (bucket search.buckets) search.count s limit IsDone
-  pub queued : (o : ℕ) → Contains search.queue.items o → ((reached_at search.found o).strength ≡ s) × IsPassedOn dump.mode s
-  pub objects : length search.found ≡ length dump.objects
+  pub growing : IsGrowing (standing dump log) (edge_at dump log) search.found.list (bucket search.buckets) search.count s limit IsDone
+  pub queued : (o : ℕ) → Contains search.queue.items o → ((reached_at search.found.list o).strength ≡ s) × IsPassedOn dump.mode s
+  pub objects : length search.found.list ≡ length dump.objects
   pub few : length dump.objects < 2 ^ 32
-  pub stamps : search.count + unreached_count search.found ≤ length dump.objects
+  pub stamps : search.count + unreached_count search.found.list ≤ length dump.objects
 
 -- the slots of objects that aren't queued are done
 abbrev pub NotQueued : List ℕ → ℕ → ℕ → Type 0
@@ -105,9 +109,9 @@ pub record IsGain (at : ℕ → ℕ → Option Edge) (ks : List Reached) (o i : 
   pub unreached : rank_at ks edge.target ≡ 0
   pub object : edge.target < length ks
 
--- an object is reached by an edge from a slot of another, and queued if it passes its strength on
-pub record Reaches (mode : Mode) (old new : Search) (s : Strength) (source : ℕ) (slot : Slot) (target : ℕ) : Type 0 where
-  pub kept : new.found ≡ set old.found target (record { strength = s; support = supports.Edge source slot; stamp = old.count + 1 })
+-- an object is reached by an edge from a slot of another, and queued if it passes its strength on; what is shown of it is kept
+pub record Reaches (show : Reached → Reached) (mode : Mode) (old new : Search) (s : Strength) (source : ℕ) (slot : Slot) (target : ℕ) : Type 0 where
+  pub kept : new.found ≡ record { whole = old.found.whole; list = set old.found.list target (show (record { strength = s; support = supports.Edge source slot; stamp = old.count + 1 })) }
   pub same_buckets : new.buckets ≡ old.buckets
   pub queued : IsPassedOn mode s → new.queue.items ≡ old.queue.items ++ target ∷ []
   pub not_queued : (IsPassedOn mode s → ⊥) → new.queue.items ≡ old.queue.items
@@ -115,24 +119,31 @@ pub record Reaches (mode : Mode) (old new : Search) (s : Strength) (source : ℕ
 
 -- where there is an edge, its target is reached already
 pub record IsPassedOver (at : ℕ → ℕ → Option Edge) (old new : Search) (o i : ℕ) : Type 0 where
-  pub reached : (e : Edge) → at o i ≡ Some e → 1 ≤ rank_at old.found e.target
+  pub reached : (e : Edge) → at o i ≡ Some e → 1 ≤ rank_at old.found.list e.target
   pub same : new ≡ old
 
 -- the edge gives this strength, and its target takes it
-pub record IsAccepted (mode : Mode) (at : ℕ → ℕ → Option Edge) (old new : Search) (s : Strength) (o i : ℕ) : Type 0 where
+pub record IsAccepted (show : Reached → Reached) (mode : Mode) (at : ℕ → ℕ → Option Edge) (old new : Search) (s : Strength) (o i : ℕ) : Type 0 where
   pub edge : Edge
   pub is : at o i ≡ Some edge
-  pub gives : s ≡ offered_strength old.found edge
-  pub unreached : rank_at old.found edge.target ≡ 0
-  pub object : edge.target < length old.found
-  pub reaches : Reaches mode old new s edge.source edge.slot edge.target
+  pub gives : s ≡ offered_strength old.found.list edge
+  pub unreached : rank_at old.found.list edge.target ≡ 0
+  pub object : edge.target < length old.found.list
+  pub reaches : Reaches show mode old new s edge.source edge.slot edge.target
 
 -- the edge gives less than this strength, and is offered
 pub record IsOffered (at : ℕ → ℕ → Option Edge) (old new : Search) (s : Strength) (o i : ℕ) : Type 0 where
   pub edge : Edge
   pub is : at o i ≡ Some edge
-  pub less : rank (offered_strength old.found edge) < rank s
-  pub adds : AddsTo old.buckets new.buckets (offered_strength old.found edge) (offer_at o i)
+  pub less : rank (offered_strength old.found.list edge) < rank s
+  pub adds : AddsTo old.buckets new.buckets (offered_strength old.found.list edge) (offer_at o i)
   pub same_found : new.found ≡ old.found
   pub same_queue : new.queue ≡ old.queue
   pub same_count : new.count ≡ old.count
+
+-- what a search ends with: settled strengths of all objects, with no stamp above their number, which has 32 bits
+pub record HasEnded (dump : Dump) (log : List Event) (ks : List Reached) : Type 0 where
+  pub count : length ks ≡ length dump.objects
+  pub few : length dump.objects < 2 ^ 32
+  pub settled : Settled (standing dump log) ks
+  pub stamps : (o : ℕ) → (reached_at ks o).stamp ≤ length dump.objects

@@ -1,12 +1,11 @@
 //! Looking ahead in a search: what the next objects of its queue will ask for is read for all of them at once.
 //!
-//! A search reads rows, targets and flags in no order of memory, and waits for most of them. Reads that don't need one
+//! A search reads rows and targets in no order of memory, and waits for most of them. Reads that don't need one
 //! another's answers wait together. The sums mean nothing: they are there so that a compiler doesn't leave the reads out.
 ghost use Rattle.std.specs.Prelude.{◌<◌, ◌≤◌, length};
 ghost use Rattle.hd_terms.specs.Dump.{object_at};
 
 use hd_graph::Graph;
-use hd_supports::PackedReached;
 
 /// How many objects are read together.
 pub(crate) const BATCH: usize = 32;
@@ -55,35 +54,6 @@ fn read_targets_of(graph: &Graph, o: u32) -> u32 {
     for i in 0..slots_ahead(graph, o) {
         if let Some(target) = graph.target(o, i) {
             sum = sum.wrapping_add(target);
-        }
-    }
-    sum
-}
-
-/// Reads whether the targets in the first slots of objects are reached, and what is kept of those that are not: they are
-/// written soon.
-pub(crate) fn read_found(
-    graph: &Graph,
-    reached: &[bool],
-    kept: &[PackedReached],
-    objects: &[u32],
-) -> u32 {
-    let mut sum: u32 = 0;
-    for o in objects {
-        sum = sum.wrapping_add(read_found_of(graph, reached, kept, *o));
-    }
-    sum
-}
-
-/// Reads the same for the targets in the first slots of an object.
-fn read_found_of(graph: &Graph, reached: &[bool], kept: &[PackedReached], o: u32) -> u32 {
-    let mut sum: u32 = 0;
-    for i in 0..slots_ahead(graph, o) {
-        if let Some(target) = graph.target(o, i)
-            && let Some(false) = reached.get(target as usize)
-            && let Some(unreached) = kept.get(target as usize)
-        {
-            sum = sum.wrapping_add(u32::from(unreached.strength().rank()));
         }
     }
     sum

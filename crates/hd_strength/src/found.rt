@@ -1,23 +1,26 @@
 //! What a search has found so far.
-ghost use Rattle.std.specs.Prelude.{◌≡◌, ℕ, ◌<◌, length, set, IfOk};
+ghost use Rattle.std.specs.Prelude.{◌≡◌, ◌<◌, length, map, replicate, set, true, IfOk};
 ghost use Rattle.hd_terms.specs.Settled.{reached_at, unreached};
-ghost use Rattle.hd_strength.specs.Found.{is_found};
+ghost use Rattle.hd_strength.specs.Found.{is_found, seen, strength_of};
 
-use crate::ahead::{BATCH, read_found, read_rows, read_targets};
+use crate::ahead::{BATCH, read_rows, read_targets};
 use hd_graph::Graph;
 use hd_supports::PackedReached;
-use hd_terms::NoMemory;
+use hd_terms::{NoMemory, Strength};
 use std::alloc::Global;
 use std::collections::VecDeque;
 use std::marker::Model;
 
-/// What is kept of each object, and beside it a flag that says whether anything reaches the object.
+/// The strength of each object so far and, where that is asked for, all that is kept of it.
 ///
-/// A search asks this of the target of each reference, in no order of memory. The flags take a byte each, so most of them
-/// stay in the processor's cache.
+/// A search asks for the strength of the target of each reference, in no order of memory. Strengths take a byte each, so
+/// most of them stay in the processor's cache.
 pub(crate) struct Found {
+    strengths: Vec<Strength>,
+    /// What is kept of each object; nothing where only strengths are asked for.
     kept: Vec<PackedReached>,
-    reached: Vec<bool>,
+    /// Whether all is kept.
+    whole: bool,
     /// How many of the objects that are taken next from the queue were looked at ahead.
     ahead: usize,
     /// The sum of what was read ahead.
@@ -28,8 +31,9 @@ impl Drop for Found {
     /// Drops the fields. A derived drop would be proved anew at each place that lets go of one.
     fn drop(self) {
         let Self {
+            strengths,
             kept,
-            reached,
+            whole: _,
             ahead: _,
             read: _,
         } = self;
@@ -37,28 +41,28 @@ impl Drop for Found {
 }
 
 impl Model for Found {
-    ghost use Rattle.std.specs.Prelude.{◌≡◌, List, map};
-    ghost use Rattle.hd_terms.specs.Settled.{Reached};
-    ghost use Rattle.hd_strength.specs.Found.{is_found};
+    ghost use Rattle.std.specs.Prelude.{◌≡◌, map, true};
+    ghost use Rattle.hd_strength.specs.Found.{Findings, list_of, strength_of};
 
-    ghost Value = { List Reached };
+    ghost Value = { Findings };
 
-    ghost view = { λ f. f.kept.items };
+    ghost view = { λ f. record { whole = f.whole; list = list_of f.whole f.strengths.items f.kept.items } };
 
-    ghost invariant = { λ f. f.reached.items ≡ map is_found f.kept.items };
+    ghost invariant = { λ f. f.whole ≡ true → f.strengths.items ≡ map strength_of f.kept.items };
 }
 
 impl Found {
-    /// Nothing reaches any of so many objects.
-    pub(crate) fn none(alloc: Global, objects: u32) -> Result<Found, NoMemory>
-        ensures count { IfOk result (λ f. length f ≡ objects) }
-        ensures unreached { IfOk result (λ f. (o : ℕ) → reached_at f o ≡ unreached) }
+    /// Nothing reaches any of so many objects. The flag says whether all will be kept, or strengths alone.
+    pub(crate) fn none(alloc: Global, objects: u32, whole: bool) -> Result<Found, NoMemory>
+        ensures { IfOk result (λ f. f ≡ record { whole = whole; list = replicate objects unreached }) }
     {
-        let kept = vec![in alloc; PackedReached::unreached(); objects as usize]?;
-        let reached = vec![in alloc; false; objects as usize]?;
+        let strengths = vec![in alloc; Strength::Unreachable; objects as usize]?;
+        let count = if whole { objects } else { 0 };
+        let kept = vec![in alloc; PackedReached::unreached(); count as usize]?;
         Ok(Found {
+            strengths,
             kept,
-            reached,
+            whole,
             ahead: 0,
             read: 0,
         })
@@ -66,19 +70,21 @@ impl Found {
 
     /// Whether anything reaches an object.
     pub(crate) fn is_reached(&self, o: u32) -> bool
-        requires { o < length self.now }
-        ensures { result ≡ is_found (reached_at self.now o) }
+        requires { o < length self.now.list }
+        ensures { result ≡ is_found (reached_at self.now.list o) }
     {
-        self.reached[o as usize]
+        self.strengths[o as usize].rank() > 0
     }
 
     /// Keeps something else of an object.
     pub(crate) fn put(&mut self, o: u32, reached: PackedReached)
-        requires { o < length self.old }
-        ensures { self.new ≡ set self.old o reached }
+        requires { o < length self.old.list }
+        ensures { self.new ≡ record { whole = self.old.whole; list = set self.old.list o (seen self.old.whole reached) } }
     {
-        self.reached[o as usize] = reached.strength().rank() > 0;
-        self.kept[o as usize] = reached;
+        self.strengths[o as usize] = reached.strength();
+        if self.whole {
+            self.kept[o as usize] = reached;
+        }
     }
 
     /// Reads what the next objects of a queue will ask for, once for each batch of them. Call it after each object that is
@@ -95,21 +101,37 @@ impl Found {
         self.ahead = next.len();
         let rows = read_rows(graph, next);
         let targets = read_targets(graph, next);
-        let found = read_found(graph, &self.reached, &self.kept, next);
-        self.read = rows.wrapping_add(targets).wrapping_add(found);
+        self.read = rows.wrapping_add(targets);
     }
 
     /// What is kept of each object, in order.
     pub(crate) fn into_kept(self) -> Vec<PackedReached>
-        ensures { result.items ≡ self }
+        requires { self.whole ≡ true }
+        ensures { result.items ≡ self.list }
     {
         let Self {
+            strengths,
             kept,
-            reached,
+            whole: _,
             ahead: _,
             read: _,
         } = self;
-        drop(reached);
+        drop(strengths);
         kept
+    }
+
+    /// The strength of each object, in order.
+    pub(crate) fn into_strengths(self) -> Vec<Strength>
+        ensures { result.items ≡ map strength_of self.list }
+    {
+        let Self {
+            strengths,
+            kept,
+            whole: _,
+            ahead: _,
+            read: _,
+        } = self;
+        drop(kept);
+        strengths
     }
 }

@@ -13,4 +13,4 @@ mod scratch;
 pub use checking::is_settled;
 pub use edited::root_target;
 pub use removed::{Removed, live_edit};
-pub use scratch::{from_removed, from_scratch};
+pub use scratch::{from_removed, from_scratch, strengths_alone};

@@ -11,11 +11,12 @@ ghost use Rattle.std.specs.Prelude.{◌≡◌, ℕ, ◌+◌, ◌^◌, ◌<◌, �
 ghost use Rattle.hd_terms.specs.Ranks.{rank, IsPassedOn};
 ghost use Rattle.hd_terms.specs.Paths.{Edge};
 ghost use Rattle.hd_terms.specs.EditedDump.{standing};
-ghost use Rattle.hd_terms.specs.Settled.{Settled, reached_at, unreached};
+ghost use Rattle.hd_terms.specs.Settled.{Settled, reached_at};
 ghost use Rattle.hd_terms.specs.declared.Strength.{Strength as OneStrength};
 ghost use Rattle.hd_terms.specs.declared.Strength.TheVariants as strengths;
+ghost use Rattle.hd_strength.specs.Found.{AreSeen, AreSettled, seen};
 ghost use Rattle.hd_strength.specs.Rows.{width, edge_at, root_count};
-ghost use Rattle.hd_strength.specs.Growing.{rank_at, AreHeld, IsBacked, IsSearching, NotQueuedBelow, HasComeTo, HasAccepted, IsGain, Reaches, IsPassedOver, IsAccepted, IsOffered, to_do};
+ghost use Rattle.hd_strength.specs.Growing.{full, rank_at, AreHeld, HasEnded, IsBacked, IsSearching, NotQueuedBelow, HasComeTo, HasAccepted, IsGain, Reaches, IsPassedOver, IsAccepted, IsOffered, to_do};
 ghost use Rattle.hd_strength.specs.Removed.{IsRemovedBy};
 
 use crate::buckets::{Buckets, Offer};
@@ -32,7 +33,7 @@ use std::collections::VecDeque;
 /// A search as far as it has come.
 #[derive(Drop)]
 struct Search {
-    /// What is kept of each object.
+    /// What is found of each object.
     found: Found,
     /// What references give and no target has taken yet; never more than what is being spread.
     buckets: Buckets,
@@ -50,14 +51,15 @@ struct Gain {
     strength: Strength,
 }
 
-/// What is kept where only the roots of the dump hold their objects, so far as they stand.
-fn apply_dump_roots(alloc: Global, edited: Edited<'_>) -> Result<Found, NoMemory>
+/// What is found where only the roots of the dump hold their objects, so far as they stand. The flag says whether all will be
+/// kept of the objects, or their strengths alone.
+fn apply_dump_roots(alloc: Global, edited: Edited<'_>, whole: bool) -> Result<Found, NoMemory>
     requires removed { IsRemovedBy edited.graph.now edited.front.now edited.removed.now }
     ensures few { length edited.entry.graph.now.objects < 2 ^ 32 }
-    ensures count { IfOk result (λ f. length f ≡ length edited.entry.graph.now.objects) }
-    ensures held { IfOk result (λ f. AreHeld edited.entry.graph.now edited.entry.front.now f (length edited.entry.graph.now.roots)) }
+    ensures count { IfOk result (λ f. length f.list ≡ length edited.entry.graph.now.objects) }
+    ensures held { IfOk result (λ f. AreSeen whole f (λ ks. AreHeld edited.entry.graph.now edited.entry.front.now ks (length edited.entry.graph.now.roots))) }
 {
-    let mut found = Found::none(alloc, edited.graph.objects())?;
+    let mut found = Found::none(alloc, edited.graph.objects(), whole)?;
     for r in 0..edited.graph.roots_len() {
         if let Some(o) = root_object(edited, r) {
             found.put(o, PackedReached::by_root(u64::from(r)));
@@ -66,15 +68,15 @@ fn apply_dump_roots(alloc: Global, edited: Edited<'_>) -> Result<Found, NoMemory
     Ok(found)
 }
 
-/// What is kept where only the roots hold their objects: those of the dump and those that were added, so far as they
+/// What is found where only the roots hold their objects: those of the dump and those that were added, so far as they
 /// stand. An added root has the number of the event after those of the dump's roots.
-fn apply_roots(alloc: Global, edited: Edited<'_>) -> Result<Found, NoMemory>
+fn apply_roots(alloc: Global, edited: Edited<'_>, whole: bool) -> Result<Found, NoMemory>
     requires removed { IsRemovedBy edited.graph.now edited.front.now edited.removed.now }
     ensures few { length edited.entry.graph.now.objects < 2 ^ 32 }
-    ensures count { IfOk result (λ f. length f ≡ length edited.entry.graph.now.objects) }
-    ensures held { IfOk result (λ f. AreHeld edited.entry.graph.now edited.entry.front.now f (root_count edited.entry.graph.now edited.entry.front.now)) }
+    ensures count { IfOk result (λ f. length f.list ≡ length edited.entry.graph.now.objects) }
+    ensures held { IfOk result (λ f. AreSeen whole f (λ ks. AreHeld edited.entry.graph.now edited.entry.front.now ks (root_count edited.entry.graph.now edited.entry.front.now))) }
 {
-    let mut found = apply_dump_roots(alloc, edited)?;
+    let mut found = apply_dump_roots(alloc, edited, whole)?;
     let live = edited.front.live(alloc)?;
     for k in 0..edited.front.len() {
         if let Some(o) = added_object(edited, &live, k) {
@@ -87,9 +89,9 @@ fn apply_roots(alloc: Global, edited: Edited<'_>) -> Result<Found, NoMemory>
 
 /// A search that begins: of the objects only those are reached that roots hold, and they are queued.
 fn begin(alloc: Global, edited: Edited<'_>, found: Found) -> Result<Search, NoMemory>
-    requires count { length found ≡ length edited.graph.now.objects }
-    requires held { AreHeld edited.graph.now edited.front.now found (root_count edited.graph.now edited.front.now) }
-    ensures { IfOk result (λ search. HasComeTo edited.entry.graph.now edited.entry.front.now search strengths.Strong) }
+    requires count { length found.list ≡ length edited.graph.now.objects }
+    requires held { AreSeen found.whole found (λ ks. AreHeld edited.graph.now edited.front.now ks (root_count edited.graph.now edited.front.now)) }
+    ensures { IfOk result (λ search. AreSeen found.whole search.found (λ ks. HasComeTo edited.entry.graph.now edited.entry.front.now (full search ks) strengths.Strong)) }
 {
     let mut queue = VecDeque::new(alloc);
     for o in 0..edited.graph.objects() {
@@ -107,9 +109,9 @@ fn begin(alloc: Global, edited: Edited<'_>, found: Found) -> Result<Search, NoMe
 
 /// Reaches an object by a slot of another, and queues it if it passes its strength on.
 fn reach(edited: Edited<'_>, search: &mut Search, source: u32, gain: Gain) -> Result<(), NoMemory>
-    requires object { gain.target < length search.old.found }
+    requires object { gain.target < length search.old.found.list }
     requires room { search.old.count < 2 ^ 32 }
-    ensures { OnOk result (Reaches edited.entry.graph.now.mode search.old search.new gain.strength source gain.slot gain.target) }
+    ensures { OnOk result (Reaches (seen search.old.found.whole) edited.entry.graph.now.mode search.old search.new gain.strength source gain.slot gain.target) }
 {
     search.count += 1;
     let reached = PackedReached::by_edge(gain.strength, source, gain.slot, search.count);
@@ -129,11 +131,11 @@ fn accept_offer(
 ) -> Result<(), NoMemory>
     requires object { offer.source < length edited.graph.now.objects }
     requires index { offer.index < width edited.graph.now offer.source }
-    requires count { length search.old.found ≡ length edited.graph.now.objects }
-    requires backed { IsBacked edited.graph.now.mode (edge_at edited.graph.now edited.front.now) search.old.found strength offer }
+    requires count { length search.old.found.list ≡ length edited.graph.now.objects }
+    requires backed { IsBacked edited.graph.now.mode (edge_at edited.graph.now edited.front.now) search.old.found.list strength offer }
     requires room { search.old.count < 2 ^ 32 }
     ensures { OnOk result (IsPassedOver (edge_at edited.entry.graph.now edited.entry.front.now) search.old search.new offer.source offer.index
-        ⊎ IsAccepted edited.entry.graph.now.mode (edge_at edited.entry.graph.now edited.entry.front.now) search.old search.new strength offer.source offer.index) }
+        ⊎ IsAccepted (seen search.old.found.whole) edited.entry.graph.now.mode (edge_at edited.entry.graph.now edited.entry.front.now) search.old search.new strength offer.source offer.index) }
 {
     let Some(target) = edited.graph.target(offer.source, offer.index) else {
         return Ok(());
@@ -156,8 +158,8 @@ fn accept_offers(
     search: &mut Search,
     strength: Strength,
 ) -> Result<(), NoMemory>
-    requires { HasComeTo edited.graph.now edited.front.now search.old strength }
-    ensures { OnOk result (HasAccepted edited.entry.graph.now edited.entry.front.now search.new strength) }
+    requires { AreSeen search.old.found.whole search.old.found (λ ks. HasComeTo edited.graph.now edited.front.now (full search.old ks) strength) }
+    ensures { OnOk result (AreSeen search.old.found.whole search.new.found (λ ks. HasAccepted edited.entry.graph.now edited.entry.front.now (full search.new ks) strength)) }
 {
     while let Some(offer) = search.buckets.pop(strength) {
         accept_offer(edited, search, strength, offer)?;
@@ -177,10 +179,10 @@ fn gain_at(
     requires removed { IsRemovedBy edited.graph.now edited.front.now edited.removed.now }
     requires object { o < length edited.graph.now.objects }
     requires index { index < width edited.graph.now o }
-    requires count { length search.now.found ≡ length edited.graph.now.objects }
-    requires source { (reached_at search.now.found o).strength ≡ strength }
-    ensures none { IfNone result ((e : Edge) → edge_at edited.entry.graph.now edited.entry.front.now o index ≡ Some e → 1 ≤ rank_at search.now.found e.target) }
-    ensures some { IfSome result (λ gain. IsGain (edge_at edited.entry.graph.now edited.entry.front.now) search.now.found o index gain) }
+    requires count { length search.now.found.list ≡ length edited.graph.now.objects }
+    requires source { (reached_at search.now.found.list o).strength ≡ strength }
+    ensures none { IfNone result ((e : Edge) → edge_at edited.entry.graph.now edited.entry.front.now o index ≡ Some e → 1 ≤ rank_at search.now.found.list e.target) }
+    ensures some { IfSome result (λ gain. IsGain (edge_at edited.entry.graph.now edited.entry.front.now) search.now.found.list o index gain) }
 {
     let target = edited.graph.target(o, index)?;
     if search.found.is_reached(target) {
@@ -209,12 +211,12 @@ fn relax_edge(
     requires removed { IsRemovedBy edited.graph.now edited.front.now edited.removed.now }
     requires object { o < length edited.graph.now.objects }
     requires index { index < width edited.graph.now o }
-    requires count { length search.old.found ≡ length edited.graph.now.objects }
-    requires source { (reached_at search.old.found o).strength ≡ strength }
+    requires count { length search.old.found.list ≡ length edited.graph.now.objects }
+    requires source { (reached_at search.old.found.list o).strength ≡ strength }
     requires reached { 1 ≤ rank strength }
     requires room { search.old.count < 2 ^ 32 }
     ensures { OnOk result (IsPassedOver (edge_at edited.entry.graph.now edited.entry.front.now) search.old search.new o index
-        ⊎ IsAccepted edited.entry.graph.now.mode (edge_at edited.entry.graph.now edited.entry.front.now) search.old search.new strength o index
+        ⊎ IsAccepted (seen search.old.found.whole) edited.entry.graph.now.mode (edge_at edited.entry.graph.now edited.entry.front.now) search.old search.new strength o index
         ⊎ IsOffered (edge_at edited.entry.graph.now edited.entry.front.now) search.old search.new strength o index) }
 {
     let Some(gain) = gain_at(edited, search, o, index, strength) else {
@@ -239,10 +241,10 @@ fn relax_edges(
 ) -> Result<(), NoMemory>
     requires removed { IsRemovedBy edited.graph.now edited.front.now edited.removed.now }
     requires object { o < length edited.graph.now.objects }
-    requires source { (reached_at search.old.found o).strength ≡ strength }
+    requires source { (reached_at search.old.found.list o).strength ≡ strength }
     requires passes_on { IsPassedOn edited.graph.now.mode strength }
-    requires searching { IsSearching edited.graph.now edited.front.now search.old strength (rank strength) (NotQueuedBelow search.old.queue.items o 0) }
-    ensures searching { OnOk result (HasAccepted edited.entry.graph.now edited.entry.front.now search.new strength) }
+    requires searching { AreSeen search.old.found.whole search.old.found (λ ks. IsSearching edited.graph.now edited.front.now (full search.old ks) strength (rank strength) (NotQueuedBelow search.old.queue.items o 0)) }
+    ensures searching { OnOk result (AreSeen search.old.found.whole search.new.found (λ ks. HasAccepted edited.entry.graph.now edited.entry.front.now (full search.new ks) strength)) }
     ensures less { OnOk result (to_do search.new ≤ to_do search.old) }
 {
     for index in 0..edited.graph.slots_len(o) {
@@ -258,8 +260,8 @@ fn spread_objects(
     strength: Strength,
 ) -> Result<(), NoMemory>
     requires removed { IsRemovedBy edited.graph.now edited.front.now edited.removed.now }
-    requires searching { HasAccepted edited.graph.now edited.front.now search.old strength }
-    ensures searching { OnOk result (HasAccepted edited.entry.graph.now edited.entry.front.now search.new strength) }
+    requires searching { AreSeen search.old.found.whole search.old.found (λ ks. HasAccepted edited.graph.now edited.front.now (full search.old ks) strength) }
+    ensures searching { OnOk result (AreSeen search.old.found.whole search.new.found (λ ks. HasAccepted edited.entry.graph.now edited.entry.front.now (full search.new ks) strength)) }
     ensures all { OnOk result (search.new.queue.items ≡ []) }
 {
     while let Some(o) = search.queue.pop_front() {
@@ -276,8 +278,8 @@ fn spread_strength(
     strength: Strength,
 ) -> Result<(), NoMemory>
     requires removed { IsRemovedBy edited.graph.now edited.front.now edited.removed.now }
-    requires searching { HasComeTo edited.graph.now edited.front.now search.old strength }
-    ensures { OnOk result ((next : OneStrength) → rank strength ≡ rank next + 1 → HasComeTo edited.entry.graph.now edited.entry.front.now search.new next) }
+    requires searching { AreSeen search.old.found.whole search.old.found (λ ks. HasComeTo edited.graph.now edited.front.now (full search.old ks) strength) }
+    ensures { OnOk result ((next : OneStrength) → rank strength ≡ rank next + 1 → AreSeen search.old.found.whole search.new.found (λ ks. HasComeTo edited.entry.graph.now edited.entry.front.now (full search.new ks) next)) }
 {
     accept_offers(edited, search, strength)?;
     spread_objects(edited, search, strength)?;
@@ -285,19 +287,40 @@ fn spread_strength(
 }
 
 /// Spreads all strengths, the greatest first.
-fn spread(edited: Edited<'_>, mut search: Search) -> Result<Vec<PackedReached>, NoMemory>
+fn spread(edited: Edited<'_>, mut search: Search) -> Result<Found, NoMemory>
     requires removed { IsRemovedBy edited.graph.now edited.front.now edited.removed.now }
-    requires searching { HasComeTo edited.graph.now edited.front.now search strengths.Strong }
-    ensures count { IfOk result (λ v. length v.items ≡ length edited.entry.graph.now.objects) }
-    ensures settled { IfOk result (λ v. Settled (standing edited.entry.graph.now edited.entry.front.now) v.items) }
-    ensures stamps { IfOk result (λ v. (o : ℕ) → (reached_at v.items o).stamp ≤ length edited.entry.graph.now.objects) }
+    requires searching { AreSeen search.found.whole search.found (λ ks. HasComeTo edited.graph.now edited.front.now (full search ks) strengths.Strong) }
+    ensures { IfOk result (λ f. AreSeen search.found.whole f (HasEnded edited.entry.graph.now edited.entry.front.now)) }
 {
     spread_strength(edited, &mut search, Strength::Strong)?;
     spread_strength(edited, &mut search, Strength::Soft)?;
     spread_strength(edited, &mut search, Strength::Weak)?;
     spread_strength(edited, &mut search, Strength::Final)?;
     spread_strength(edited, &mut search, Strength::Phantom)?;
-    Ok(search.found.into_kept())
+    Ok(search.found)
+}
+
+/// What a search finds in a graph under a log, by what the log's live edits take away: all that is kept of the objects, or
+/// their strengths alone.
+fn find(
+    alloc: Global,
+    graph: &Graph,
+    front: &Front,
+    removed: &Removed,
+    whole: bool,
+) -> Result<Found, NoMemory>
+    requires { IsRemovedBy graph.now front.now removed.now }
+    ensures { IfOk result (λ f. AreSeen whole f (HasEnded graph.now front.now)) }
+{
+    let edited = Edited {
+        graph,
+        front,
+        removed,
+    };
+    let found = apply_roots(alloc, edited, whole)?;
+    let search = begin(alloc, edited, found)?;
+    let found = spread(edited, search)?;
+    Ok(found)
 }
 
 /// Strengths, supports and stamps of the objects of a graph under a log, by what the log's live edits take away.
@@ -312,15 +335,8 @@ pub fn from_removed(
     ensures settled { IfOk result (λ ks. Settled (standing graph.now front.now) ks) }
     ensures stamps { IfOk result (λ ks. (o : ℕ) → (reached_at ks o).stamp ≤ length graph.now.objects) }
 {
-    let edited = Edited {
-        graph,
-        front,
-        removed,
-    };
-    let found = apply_roots(alloc, edited)?;
-    let search = begin(alloc, edited, found)?;
-    let kept = spread(edited, search)?;
-    Ok(Strengths::of(kept))
+    let found = find(alloc, graph, front, removed, true)?;
+    Ok(Strengths::of(found.into_kept()))
 }
 
 /// Strengths, supports and stamps of the objects of a graph under a log.
@@ -332,4 +348,23 @@ pub fn from_scratch(alloc: Global, graph: &Graph, front: &Front) -> Result<Stren
     let removed = Removed::of(alloc, graph, front)?;
     let strengths = from_removed(alloc, graph, front, &removed)?;
     Ok(strengths)
+}
+
+/// The strengths of the objects of a graph under a log, in the order of their numbers, with no supports and no stamps. It
+/// takes a byte for each object, where `from_scratch` takes seventeen.
+///
+/// # Errors
+///
+/// Memory ran out.
+pub fn strengths_alone(
+    alloc: Global,
+    graph: &Graph,
+    front: &Front,
+) -> Result<Vec<Strength>, NoMemory>
+    ensures count { IfOk result (λ v. length v.items ≡ length graph.now.objects) }
+    ensures settled { IfOk result (λ v. AreSettled (standing graph.now front.now) v.items) }
+{
+    let removed = Removed::of(alloc, graph, front)?;
+    let found = find(alloc, graph, front, &removed, false)?;
+    Ok(found.into_strengths())
 }

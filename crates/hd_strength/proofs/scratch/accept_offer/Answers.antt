@@ -4,6 +4,7 @@ use Rattle.hd_terms.specs.declared.Slot.{Slot}
 use Rattle.hd_terms.specs.Dump.{SlotEntry}
 use Rattle.hd_terms.specs.Edges.{index_of}
 use Rattle.hd_terms.specs.Settled.{reached_at}
+use Rattle.hd_strength.specs.Found.{seen}
 use Rattle.hd_strength.specs.Growing.{Reaches}
 use Rattle.hd_strength.proofs.FoundLemmas.{found-some, found-none}
 use Rattle.hd_strength.proofs.RowLemmas.{slot_at, at_none, at_target, edge_to, index_of_within}
@@ -40,14 +41,14 @@ returns-then-is_reached c =
       reached = λ e is.
           let edge : edge_to c.args.offer.source at.0 t ≡ e = at_target dump c.args.edited.front.now c.args.offer.source c.args.offer.index at.0 at.1 t e some is in
           let target : e.target ≡ t = sym (ap (λ (x : Edge). x.target) edge) in
-          rw target (found-some (reached_at c.args.search.now.found t) (sym c.is_reached.ensures ∙ c.if-is_reached.true));
+          rw target (found-some (reached_at c.args.search.now.found.list t) (sym c.is_reached.ensures ∙ c.if-is_reached.true));
       same = refl;
     })
 
 pub returns : goal.returns
 returns c =
     let dump = c.args.edited.graph.now in
-    let ks = c.args.search.now.found in
+    let ks = c.args.search.now.found.list in
     let source = c.args.offer.source in
     let at = slot_at dump source c.args.offer.index c.requires.index in
     let s : SlotEntry = at.0 in
@@ -63,6 +64,6 @@ returns c =
       gives = c.requires.backed.gives;
       unreached = rw target (found-none (reached_at ks t) (sym c.is_reached.ensures ∙ c.if-is_reached.false));
       object = rw target lt;
-      reaches = subst (λ (x : Edge). Reaches dump.mode c.args.search.now c.reach.new.search c.args.strength x.source x.slot x.target) edge
-          (subst (λ (slot : Slot). Reaches dump.mode c.args.search.now c.reach.new.search c.args.strength source slot t) (c.slot_name.ensures.slot s at.1) c.in_ok-reach.ensures);
+      reaches = subst (λ (x : Edge). Reaches (seen c.args.search.now.found.whole) dump.mode c.args.search.now c.reach.new.search c.args.strength x.source x.slot x.target) edge
+          (subst (λ (slot : Slot). Reaches (seen c.args.search.now.found.whole) dump.mode c.args.search.now c.reach.new.search c.args.strength source slot t) (c.slot_name.ensures.slot s at.1) c.in_ok-reach.ensures);
     })

@@ -1,15 +1,14 @@
-use Rattle.std.proofs.Common.{◌≡◌, ◌∙◌, ◌<◌, length, refl, ap, sym, arith}
-use Rattle.hd_terms.specs.Ranks.{rank}
-use Rattle.hd_terms.specs.Settled.{Reached, reached_at, unreached}
-use Rattle.hd_strength.specs.Growing.{rank_at}
+use Rattle.std.proofs.Common.{◌≡◌, ◌∙◌, ◌<◌, true, length, refl, sym, arith}
+use Rattle.hd_terms.specs.Settled.{reached_at}
 use Rattle.hd_strength.proofs.FoundLemmas.{found-some, found-none}
 use Rattle.hd_strength.proofs.Holding.{one_queued, not_queued, begins}
+use Rattle.hd_strength.proofs.SeenLemmas.{length-seen, queued-seen}
 use Rattle.hd_strength.proofs.scratch.begin.Goals as goal
 use Rattle.hd_strength.proofs.scratch.begin.Goals.{then-is_reached+in_ok-push_back, else-is_reached}
 
 pub loop-o-preserved : goal.loop-o-preserved
 loop-o-preserved c =
-    let ks = c.args.found in
+    let ks = c.args.found.list in
     let o = c.loop-o.o in
     let lt : o < length ks = omega (arith, c.requires.count) in
     elim c.if-is_reached.branch [
@@ -19,5 +18,13 @@ loop-o-preserved c =
 
 pub returns : goal.returns
 returns c =
-    begins c.args.edited.graph.now c.args.edited.front.now (record { found = c.args.found; buckets = c.new.result; queue = c.loop-o.queue; count = 0 }) c.loop-o.o
-    c.requires.held c.loop-o.invariant (omega (arith, c.requires.count)) c.new.ensures refl c.requires.count (omega (arith, c.objects-o-end.ensures, c.objects-o-end.type_inv))
+    let h = c.requires.held in
+    let found = c.args.found in
+    let length : length h.kept ≡ length c.args.edited.graph.now.objects = sym (length-seen found.whole found h.kept h.same_whole h.same) ∙ c.requires.count in
+    record {
+      kept = h.kept;
+      same_whole = h.same_whole;
+      same = h.same;
+      holds = begins c.args.edited.graph.now c.args.edited.front.now (record { found = record { whole = true; list = h.kept }; buckets = c.new.result; queue = c.loop-o.queue; count = 0 }) c.loop-o.o
+          h.holds (queued-seen found.whole found h.kept h.same_whole h.same c.loop-o.queue.items c.loop-o.o c.loop-o.invariant) (omega (arith, length)) c.new.ensures refl length (omega (arith, c.objects-o-end.ensures, c.objects-o-end.type_inv));
+    }

@@ -30,7 +30,7 @@ returns-then-is_reached-clause-none c = λ e is.
     let some : index_of c.args.edited.graph.now.objects at.0.id ≡ Some t = sym (c.target.ensures at.0 at.1) ∙ c.in_ok-target.was in
     let edge : edge_to c.args.o at.0 t ≡ e = at_target c.args.edited.graph.now c.args.edited.front.now c.args.o c.args.index at.0 at.1 t e some is in
     let target : e.target ≡ t = sym (ap (λ (x : Edge). x.target) edge) in
-    rw target (found-some (reached_at c.args.search.now.found t) (sym c.is_reached.ensures ∙ c.if-is_reached.true))
+    rw target (found-some (reached_at c.args.search.now.found.list t) (sym c.is_reached.ensures ∙ c.if-is_reached.true))
 
 pub returns-then-slot-clause-none : goal.returns-then-slot-clause-none
 returns-then-slot-clause-none c = λ e is.
@@ -46,7 +46,7 @@ returns-then-slot-clause-none c = λ e is.
 
 pub returns-clause-some : goal.returns-clause-some
 returns-clause-some c =
-    let ks = c.args.search.now.found in
+    let ks = c.args.search.now.found.list in
     let at = slot_at c.args.edited.graph.now c.args.o c.args.index c.requires.index in
     let s : SlotEntry = at.0 in
     let t = c.in_ok-target.target in

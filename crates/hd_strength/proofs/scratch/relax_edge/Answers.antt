@@ -11,14 +11,14 @@ use Rattle.hd_strength.proofs.scratch.relax_edge.Goals as goal
 
 pub push-requires-clause-something : goal.push-requires-clause-something
 push-requires-clause-something c =
-    let ks = c.args.search.now.found in
+    let ks = c.args.search.now.found.list in
     let h = c.in-Some.ensures.some in
     let from : rank_at ks h.edge.source ≡ rank c.args.strength = ap (rank_at ks) (at_source c.args.edited.graph.now c.args.edited.front.now c.args.o c.args.index h.edge h.is) ∙ ap rank c.requires.source in
     omega (arith, ap rank h.strength, offered_strength-some ks h.edge (omega (arith, c.requires.reached)))
 
 pub push-requires-clause-less : goal.push-requires-clause-less
 push-requires-clause-less c =
-    let ks = c.args.search.now.found in
+    let ks = c.args.search.now.found.list in
     let h = c.in-Some.ensures.some in
     let from : rank_at ks h.edge.source ≡ rank c.args.strength = ap (rank_at ks) (at_source c.args.edited.graph.now c.args.edited.front.now c.args.o c.args.index h.edge h.is) ∙ ap rank c.requires.source in
     omega (arith, ap rank h.strength, offered_strength-le ks h.edge, rank-le c.args.strength, c.if-rank.false, c.rank.ensures, c.rank-2.ensures)
@@ -39,7 +39,7 @@ returns-in_ok-reach c =
 
 pub returns-in_ok-push : goal.returns-in_ok-push
 returns-in_ok-push c =
-    let ks = c.args.search.now.found in
+    let ks = c.args.search.now.found.list in
     let h = c.in-Some.ensures.some in
     let from : rank_at ks h.edge.source ≡ rank c.args.strength = ap (rank_at ks) (at_source c.args.edited.graph.now c.args.edited.front.now c.args.o c.args.index h.edge h.is) ∙ ap rank c.requires.source in
     inr (inr (record {

@@ -1,42 +1,70 @@
-use Rattle.std.proofs.Common.{◌≡◌, ◌∙◌, List, ap, refl, arith}
+use Rattle.std.proofs.Common.{◌≡◌, ◌∙◌, Bool, map, ap, refl, sym, arith}
 use Rattle.hd_terms.specs.Ranks.{rank}
-use Rattle.hd_terms.specs.Settled.{Reached, reached_at}
+use Rattle.hd_terms.specs.Settled.{reached_at}
 use Rattle.hd_terms.proofs.RankLemmas.{least-positive}
+use Rattle.hd_strength.specs.Found.{Findings, seen}
 use Rattle.hd_strength.specs.declared.scratch.Search.{Search}
-use Rattle.hd_strength.specs.Growing.{rank_at}
+use Rattle.hd_strength.specs.Growing.{full}
 use Rattle.hd_strength.proofs.Holding.{reached_within}
 use Rattle.hd_strength.proofs.Spreading.{was_queued, taken_out, none_taken}
+use Rattle.hd_strength.proofs.SeenLemmas.{strength-seen}
 use Rattle.hd_strength.proofs.scratch.spread_objects.Goals as goal
 
 pub relax_edges-requires-clause-object : goal.relax_edges-requires-clause-object
 relax_edges-requires-clause-object c =
     let search = c.loop-o.search in
-    let popped : Search = record { found = c.look_ahead.new.self; buckets = search.buckets; queue = c.pop_front.new.self; count = search.count } in
-    let was = was_queued c.args.edited.graph.now c.args.edited.front.now search popped c.args.strength c.in-Some.o c.loop-o.invariant c.in-Some.ensures.items c.look_ahead.ensures refl refl in
-    let same : rank_at search.found c.in-Some.o ≡ rank c.args.strength = ap rank was.0 in
-    omega (arith, reached_within search.found c.in-Some.o (omega (arith, was.1, least-positive c.args.edited.graph.now.mode)), c.loop-o.invariant.objects)
+    let h = c.loop-o.invariant in
+    let popped : Search = record { found = search.found; buckets = search.buckets; queue = c.pop_front.new.self; count = search.count } in
+    let was = was_queued c.args.edited.graph.now c.args.edited.front.now (full search h.kept) (full popped h.kept) c.args.strength c.in-Some.o h.holds c.in-Some.ensures.items refl refl refl in
+    let same : rank (reached_at h.kept c.in-Some.o).strength ≡ rank c.args.strength = ap rank was.0 in
+    omega (arith, reached_within h.kept c.in-Some.o (omega (arith, was.1, least-positive c.args.edited.graph.now.mode)), h.holds.objects)
 
 pub relax_edges-requires-clause-passes_on : goal.relax_edges-requires-clause-passes_on
 relax_edges-requires-clause-passes_on c =
     let search = c.loop-o.search in
-    let popped : Search = record { found = c.look_ahead.new.self; buckets = search.buckets; queue = c.pop_front.new.self; count = search.count } in
-    (was_queued c.args.edited.graph.now c.args.edited.front.now search popped c.args.strength c.in-Some.o c.loop-o.invariant c.in-Some.ensures.items c.look_ahead.ensures refl refl).1
+    let h = c.loop-o.invariant in
+    let popped : Search = record { found = search.found; buckets = search.buckets; queue = c.pop_front.new.self; count = search.count } in
+    (was_queued c.args.edited.graph.now c.args.edited.front.now (full search h.kept) (full popped h.kept) c.args.strength c.in-Some.o h.holds c.in-Some.ensures.items refl refl refl).1
 
 pub relax_edges-requires-clause-source : goal.relax_edges-requires-clause-source
 relax_edges-requires-clause-source c =
     let search = c.loop-o.search in
-    let popped : Search = record { found = c.look_ahead.new.self; buckets = search.buckets; queue = c.pop_front.new.self; count = search.count } in
-    let was = was_queued c.args.edited.graph.now c.args.edited.front.now search popped c.args.strength c.in-Some.o c.loop-o.invariant c.in-Some.ensures.items c.look_ahead.ensures refl refl in
-    ap (λ (ks : List Reached). (reached_at ks c.in-Some.o).strength) c.look_ahead.ensures ∙ was.0
+    let h = c.loop-o.invariant in
+    let popped : Search = record { found = search.found; buckets = search.buckets; queue = c.pop_front.new.self; count = search.count } in
+    let was = was_queued c.args.edited.graph.now c.args.edited.front.now (full search h.kept) (full popped h.kept) c.args.strength c.in-Some.o h.holds c.in-Some.ensures.items refl refl refl in
+    ap (λ (f : Findings). (reached_at f.list c.in-Some.o).strength) c.look_ahead.ensures ∙ strength-seen c.args.search.now.found.whole search.found h.kept h.same_whole h.same c.in-Some.o ∙ was.0
 
 pub relax_edges-requires-clause-searching : goal.relax_edges-requires-clause-searching
 relax_edges-requires-clause-searching c =
     let search = c.loop-o.search in
-    let popped : Search = record { found = c.look_ahead.new.self; buckets = search.buckets; queue = c.pop_front.new.self; count = search.count } in
-    taken_out c.args.edited.graph.now c.args.edited.front.now search popped c.args.strength c.in-Some.o c.loop-o.invariant c.in-Some.ensures.items c.look_ahead.ensures refl refl
+    let h = c.loop-o.invariant in
+    let popped : Search = record { found = search.found; buckets = search.buckets; queue = c.pop_front.new.self; count = search.count } in
+    rw c.look_ahead.ensures (record {
+      kept = h.kept;
+      same_whole = refl;
+      same = h.same ∙ ap (λ (w : Bool). map (seen w) h.kept) (sym h.same_whole);
+      holds = taken_out c.args.edited.graph.now c.args.edited.front.now (full search h.kept) (full popped h.kept) c.args.strength c.in-Some.o h.holds c.in-Some.ensures.items refl refl refl;
+    })
+
+pub loop-o-preserved : goal.loop-o-preserved
+loop-o-preserved c =
+    let after = c.in_ok-relax_edges.ensures.searching in
+    let whole : c.look_ahead.new.self.whole ≡ c.args.search.now.found.whole = ap (λ (f : Findings). f.whole) c.look_ahead.ensures ∙ c.loop-o.invariant.same_whole in
+    record {
+      kept = after.kept;
+      same_whole = after.same_whole ∙ whole;
+      same = after.same ∙ ap (λ (w : Bool). map (seen w) after.kept) whole;
+      holds = after.holds;
+    }
 
 pub returns-clause-searching : goal.returns-clause-searching
 returns-clause-searching c =
     let search = c.loop-o.search in
+    let h = c.loop-o.invariant in
     let popped : Search = record { found = search.found; buckets = search.buckets; queue = c.pop_front.new.self; count = search.count } in
-    none_taken c.args.edited.graph.now c.args.edited.front.now search popped c.args.strength c.loop-o.invariant c.in_default.ensures.items refl refl refl
+    record {
+      kept = h.kept;
+      same_whole = h.same_whole;
+      same = h.same;
+      holds = none_taken c.args.edited.graph.now c.args.edited.front.now (full search h.kept) (full popped h.kept) c.args.strength h.holds c.in_default.ensures.items refl refl refl;
+    }
