@@ -1,15 +1,12 @@
 //! The workbench: a dump is opened, and an analyst's lines are read, run over it, and answered, or those of several.
 #![tactic(auto)]
 
-mod counts;
-mod file;
-mod program;
 #[cfg(test)]
 mod program_tests;
-mod server;
 #[cfg(test)]
 mod terminal_tests;
 
+use hd_program::{FAILED, USAGE, program};
 use hd_terminal::Prompting;
 use std::env;
 use std::fs::File;
@@ -57,7 +54,7 @@ where
     let words: Vec<String> = words.collect(rt.alloc())?;
     let mut input = Prompting::new(rt.alloc(), rt.reader(), prompts, terminals.asks)?;
     let mut output = BufWriter::new(rt.alloc(), io::writer(rt))?;
-    let status = program::program(
+    let status = program(
         rt,
         words.as_slice(),
         terminals.shows,
@@ -73,11 +70,11 @@ fn not_started(rt: &HostRuntime, kind: io::ErrorKind) -> u8 {
     match kind {
         io::ErrorKind::InvalidData => {
             let _ = rt.eprintln("hdesk: a word is not UTF-8");
-            program::USAGE
+            USAGE
         }
         _ => {
             let _ = rt.eprintln("hdesk: OutOfMemory");
-            program::FAILED
+            FAILED
         }
     }
 }

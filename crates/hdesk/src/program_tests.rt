@@ -1,6 +1,6 @@
 //! The whole program over words and files, with its exit statuses and texts.
-use crate::program::{BAD_DUMP, DONE, FAILED, USAGE, program};
 use hd_arguments::{Opening, Serving, Task, read_arguments};
+use hd_program::{BAD_DUMP, DONE, FAILED, USAGE, program};
 use hd_protocol::SAMPLE;
 use hd_terms::Mode;
 use std::alloc::{AllocError, Global};

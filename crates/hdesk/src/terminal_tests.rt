@@ -1,5 +1,5 @@
 //! What is shown at a terminal, and that it doesn't show on standard output.
-use crate::program::{BAD_DUMP, DONE, program};
+use hd_program::{BAD_DUMP, DONE, program};
 use hd_protocol::SAMPLE;
 use std::alloc::AllocError;
 use std::fs::{self, File};

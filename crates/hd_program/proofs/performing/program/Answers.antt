@@ -1,8 +1,8 @@
 use Rattle.std.proofs.Common.{inl, inr, ℕ, List, Option}
 use Rattle.hd_arguments.specs.declared.task.Task.{Task}
 use Rattle.hd_arguments.specs.declared.task.Task.TheVariants as tasks
-use Rattle.hdesk.specs.Performing.{Performs, RunsWords}
-use Rattle.hdesk.proofs.program.program.Goals as goal
+use Rattle.hd_program.specs.Performing.{Performs, RunsWords}
+use Rattle.hd_program.proofs.performing.program.Goals as goal
 
 -- what is done for a task is one of what a run with words does
 runs_words : (task : Task) (input rest before after : Option (List ℕ)) (exit : ℕ) → Performs task input rest before after exit → RunsWords input rest before after exit

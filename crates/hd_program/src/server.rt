@@ -1,9 +1,9 @@
 //! Serving several analysts over connections.
 ghost use Rattle.std.specs.Prelude.{◌≡◌, string_bytes, IfErr, IfOk, OnOk};
 ghost use Rattle.std.specs.Arc.{arc_value};
-ghost use Rattle.std.specs.Io.KnownBytes.{Appends, Keeps};
+ghost use Rattle.std.specs.Io.KnownBytes.{Appends};
 ghost use Rattle.hd_terms.specs.Workers.{IsWorkers};
-ghost use Rattle.hdesk.specs.Listening.{listening_text, EndsEarly, EndsServer, PrintsServer};
+ghost use Rattle.hd_program.specs.Listening.{listening_text, EndsEarly, EndsServer, PrintsServer};
 ghost use Rattle.hd_arguments.specs.Tasks.{IsAnalysts};
 
 use crate::counts::{end_status, shown_counts};

@@ -9,8 +9,8 @@ use Rattle.hd_terms.specs.Replies.{with_newline}
 use Rattle.hd_board.specs.Opening.{opened_board}
 use Rattle.hd_protocol.specs.Running.{IsOpenFault}
 use Rattle.hd_server.specs.Logs.{PrintsLog}
-use Rattle.hdesk.specs.declared.server.ServerFault.{ServerFault}
-use Rattle.hdesk.specs.declared.server.ServerFault.TheVariants as server_faults
+use Rattle.hd_program.specs.declared.server.ServerFault.{ServerFault}
+use Rattle.hd_program.specs.declared.server.ServerFault.TheVariants as server_faults
 
 -- the port that is listened on, as it is told
 abbrev pub listening_text : ℕ → List ℕ

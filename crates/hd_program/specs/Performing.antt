@@ -7,9 +7,9 @@ use Rattle.hd_protocol.specs.declared.run.RunFault.{RunFault}
 use Rattle.hd_protocol.specs.declared.run.RunFault.TheVariants as faults
 use Rattle.hd_protocol.specs.Running.{RunsDump}
 use Rattle.hd_protocol.specs.Stating.{StatsDump}
-use Rattle.hdesk.specs.Listening.{EndsServer}
-use Rattle.hdesk.specs.declared.server.ServerFault.{ServerFault}
-use Rattle.hdesk.specs.declared.server.ServerFault.TheVariants as server_faults
+use Rattle.hd_program.specs.Listening.{EndsServer}
+use Rattle.hd_program.specs.declared.server.ServerFault.{ServerFault}
+use Rattle.hd_program.specs.declared.server.ServerFault.TheVariants as server_faults
 use Rattle.hd_arguments.specs.declared.task.Task.{Task}
 use Rattle.hd_arguments.specs.declared.task.Task.TheVariants as tasks
 

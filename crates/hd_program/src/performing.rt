@@ -1,11 +1,11 @@
 //! The whole program, over given streams.
-ghost use Rattle.std.specs.Prelude.{◌≡◌, ◌≢◌, ◌≤◌, ◌⊎◌, [], Result, Err};
+ghost use Rattle.std.specs.Prelude.{◌≡◌, ◌≢◌, ◌⊎◌, [], Result, Err};
 ghost use Rattle.std.specs.Io.KnownBytes.{Keeps};
 ghost use Rattle.hd_terms.specs.Workers.{IsWorkers};
 ghost use Rattle.hd_terms.specs.declared.Mode.TheVariants.{Direct};
 ghost use Rattle.hd_protocol.specs.declared.run.RunFault.{RunFault};
 ghost use Rattle.hd_protocol.specs.Running.{RunsDump};
-ghost use Rattle.hdesk.specs.Performing.{server_status, status, Performs, RunsFile, RunsWords, FailsFirst, ServesOrFails};
+ghost use Rattle.hd_program.specs.Performing.{server_status, status, Performs, RunsFile, RunsWords, FailsFirst, ServesOrFails};
 ghost use Rattle.hd_arguments.specs.Tasks.{IsAnalysts, TaskWorkers};
 
 use crate::counts::{end_status, shown_counts};
