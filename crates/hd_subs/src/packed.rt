@@ -28,7 +28,7 @@ fn count_at(bytes: &[u8], offset: usize) -> u32
     requires { offset + 4 ≤ length bytes.now }
     ensures { result ≡ big_number 4 (drop offset bytes.now) }
 {
-    BigEndian::read_u32(&bytes[offset..])
+    BigEndian::read_u32(&bytes[offset..offset + 4])
 }
 
 /// The INSTANCE DUMP whose tag lies at an offset.

@@ -106,7 +106,7 @@ fn read_count(fields: &[u8], id_len: usize) -> u32
     requires { id_len + 8 ≤ length fields.now }
     ensures { result ≡ big_number 4 (drop (id_len + 4) fields.now) }
 {
-    BigEndian::read_u32(&fields[id_len + 4..])
+    BigEndian::read_u32(&fields[id_len + 4..id_len + 8])
 }
 
 /// The INSTANCE DUMP whose fields these bytes begin with, unless they run out.

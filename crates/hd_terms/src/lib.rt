@@ -167,8 +167,8 @@ impl IdSize {
         ensures { result ≡ big_number (id_len self) bytes.now }
     {
         match self {
-            IdSize::Four => u64::from(BigEndian::read_u32(bytes)),
-            IdSize::Eight => BigEndian::read_u64(bytes),
+            IdSize::Four => u64::from(BigEndian::read_u32(&bytes[..4])),
+            IdSize::Eight => BigEndian::read_u64(&bytes[..8]),
         }
     }
 }
