@@ -1,5 +1,5 @@
 -- Lemmas on looking classes up.
-use Rattle.std.proofs.Common.{◌≡◌, ◌∙◌, ℕ, suc, ◌+◌, ◌<◌, List, [], ◌∷◌, length, Option, Some, None, Bool, not, cond, eqb, ltb, refl, sym, ap, arith}
+use Rattle.std.proofs.Common.{◌≡◌, ◌∙◌, ℕ, zero, suc, slice_index, ◌+◌, ◌<◌, List, [], ◌∷◌, length, Option, Some, None, Bool, not, cond, eqb, ltb, refl, sym, ap, arith}
 use Rattle.std.specs.List.{slice_get, position, prefix_len}
 use Rattle.std.specs.Map.{lookup, keys_of}
 use Rattle.std.specs.Option.{option_map, option_map_or, option_and_then}
@@ -24,6 +24,12 @@ pub position-keys : {X : Type 0} (test : ℕ → Bool) (es : List (ℕ × X)) �
 position-keys test es =
     ap (λ (n : ℕ). cond (ltb n (length es)) (Some n) None) (prefix-keys (λ (id : ℕ). not (test id)) es)
     ∙ ap (λ (n : ℕ). cond (ltb (prefix_len (λ (id : ℕ). not (test id)) (keys_of es)) n) (Some (prefix_len (λ (id : ℕ). not (test id)) (keys_of es))) None) (length-keys (λ (id : ℕ). not (test id)) es)
+
+-- the key of an entry
+pub key-at : {X : Type 0} (es : List (ℕ × X)) (i : ℕ) (e : ℕ × X) → slice_get es i ≡ Some e → (i < length (keys_of es)) × (slice_index (keys_of es) i ≡ e.0)
+key-at [] i e is = absurd cc
+key-at (x ∷ es) zero e is = let same : x ≡ e = cc in (omega arith, ap (λ (p : _). p.0) same)
+key-at (x ∷ es) (suc i) e is = let r = key-at es i e is in (omega (arith, r.0), r.1)
 
 -- the referent and the kind by an ID
 case-referent : (o : Option ResolvedClass) (l : LinkedClass) → option_map view_facts o ≡ Some (row_facts l) → l.referent ≡ option_and_then (λ (x : ResolvedClass). x.referent) o

@@ -14,6 +14,7 @@ ghost use Rattle.hd_classes.specs.Building.{AreBroken, NotesPath, AddsClass, Has
 
 use crate::classes::Classes;
 use crate::first_class::FirstClass;
+use crate::guesses::Guesses;
 use crate::linked::LinkedClass;
 use crate::linking::keep_class;
 use crate::path::{Path, climb};
@@ -127,7 +128,8 @@ impl Classes {
         let hasher = IdHasher::new(secret);
         let source = source_of(alloc, bytes, records, list, hasher)?;
         let known = resolved_classes(alloc, &source, hasher)?;
+        let guesses = Guesses::at(alloc, &known)?;
         let (texts, names) = source.into_names();
-        Ok(Classes::new(texts, names, known))
+        Ok(Classes::new(texts, names, known, guesses))
     }
 }

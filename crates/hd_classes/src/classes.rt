@@ -4,6 +4,7 @@ ghost use Rattle.hd_classes.specs.Known.{name_at, number_of, known_by_number, ch
 ghost use Rattle.hd_classes.specs.Links.{IsLinked, views};
 
 use crate::chain::Chain;
+use crate::guesses::Guesses;
 use crate::known::ResolvedClass;
 use crate::layout::Layout;
 use crate::linked::{LinkedClass, first_declaring};
@@ -19,6 +20,7 @@ pub struct Classes {
     /// The ID of the text that is a class's name, by the class's ID.
     names: IndexMap<u64, u64, IdHasher>,
     known: IndexMap<u64, LinkedClass, IdHasher>,
+    guesses: Guesses,
 }
 
 impl Drop for Classes {
@@ -28,6 +30,7 @@ impl Drop for Classes {
             texts,
             names,
             known,
+            guesses,
         } = self;
     }
 }
@@ -50,6 +53,7 @@ impl Classes {
         texts: IndexMap<u64, Span, IdHasher>,
         names: IndexMap<u64, u64, IdHasher>,
         known: IndexMap<u64, LinkedClass, IdHasher>,
+        guesses: Guesses,
     ) -> Classes
         requires { IsLinked known.entries }
         ensures { result ≡ record { texts = texts.entries; names = names.entries; classes = views known.entries } }
@@ -58,6 +62,7 @@ impl Classes {
             texts,
             names,
             known,
+            guesses,
         }
     }
 
@@ -79,6 +84,13 @@ impl Classes {
     pub fn index_of(&self, id: u64) -> Option<usize>
         ensures { result ≡ number_of self.now id }
     {
+        let guess = self.guesses.number(id);
+        let known = self.known.as_slice();
+        if let Some((guessed, _)) = known.get_index(guess)
+            && *guessed == id
+        {
+            return Some(guess);
+        }
         self.known.get_index_of(&id)
     }
 

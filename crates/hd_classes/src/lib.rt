@@ -7,6 +7,7 @@ mod chain;
 mod class_names;
 mod classes;
 mod first_class;
+mod guesses;
 mod known;
 mod layout;
 mod linked;
