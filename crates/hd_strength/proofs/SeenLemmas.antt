@@ -15,7 +15,7 @@ use Rattle.hd_strength.specs.declared.scratch.Search.{Search}
 use Rattle.hd_strength.specs.Buckets.{AddsTo, TakesFirst}
 use Rattle.hd_strength.specs.Found.{Findings, seen, AreSeen}
 use Rattle.hd_strength.specs.Rows.{edge_at}
-use Rattle.hd_strength.specs.Growing.{full, rank_at, offered_strength, offer_at, unreached_count, to_do, IsBacked, IsPassedOver, IsAccepted, IsOffered, HasComeTo}
+use Rattle.hd_strength.specs.Growing.{full, rank_at, offered_strength, offer_at, unreached_count, to_do, IsBacked, IsPassedOver, IsAccepted, IsOffered, IsTakenOut, HasNoneQueued, HasComeTo}
 use Rattle.hd_supports.specs.PackedReached.{reached_by_root}
 use Rattle.hd_strength.specs.Rows.{root_at}
 use Rattle.hd_strength.specs.Growing.{AreHeld}
@@ -185,3 +185,11 @@ queued-seen b found kept same_whole same queue n q = record {
   reached = λ o c. omega (arith, rank-seen b found kept same_whole same o, q.reached o c);
   all = λ o lt reached. q.all o lt (omega (arith, rank-seen b found kept same_whole same o));
 }
+
+-- an object is taken out of a search that keeps all, as of one that shows less
+pub taken-seen : (old new : Search) (kept : List Reached) (o : ℕ) → IsTakenOut old new o → IsTakenOut (full old kept) (full new kept) o
+taken-seen old new kept o t = record { was = t.was; before = t.before; left = t.left; one_less = t.one_less; same_found = refl; same_buckets = t.same_buckets; same_count = t.same_count }
+
+-- and nothing is queued
+pub none-seen : (old new : Search) (kept : List Reached) → HasNoneQueued old new → HasNoneQueued (full old kept) (full new kept)
+none-seen old new kept n = record { none = n.none; still = n.still; same_found = refl; same_buckets = n.same_buckets; same_count = n.same_count }

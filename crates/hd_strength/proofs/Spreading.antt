@@ -21,7 +21,7 @@ use Rattle.hd_strength.specs.declared.scratch.Search.{Search}
 use Rattle.hd_strength.specs.Buckets.{bucket, TakesFirst}
 use Rattle.hd_strength.specs.Found.{Findings}
 use Rattle.hd_strength.specs.Rows.{width, edge_at}
-use Rattle.hd_strength.specs.Growing.{rank_at, offered_strength, offer_at, IsBacked, IsHadOrOffered, IsGrowing, IsSearching, NotQueued, NotQueuedBelow, HasComeTo, HasAccepted, Reaches, IsPassedOver, IsAccepted, IsOffered, unreached_count, to_do}
+use Rattle.hd_strength.specs.Growing.{rank_at, offered_strength, offer_at, IsBacked, IsHadOrOffered, IsGrowing, IsSearching, NotQueued, NotQueuedBelow, HasComeTo, HasAccepted, Reaches, IsPassedOver, IsAccepted, IsOffered, IsTakenOut, HasNoneQueued, unreached_count, to_do}
 use Rattle.hd_strength.proofs.Lists.{Contains-nil, Contains-head, Contains-tail, Contains-cons_cases}
 use Rattle.hd_strength.proofs.RowLemmas.{edge_stands_at, at_source, edge_has_index, is_at, IsAt}
 use Rattle.hd_strength.proofs.Grow.{AreRows, Extends, extends, extends-first, weaken, decline, offer, none_left, descend, take, offered_strength-le, settled_in_the_end}
@@ -296,35 +296,31 @@ row_done dump log start search s o n h le = record {
 }
 
 -- an object is taken out of the queue
-module _ (dump : Dump) (log : List Event) (search popped : Search) (s : Strength) (o : ℕ) (h : HasAccepted dump log search s) (first : search.queue.items ≡ o ∷ popped.queue.items)
-    (same_found : popped.found ≡ search.found) (same_buckets : popped.buckets ≡ search.buckets) (same_count : popped.count ≡ search.count) where
-  before : (p : ℕ) → Contains popped.queue.items p → Contains search.queue.items p
-  before p c = subst (λ (xs : List ℕ). Contains xs p) (sym first) (Contains-tail o popped.queue.items p c)
-
+module _ (dump : Dump) (log : List Event) (search popped : Search) (s : Strength) (o : ℕ) (h : HasAccepted dump log search s) (t : IsTakenOut search popped o) where
   pub was_queued : ((reached_at search.found.list o).strength ≡ s) × IsPassedOn dump.mode s
-  was_queued = h.queued o (subst (λ (xs : List ℕ). Contains xs o) (sym first) (Contains-head o popped.queue.items))
+  was_queued = h.queued o t.was
 
   pub taken_out : IsSearching dump log popped s (rank s) (NotQueuedBelow popped.queue.items o 0)
   taken_out = record {
-    growing = rw (same_found, same_buckets, same_count) (weaken (standing dump log) (edge_at dump log) search.found.list (bucket search.buckets) search.count s (rank s) (NotQueued search.queue.items) (NotQueuedBelow popped.queue.items o 0) h.growing
-        (λ p i e done is passes. inl (λ c. elim (Contains-cons_cases o popped.queue.items p (subst (λ (xs : List ℕ). Contains xs p) first c)) [
-          | inl same ↦ let lt : i < 0 = done.1 (sym same) in absurd (omega arith)
+    growing = rw (t.same_found, t.same_buckets, t.same_count) (weaken (standing dump log) (edge_at dump log) search.found.list (bucket search.buckets) search.count s (rank s) (NotQueued search.queue.items) (NotQueuedBelow popped.queue.items o 0) h.growing
+        (λ p i e done is passes. inl (λ c. elim (t.left p c) [
+          | inl same ↦ let lt : i < 0 = done.1 same in absurd (omega arith)
           | inr later ↦ done.0 later
         ])));
-    queued = λ p c. rw same_found (h.queued p (before p c));
-    objects = rw same_found h.objects;
+    queued = λ p c. rw t.same_found (h.queued p (t.before p c));
+    objects = rw t.same_found h.objects;
     few = h.few;
-    stamps = rw (same_found, same_count) h.stamps;
+    stamps = rw (t.same_found, t.same_count) h.stamps;
   }
 
 -- the queue is empty
-pub none_taken : (dump : Dump) (log : List Event) (search popped : Search) (s : Strength) → HasAccepted dump log search s → search.queue.items ≡ popped.queue.items → popped.found ≡ search.found → popped.buckets ≡ search.buckets → popped.count ≡ search.count → HasAccepted dump log popped s
-none_taken dump log search popped s h same_queue same_found same_buckets same_count = record {
-  growing = rw (same_found, same_buckets, same_count) (subst (λ (xs : List ℕ). IsGrowing (standing dump log) (edge_at dump log) search.found.list (bucket search.buckets) search.count s (rank s) (NotQueued xs)) same_queue h.growing);
-  queued = λ o c. rw same_found (h.queued o (subst (λ (xs : List ℕ). Contains xs o) (sym same_queue) c));
-  objects = rw same_found h.objects;
+pub none_taken : (dump : Dump) (log : List Event) (search popped : Search) (s : Strength) → HasAccepted dump log search s → HasNoneQueued search popped → HasAccepted dump log popped s
+none_taken dump log search popped s h n = record {
+  growing = rw (n.same_found, n.same_buckets, n.same_count) (subst (λ (xs : List ℕ). IsGrowing (standing dump log) (edge_at dump log) search.found.list (bucket search.buckets) search.count s (rank s) (NotQueued xs)) (n.none ∙ sym n.still) h.growing);
+  queued = λ o c. absurd (Contains-nil o (subst (λ (xs : List ℕ). Contains xs o) n.still c));
+  objects = rw n.same_found h.objects;
   few = h.few;
-  stamps = rw (same_found, same_count) h.stamps;
+  stamps = rw (n.same_found, n.same_count) h.stamps;
 }
 
 -- nothing is left of the strength

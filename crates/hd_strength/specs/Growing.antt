@@ -141,6 +141,24 @@ pub record IsOffered (at : ℕ → ℕ → Option Edge) (old new : Search) (s : 
   pub same_queue : new.queue ≡ old.queue
   pub same_count : new.count ≡ old.count
 
+-- an object is taken out of what is queued
+pub record IsTakenOut (old new : Search) (o : ℕ) : Type 0 where
+  pub was : Contains old.queue.items o
+  pub before : (p : ℕ) → Contains new.queue.items p → Contains old.queue.items p
+  pub left : (p : ℕ) → Contains old.queue.items p → (p ≡ o) ⊎ Contains new.queue.items p
+  pub one_less : length new.queue.items + 1 ≡ length old.queue.items
+  pub same_found : new.found ≡ old.found
+  pub same_buckets : new.buckets ≡ old.buckets
+  pub same_count : new.count ≡ old.count
+
+-- nothing is queued, before and after
+pub record HasNoneQueued (old new : Search) : Type 0 where
+  pub none : old.queue.items ≡ []
+  pub still : new.queue.items ≡ []
+  pub same_found : new.found ≡ old.found
+  pub same_buckets : new.buckets ≡ old.buckets
+  pub same_count : new.count ≡ old.count
+
 -- what a search ends with: settled strengths of all objects, with no stamp above their number, which has 32 bits
 pub record HasEnded (dump : Dump) (log : List Event) (ks : List Reached) : Type 0 where
   pub count : length ks ≡ length dump.objects

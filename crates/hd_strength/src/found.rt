@@ -68,6 +68,13 @@ impl Found {
         })
     }
 
+    /// Whether all is kept of the objects, and not their strengths alone.
+    pub(crate) fn is_whole(&self) -> bool
+        ensures { result ≡ self.now.whole }
+    {
+        self.whole
+    }
+
     /// Whether anything reaches an object.
     pub(crate) fn is_reached(&self, o: u32) -> bool
         requires { o < length self.now.list }

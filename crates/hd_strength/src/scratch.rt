@@ -1,12 +1,13 @@
-//! Strengths from scratch: Dijkstra's widest path with a bucket for each strength, and within a strength breadth first.
+//! Strengths from scratch: Dijkstra's widest path with a bucket for each strength.
 //!
 //! Strengths are spread one after the other, the greatest first. A reference that gives its target the strength that is
 //! being spread is accepted at once. One that gives less is offered, and waits in the bucket of what it gives. What is
 //! settled in the end is the certificate of the search.
 //!
-//! All offers of a strength are accepted before its objects pass it on, and both are taken first in, first out. So right
-//! after the opening supports make short chains, since objects are reached breadth first within one strength. No contract
-//! promises that.
+//! All offers of a strength are accepted, in the order in which they were made, before its objects pass it on. Where all is
+//! kept, objects pass it on in the order in which they were reached: breadth first within one strength, so right after the
+//! opening supports make short chains. No contract promises that. Where only strengths are asked for, no order shows, and
+//! the search is depth first: most objects lie near those that refer to them.
 ghost use Rattle.std.specs.Prelude.{◌≡◌, ℕ, ◌+◌, ◌^◌, ◌<◌, ◌≤◌, ◌⊎◌, Some, [], length, IfNone, IfOk, IfSome, OnOk};
 ghost use Rattle.hd_terms.specs.Ranks.{rank, IsPassedOn};
 ghost use Rattle.hd_terms.specs.Paths.{Edge};
@@ -16,7 +17,7 @@ ghost use Rattle.hd_terms.specs.declared.Strength.{Strength as OneStrength};
 ghost use Rattle.hd_terms.specs.declared.Strength.TheVariants as strengths;
 ghost use Rattle.hd_strength.specs.Found.{AreSeen, AreSettled, seen};
 ghost use Rattle.hd_strength.specs.Rows.{width, edge_at, root_count};
-ghost use Rattle.hd_strength.specs.Growing.{full, rank_at, AreHeld, HasEnded, IsBacked, IsSearching, NotQueuedBelow, HasComeTo, HasAccepted, IsGain, Reaches, IsPassedOver, IsAccepted, IsOffered, to_do};
+ghost use Rattle.hd_strength.specs.Growing.{full, rank_at, AreHeld, HasEnded, IsBacked, IsSearching, NotQueuedBelow, HasComeTo, HasAccepted, IsGain, Reaches, IsPassedOver, IsAccepted, IsOffered, IsTakenOut, HasNoneQueued, to_do};
 ghost use Rattle.hd_strength.specs.Removed.{IsRemovedBy};
 
 use crate::buckets::{Buckets, Offer};
@@ -253,6 +254,22 @@ fn relax_edges(
     Ok(())
 }
 
+/// Takes out the object that passes its strength on next. Where all is kept of the objects it is the one that was queued
+/// first, so that supports make short chains, and what the next ones will ask for is read ahead. Where only strengths are
+/// asked for it is the one that was queued last: what an object refers to mostly lies near it in memory.
+fn take_next(graph: &Graph, search: &mut Search) -> Option<u32>
+    ensures none { IfNone result (HasNoneQueued search.old search.new) }
+    ensures some { IfSome result (λ o. IsTakenOut search.old search.new o) }
+{
+    if search.found.is_whole() {
+        let o = search.queue.pop_front()?;
+        search.found.look_ahead(graph, &search.queue);
+        Some(o)
+    } else {
+        search.queue.pop_back()
+    }
+}
+
 /// Passes on the strength of all objects that are queued, and of those that are queued by that.
 fn spread_objects(
     edited: Edited<'_>,
@@ -264,8 +281,7 @@ fn spread_objects(
     ensures searching { OnOk result (AreSeen search.old.found.whole search.new.found (λ ks. HasAccepted edited.entry.graph.now edited.entry.front.now (full search.new ks) strength)) }
     ensures all { OnOk result (search.new.queue.items ≡ []) }
 {
-    while let Some(o) = search.queue.pop_front() {
-        search.found.look_ahead(edited.graph, &search.queue);
+    while let Some(o) = take_next(edited.graph, search) {
         relax_edges(edited, search, o, strength)?;
     }
     Ok(())
