@@ -1,5 +1,5 @@
-//! The strengths of objects: Dijkstra's widest path from the roots, with a bucket of offers for each rank, and within a
-//! rank breadth first.
+//! The strengths of objects: Dijkstra's widest path from the roots, with a bucket of offers for each rank. Within a rank
+//! one worker goes depth first, since most objects lie near those that refer to them; several go breadth first.
 //!
 //! What is reached stands in the order in which it was reached, each object with the source of its support. So all
 //! objects of a rank stand in sequence, a place in the order is an object's stamp, and only a bit for each object is
@@ -24,6 +24,11 @@ const ROOM: usize = 4096;
 /// How many objects have to be at hand before workers share them, and how many each of these takes at once.
 const CROWD: usize = 1 << 16;
 const CHUNK: usize = 1 << 10;
+
+/// How a worker searches: breadth first beside others, breadth first for a while alone, or alone and depth first.
+const SHARED: u8 = 0;
+const ALONE: u8 = 1;
+const DEEP: u8 = 2;
 
 /// The source of a support that is a root.
 const ROOT: u32 = u32::MAX;
@@ -74,6 +79,8 @@ struct Finder<'a> {
     rank: u8,
     finds: Vec<u64>,
     found: usize,
+    /// What has still to pass its rank on, depth first.
+    stack: Vec<u32>,
     offers: Buckets,
     /// The recorded bytes of the objects that it has gone over.
     bytes: u64,
@@ -86,6 +93,7 @@ impl<'a> Finder<'a> {
             rank,
             finds: vec![0; ROOM],
             found: 0,
+            stack: Vec::new(),
             offers: Buckets::default(),
             bytes: 0,
         }
@@ -101,14 +109,19 @@ impl<'a> Finder<'a> {
         self.found = 0;
     }
 
-    /// Reaches an object, unless it is reached already. What is noted stands only if it wasn't. ALONE says that no
-    /// other worker is there.
+    /// Reaches an object, unless it is reached already. What is noted stands only if it wasn't.
     #[inline(always)]
-    fn reach<const ALONE: bool>(&mut self, object: u32, source: u32) {
+    fn reach<const HOW: u8>(&mut self, object: u32, source: u32) {
         let word = &self.search.is_reached[object as usize / 64];
         let bit = 1 << (object % 64);
         let mut before = word.load(Relaxed);
-        if ALONE {
+        if HOW == DEEP {
+            if before & bit != 0 {
+                return;
+            }
+            self.stack.push(object);
+        }
+        if HOW != SHARED {
             word.store(before | bit, Relaxed);
         } else if before & bit == 0 {
             before = word.fetch_or(bit, Relaxed);
@@ -130,7 +143,7 @@ impl<'a> Finder<'a> {
 
     /// Adds the recorded bytes of an object. If it is an instance, its class is reached.
     #[inline(always)]
-    fn relax_class<const ALONE: bool>(&mut self, source: u32, row: Row) {
+    fn relax_class<const HOW: u8>(&mut self, source: u32, row: Row) {
         match row.kind() {
             Err(bytes) => self.bytes += u64::from(bytes),
             Ok(number) => {
@@ -139,7 +152,7 @@ impl<'a> Finder<'a> {
                 let has_class = &self.search.has_class[number as usize];
                 if self.rank >= FINAL && !has_class.load(Relaxed) {
                     has_class.store(true, Relaxed);
-                    self.reach::<ALONE>(class.object, source);
+                    self.reach::<HOW>(class.object, source);
                 }
             }
         }
@@ -148,7 +161,7 @@ impl<'a> Finder<'a> {
     /// Passes on the rank of an object to its targets, the first of which is given. What its referent gets of a lesser
     /// rank is offered.
     #[inline(always)]
-    fn relax_targets<const ALONE: bool>(&mut self, source: u32, row: Row, first: u32) {
+    fn relax_targets<const HOW: u8>(&mut self, source: u32, row: Row, first: u32) {
         let Some(start) = row.start() else {
             return;
         };
@@ -164,7 +177,7 @@ impl<'a> Finder<'a> {
             target = targets[place];
         }
         loop {
-            self.reach::<ALONE>(target & !LAST, source);
+            self.reach::<HOW>(target & !LAST, source);
             if target & LAST != 0 {
                 return;
             }
@@ -175,7 +188,7 @@ impl<'a> Finder<'a> {
 
     /// Passes on the rank of at most BATCH objects. Their rows are looked up together, and then their first targets, so
     /// that none has to wait for the one before.
-    fn relax_batch<const ALONE: bool>(&mut self, batch: &[AtomicU64]) {
+    fn relax_batch<const HOW: u8>(&mut self, batch: &[AtomicU64]) {
         let graph = self.search.graph;
         let (mut rows, mut firsts) = ([Row(0); BATCH], [0; BATCH]);
         for (row, find) in rows.iter_mut().zip(batch) {
@@ -186,17 +199,38 @@ impl<'a> Finder<'a> {
         }
         for (i, find) in batch.iter().enumerate() {
             let source = find.load(Relaxed) as u32;
-            self.relax_class::<ALONE>(source, rows[i]);
+            self.relax_class::<HOW>(source, rows[i]);
             if self.rank >= FINAL {
-                self.relax_targets::<ALONE>(source, rows[i], firsts[i]);
+                self.relax_targets::<HOW>(source, rows[i], firsts[i]);
             }
         }
     }
 
     /// Passes on the rank of a part of the order.
-    fn relax<const ALONE: bool>(&mut self, part: Range<usize>) {
+    fn relax<const HOW: u8>(&mut self, part: Range<usize>) {
         for batch in self.search.order[part].chunks(BATCH) {
-            self.relax_batch::<ALONE>(batch);
+            self.relax_batch::<HOW>(batch);
+        }
+    }
+
+    /// Passes on the rank of one object.
+    #[inline(always)]
+    fn relax_one(&mut self, source: u32) {
+        let row = Row(self.search.graph.rows.rows[source as usize]);
+        self.relax_class::<DEEP>(source, row);
+        if self.rank >= FINAL {
+            let first = row.start().unwrap_or(0) as usize;
+            self.relax_targets::<DEEP>(source, row, self.search.graph.rows.targets[first]);
+        }
+    }
+
+    /// Passes on the rank of the objects of a part of the order, and of all that are reached by that, depth first.
+    fn relax_deep(&mut self, part: Range<usize>) {
+        let order = &self.search.order[part];
+        self.stack
+            .extend(order.iter().map(|find| find.load(Relaxed) as u32));
+        while let Some(source) = self.stack.pop() {
+            self.relax_one(source);
         }
     }
 
@@ -217,7 +251,7 @@ impl Search<'_> {
         let chunks = crowd.clone().step_by(CHUNK).map(chunk).collect();
         let begin = || Finder::new(self, finder.rank);
         let ended = run_workers(chunks, workers, begin, |one: &mut Finder, part| {
-            one.relax::<false>(part);
+            one.relax::<SHARED>(part);
         });
         ended.into_iter().for_each(|one| finder.join(one));
     }
@@ -231,12 +265,17 @@ impl Search<'_> {
             if from == end {
                 return take(&mut finder.bytes);
             }
-            if workers > 1 && end - from >= CROWD {
+            if workers == 1 {
+                finder.relax_deep(from..end);
+                finder.put_finds();
+                from = self.reached.load(Relaxed);
+            } else if end - from >= CROWD {
                 self.relax_crowd(from..end, workers, finder);
+                from = end;
             } else {
-                finder.relax::<true>(from..end);
+                finder.relax::<ALONE>(from..end);
+                from = end;
             }
-            from = end;
         }
     }
 
@@ -246,14 +285,14 @@ impl Search<'_> {
         let mut finder = Finder::new(self, STRONG);
         for id in &self.graph.roots {
             if let Some(object) = self.graph.numbers.get(*id) {
-                finder.reach::<true>(object, ROOT);
+                finder.reach::<ALONE>(object, ROOT);
             }
         }
         let mut begin = 0;
         for rank in (PHANTOM..=STRONG).rev() {
             finder.rank = rank;
             for offer in take(&mut finder.offers[rank as usize]) {
-                finder.reach::<true>(offer.target, offer.source);
+                finder.reach::<ALONE>(offer.target, offer.source);
             }
             let bytes = self.relax_rank(begin, workers, &mut finder);
             let end = self.reached.load(Relaxed);
