@@ -341,6 +341,23 @@ impl Graph {
         }
     }
 
+    /// The kind of the reference in the slot at an index of an object. The slot's name is looked at only where the object has a
+    /// referent.
+    pub fn slot_kind(&self, o: u32, i: u32) -> EdgeKind
+        requires object { o < length self.now.objects }
+        requires index { i < length (object_at self.now o).slots }
+        ensures { (s : SlotEntry) → slice_get (object_at self.now o).slots i ≡ Some s → result ≡ s.kind }
+    {
+        let shape = self.shapes.get(o);
+        let Shape::Instance(layout) = shape else {
+            return EdgeKind::Strong;
+        };
+        if layout.referent.is_none() {
+            return EdgeKind::Strong;
+        }
+        kind_of_slot(shape, layout.names[i as usize])
+    }
+
     /// The ID in the slot at an index of an object, 0 for null, and the number of the object with that ID, if there is one.
     pub(crate) fn reference(&self, o: u32, i: u32) -> (u64, Option<u32>)
         requires object { o < length self.now.objects }

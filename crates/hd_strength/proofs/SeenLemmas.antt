@@ -191,5 +191,5 @@ pub taken-seen : (old new : Search) (kept : List Reached) (o : ℕ) → IsTakenO
 taken-seen old new kept o t = record { was = t.was; before = t.before; left = t.left; one_less = t.one_less; same_found = refl; same_buckets = t.same_buckets; same_count = t.same_count }
 
 -- and nothing is queued
-pub none-seen : (old new : Search) (kept : List Reached) → HasNoneQueued old new → HasNoneQueued (full old kept) (full new kept)
-none-seen old new kept n = record { none = n.none; still = n.still; same_found = refl; same_buckets = n.same_buckets; same_count = n.same_count }
+pub none_queued-seen : (old new : Search) (kept : List Reached) → HasNoneQueued old new → HasNoneQueued (full old kept) (full new kept)
+none_queued-seen old new kept n = record { none = n.none; still = n.still; same_found = refl; same_buckets = n.same_buckets; same_count = n.same_count }

@@ -103,7 +103,6 @@ HasAccepted dump log search s = IsSearching dump log search s (rank s) (NotQueue
 pub record IsGain (at : ℕ → ℕ → Option Edge) (ks : List Reached) (o i : ℕ) (gain : Gain) : Type 0 where
   pub edge : Edge
   pub is : at o i ≡ Some edge
-  pub slot : gain.slot ≡ edge.slot
   pub target : gain.target ≡ edge.target
   pub strength : gain.strength ≡ offered_strength ks edge
   pub unreached : rank_at ks edge.target ≡ 0

@@ -8,9 +8,10 @@
 //! kept, objects pass it on in the order in which they were reached: breadth first within one strength, so right after the
 //! opening supports make short chains. No contract promises that. Where only strengths are asked for, no order shows, and
 //! the search is depth first: most objects lie near those that refer to them.
-ghost use Rattle.std.specs.Prelude.{◌≡◌, ℕ, ◌+◌, ◌^◌, ◌<◌, ◌≤◌, ◌⊎◌, Some, [], length, IfNone, IfOk, IfSome, OnOk};
+ghost use Rattle.std.specs.Prelude.{◌≡◌, ℕ, ◌+◌, ◌^◌, ◌<◌, ◌≤◌, ◌⊎◌, Some, [], length, slice_get, true, IfNone, IfOk, IfSome, OnOk};
 ghost use Rattle.hd_terms.specs.Ranks.{rank, IsPassedOn};
 ghost use Rattle.hd_terms.specs.Paths.{Edge};
+ghost use Rattle.hd_terms.specs.Dump.{SlotEntry, object_at};
 ghost use Rattle.hd_terms.specs.EditedDump.{standing};
 ghost use Rattle.hd_terms.specs.Settled.{Settled, reached_at};
 ghost use Rattle.hd_terms.specs.declared.Strength.{Strength as OneStrength};
@@ -24,7 +25,7 @@ use crate::buckets::{Buckets, Offer};
 use crate::edited::{Edited, added_object, root_object};
 use crate::found::Found;
 use crate::removed::Removed;
-use hd_graph::{Graph, SlotName};
+use hd_graph::Graph;
 use hd_log::Front;
 use hd_supports::{PackedReached, Strengths};
 use hd_terms::{NoMemory, Slot, Strength};
@@ -44,11 +45,10 @@ struct Search {
     count: u64,
 }
 
-/// What an object that nothing reaches gains by a reference: the object, the slot, and the strength.
+/// What an object that nothing reaches gains by a reference: the object, and the strength.
 #[derive(Clone, Copy, Debug)]
 struct Gain {
     target: u32,
-    slot: Slot,
     strength: Strength,
 }
 
@@ -108,14 +108,37 @@ fn begin(alloc: Global, edited: Edited<'_>, found: Found) -> Result<Search, NoMe
     })
 }
 
-/// Reaches an object by a slot of another, and queues it if it passes its strength on.
-fn reach(edited: Edited<'_>, search: &mut Search, source: u32, gain: Gain) -> Result<(), NoMemory>
+/// The slot at an index of an object where all is kept of what it reaches. Where strengths alone are kept any slot will do, and
+/// none is looked up.
+fn slot_to_keep(graph: &Graph, found: &Found, o: u32, index: u32) -> Slot
+    requires object { o < length graph.now.objects }
+    requires index { index < width graph.now o }
+    ensures { (s : SlotEntry) → slice_get (object_at graph.now o).slots index ≡ Some s → found.now.whole ≡ true → result ≡ s.slot }
+{
+    if found.is_whole() {
+        return graph.slot_name(o, index).slot;
+    }
+    Slot::OfClass
+}
+
+/// Reaches an object by the reference at an index of another's slots, and queues it if it passes its strength on.
+fn reach(
+    edited: Edited<'_>,
+    search: &mut Search,
+    source: u32,
+    index: u32,
+    gain: Gain,
+) -> Result<(), NoMemory>
+    requires source { source < length edited.graph.now.objects }
+    requires index { index < width edited.graph.now source }
     requires object { gain.target < length search.old.found.list }
     requires room { search.old.count < 2 ^ 32 }
-    ensures { OnOk result (Reaches (seen search.old.found.whole) edited.entry.graph.now.mode search.old search.new gain.strength source gain.slot gain.target) }
+    ensures { OnOk result ((s : SlotEntry) → slice_get (object_at edited.entry.graph.now source).slots index ≡ Some s →
+        Reaches (seen search.old.found.whole) edited.entry.graph.now.mode search.old search.new gain.strength source s.slot gain.target) }
 {
     search.count += 1;
-    let reached = PackedReached::by_edge(gain.strength, source, gain.slot, search.count);
+    let slot = slot_to_keep(edited.graph, &search.found, source, index);
+    let reached = PackedReached::by_edge(gain.strength, source, slot, search.count);
     search.found.put(gain.target, reached);
     if gain.strength.rank() >= edited.graph.mode().least_passed_on().rank() {
         search.queue.push_back(gain.target)?;
@@ -144,12 +167,8 @@ fn accept_offer(
     if search.found.is_reached(target) {
         return Ok(());
     }
-    let gain = Gain {
-        target,
-        slot: edited.graph.slot_name(offer.source, offer.index).slot,
-        strength,
-    };
-    reach(edited, search, offer.source, gain)?;
+    let gain = Gain { target, strength };
+    reach(edited, search, offer.source, offer.index, gain)?;
     Ok(())
 }
 
@@ -189,13 +208,12 @@ fn gain_at(
     if search.found.is_reached(target) {
         return None;
     }
-    let SlotName { slot, kind } = edited.graph.slot_name(o, index);
+    let kind = edited.graph.slot_kind(o, index);
     if edited.removed.slot(o, index, kind) {
         return None;
     }
     Some(Gain {
         target,
-        slot,
         strength: strength.weaker(kind.strength()),
     })
 }
@@ -224,7 +242,7 @@ fn relax_edge(
         return Ok(());
     };
     if gain.strength.rank() == strength.rank() {
-        reach(edited, search, o, gain)?;
+        reach(edited, search, o, index, gain)?;
     } else {
         search
             .buckets

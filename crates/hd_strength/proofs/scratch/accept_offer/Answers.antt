@@ -1,6 +1,5 @@
 use Rattle.std.proofs.Common.{◌≡◌, ◌∙◌, ◌<◌, inl, inr, length, Some, None, refl, ap, sym, subst, arith}
 use Rattle.hd_terms.specs.Paths.{Edge}
-use Rattle.hd_terms.specs.declared.Slot.{Slot}
 use Rattle.hd_terms.specs.Dump.{SlotEntry}
 use Rattle.hd_terms.specs.Edges.{index_of}
 use Rattle.hd_terms.specs.Settled.{reached_at}
@@ -65,5 +64,5 @@ returns c =
       unreached = rw target (found-none (reached_at ks t) (sym c.is_reached.ensures ∙ c.if-is_reached.false));
       object = rw target lt;
       reaches = subst (λ (x : Edge). Reaches (seen c.args.search.now.found.whole) dump.mode c.args.search.now c.reach.new.search c.args.strength x.source x.slot x.target) edge
-          (subst (λ (slot : Slot). Reaches (seen c.args.search.now.found.whole) dump.mode c.args.search.now c.reach.new.search c.args.strength source slot t) (c.slot_name.ensures.slot s at.1) c.in_ok-reach.ensures);
+          (c.in_ok-reach.ensures s at.1);
     })

@@ -38,7 +38,7 @@ returns-then-slot-clause-none c = λ e is.
     let log = c.args.edited.front.now in
     let at = slot_at dump c.args.o c.args.index c.requires.index in
     let s : SlotEntry = at.0 in
-    let kind : c.slot_name-slot.result.kind ≡ s.kind = c.slot_name-slot.ensures.kind s at.1 in
+    let kind : c.slot_kind-kind.result ≡ s.kind = c.slot_kind-kind.ensures s at.1 in
     let taken : is_removed c.args.edited.removed.now c.args.o c.args.index s.kind ≡ true = ap (is_removed c.args.edited.removed.now c.args.o c.args.index) (sym kind) ∙ sym c.slot.ensures ∙ c.if-slot.true in
     let cut : is_untouched log (object_at dump c.args.o) s ≡ false =
     not-true (is_untouched log (object_at dump c.args.o) s) (sym (c.requires.removed.slots c.args.o c.args.index s c.requires.object at.1) ∙ taken) in
@@ -51,14 +51,13 @@ returns-clause-some c =
     let s : SlotEntry = at.0 in
     let t = c.in_ok-target.target in
     let some : index_of c.args.edited.graph.now.objects s.id ≡ Some t = sym (c.target.ensures s at.1) ∙ c.in_ok-target.was in
-    let kind : c.slot_name-slot.result.kind ≡ s.kind = c.slot_name-slot.ensures.kind s at.1 in
+    let kind : c.slot_kind-kind.result ≡ s.kind = c.slot_kind-kind.ensures s at.1 in
     let left : is_removed c.args.edited.removed.now c.args.o c.args.index s.kind ≡ false = ap (is_removed c.args.edited.removed.now c.args.o c.args.index) (sym kind) ∙ sym c.slot.ensures ∙ c.if-slot.false in
     let stands : is_untouched c.args.edited.front.now (object_at c.args.edited.graph.now c.args.o) s ≡ true =
     not-false (is_untouched c.args.edited.front.now (object_at c.args.edited.graph.now c.args.o) s) (sym (c.requires.removed.slots c.args.o c.args.index s c.requires.object at.1) ∙ left) in
     record {
       edge = edge_to c.args.o s t;
       is = at_some c.args.edited.graph.now c.args.edited.front.now c.args.o c.args.index s at.1 t some stands;
-      slot = c.slot_name-slot.ensures.slot s at.1;
       target = refl;
       strength = c.weaker.ensures ∙ ap (λ (x : Strength). weaker_of x c.strength.result) (sym c.requires.source) ∙ ap (weaker_of (reached_at ks c.args.o).strength) (c.strength.ensures ∙ ap given_by kind);
       unreached = found-none (reached_at ks t) (sym c.is_reached.ensures ∙ c.if-is_reached.false);

@@ -1,10 +1,11 @@
 use Rattle.std.proofs.Common.{◌≡◌, ◌∙◌, inl, inr, refl, ap, sym, subst, arith}
 use Rattle.hd_terms.specs.declared.Strength.{Strength}
 use Rattle.hd_terms.specs.Ranks.{rank}
+use Rattle.hd_terms.specs.Paths.{Edge}
 use Rattle.hd_terms.proofs.RankLemmas.{same_rank, rank-le}
 use Rattle.hd_strength.specs.Buckets.{AddsTo}
 use Rattle.hd_strength.specs.Growing.{rank_at, offer_at}
-use Rattle.hd_strength.proofs.RowLemmas.{at_source}
+use Rattle.hd_strength.proofs.RowLemmas.{at_source, slot_at, at_edge, edge_to}
 use Rattle.hd_strength.proofs.Grow.{offered_strength-le}
 use Rattle.hd_strength.proofs.Spreading.{offered_strength-some}
 use Rattle.hd_strength.proofs.scratch.relax_edge.Goals as goal
@@ -27,14 +28,17 @@ pub returns-in_ok-reach : goal.returns-in_ok-reach
 returns-in_ok-reach c =
     let h = c.in-Some.ensures.some in
     let same : c.in-Some.gain.strength ≡ c.args.strength = same_rank c.in-Some.gain.strength c.args.strength (sym c.rank.ensures ∙ c.if-rank.true ∙ c.rank-2.ensures) in
-    let source = at_source c.args.edited.graph.now c.args.edited.front.now c.args.o c.args.index h.edge h.is in
+    let at = slot_at c.args.edited.graph.now c.args.o c.args.index c.requires.index in
+    let is : h.edge ≡ edge_to c.args.o at.0 h.edge.target = (at_edge c.args.edited.graph.now c.args.edited.front.now c.args.o c.args.index at.0 at.1 h.edge h.is).1 in
+    let source : h.edge.source ≡ c.args.o = ap (λ (e : Edge). e.source) is in
+    let slot : h.edge.slot ≡ at.0.slot = ap (λ (e : Edge). e.slot) is in
     inr (inl (record {
       edge = h.edge;
       is = h.is;
       gives = sym same ∙ h.strength;
       unreached = h.unreached;
       object = h.object;
-      reaches = rw (source, sym h.slot, sym h.target, sym same) c.in_ok-reach.ensures;
+      reaches = rw (source, slot, sym h.target, sym same) (c.in_ok-reach.ensures at.0 at.1);
     }))
 
 pub returns-in_ok-push : goal.returns-in_ok-push

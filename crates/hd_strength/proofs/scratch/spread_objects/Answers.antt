@@ -6,7 +6,7 @@ use Rattle.hd_strength.specs.Found.{Findings, seen}
 use Rattle.hd_strength.specs.Growing.{full}
 use Rattle.hd_strength.proofs.Holding.{reached_within}
 use Rattle.hd_strength.proofs.Spreading.{was_queued, taken_out, none_taken}
-use Rattle.hd_strength.proofs.SeenLemmas.{strength-seen, taken-seen, none-seen}
+use Rattle.hd_strength.proofs.SeenLemmas.{strength-seen, taken-seen, none_queued-seen}
 use Rattle.hd_strength.proofs.scratch.spread_objects.Goals as goal
 
 pub relax_edges-requires-clause-object : goal.relax_edges-requires-clause-object
@@ -62,5 +62,5 @@ returns-clause-searching c =
       kept = h.kept;
       same_whole = ap (λ (f : Findings). f.whole) n.same_found ∙ h.same_whole;
       same = ap (λ (f : Findings). f.list) n.same_found ∙ h.same;
-      holds = none_taken c.args.edited.graph.now c.args.edited.front.now (full search h.kept) (full c.take_next.new.search h.kept) c.args.strength h.holds (none-seen search c.take_next.new.search h.kept n);
+      holds = none_taken c.args.edited.graph.now c.args.edited.front.now (full search h.kept) (full c.take_next.new.search h.kept) c.args.strength h.holds (none_queued-seen search c.take_next.new.search h.kept n);
     }
