@@ -1,9 +1,10 @@
 -- The edges that go through referents: one of an object at most, and object by object all of them.
-use Rattle.std.proofs.Common.{◌≡◌, ◌∙◌, ℕ, zero, suc, ◌+◌, ◌<◌, ◌≤◌, ◌^◌, inl, inr, List, [], ◌∷◌, ◌++◌, length, map, get_or, take, Option, Some, None, is_some, Bool, true, false, not, ◌&&◌, true≢false, refl, sym, ap, subst, arith, cond, eqb, eq-eqb, drop, length-append}
+use Rattle.std.proofs.Common.{◌≡◌, ◌∙◌, ℕ, zero, suc, ◌+◌, ◌-◌, ◌*◌, ◌<◌, ◌≤◌, ◌^◌, inl, inr, List, [], ◌∷◌, ◌++◌, length, map, get_or, take, Option, Some, None, Result, Ok, IfOk, is_some, Bool, true, false, not, ◌&&◌, true≢false, refl, sym, ap, subst, arith, cond, eqb, eq-eqb, drop, rules, length-append}
 use Rattle.std.specs.Option.{option_map, option_and_then}
-use Rattle.std.specs.List.{position, prefix_len, slice_get, AllByRecursion, filter_map, flat_map, cons_option, enumerate_from}
+use Rattle.std.specs.List.{position, prefix_len, slice_get, slice_range, AllByRecursion, filter_map, flat_map, cons_option, enumerate_from}
 use Rattle.std.proofs.lemmas.Bool.{cases_lt, lt-ltb, le-ltb}
-use Rattle.std.proofs.lemmas.List.{append-nil, map-append, take_more, take_all, length-map}
+use Rattle.std.proofs.lemmas.List.{append-nil, map-append, take_all, take-take, take-append-drop, drop-take, drop-drop, length-map}
+use Rattle.std.proofs.lemmas.List.Edits.{between_none, between_more}
 use Rattle.std.proofs.lemmas.List.FromFn.{length-enumerate_from, get_or-enumerate_from}
 use Rattle.std.proofs.lemmas.Grind.{flat_map-append}
 use Rattle.std.proofs.lemmas.Option.{same_Some, get_or_from_slice_get, slice_get_within}
@@ -23,9 +24,16 @@ use Rattle.hd_graph.specs.declared.kinds.KeptEdge.{KeptEdge}
 use Rattle.hd_graph.specs.declared.kinds.KindLists.{KindLists}
 use Rattle.hd_graph.specs.Arrays.{row_slots}
 use Rattle.hd_graph.specs.Shapes.{ObjectShape, ObjectArray, PrimitiveArray, ClassObject, Instance, named_slots, with_kind, referent_kind, shape_slots, shape_index, shape_referent, slot_name, slot_kind, row_objects, ComesBefore, IsRising, HasShape, HasFewNames, AreColumns}
-use Rattle.hd_graph.specs.Kinds.{kept_of, kept_edge, of_kind, AreKept, edges_at, IsOnlyEdge, IsReferentEdge, KeepsEdgesOf, AreKindsOfFirst, AreKinds}
+use Rattle.hd_graph.specs.Kinds.{kept_of, kept_edge, of_kind, AreKept, edges_at, IsOnlyEdge, IsReferentEdge, KeepsEdgesOf, edges_between, AreKindsBetween, AreKindsOfPart, AreKinds, part_start}
 use Rattle.hd_graph.proofs.ShapeLemmas.{differs, slot-at, slot_of, few-names}
 use Rattle.hd_graph.proofs.ArrayLemmas.{any_shape, length-row_objects, slots-at, fit-at, index_of-row_objects}
+
+-- where a part begins
+pub part-order : (n part : ℕ) → part_start n part ≤ part_start n (part + 1)
+part-order n part = let more : n * (part + 1) ≡ n * part + n = search rules in omega (arith, more)
+
+pub part-within : (n part : ℕ) → part ≤ 4 → part_start n part ≤ n
+part-within n part le = let few : n * part ≤ n * 4 = search rules in omega (arith, few)
 
 -- an option that is no something
 pub none-from_not : {X : Type 0} (o : Option X) → ((x : X) → o ≡ Some x → ⊥) → o ≡ None
@@ -311,6 +319,13 @@ module _ (shapes : List ObjectShape) (ids : List ℕ) (rows : List (List ℕ)) (
             only = edges-are (Some target) e;
           }
 
+-- lists of which none has anything
+pub all-empty : (lists : KindLists) → lists.soft.items ≡ [] → lists.weak.items ≡ [] → lists.finals.items ≡ [] → lists.phantom.items ≡ [] → (k : RefKind) → kept_of lists k ≡ []
+all-empty lists soft weak finals phantom references.Soft = soft
+all-empty lists soft weak finals phantom references.Weak = weak
+all-empty lists soft weak finals phantom references.Final = finals
+all-empty lists soft weak finals phantom references.Phantom = phantom
+
 -- what is kept of one object more
 pub keeps-none : (objects : List Object) (o : ℕ) (lists : KindLists) → IsReferentEdge objects o None → KeepsEdgesOf objects o lists lists
 keeps-none objects o lists none = λ (k : RefKind). record {
@@ -342,16 +357,6 @@ keeps-one objects o index kind old new one pushed = λ (k : RefKind).
       few = one-or-none kept b;
     }
 
--- object by object
-pub kinds-none : (objects : List Object) (lists : KindLists) → ((k : RefKind) → kept_of lists k ≡ []) → AreKindsOfFirst objects 0 lists
-kinds-none objects lists none = record {
-  edges = λ (k : RefKind). ap (λ (ks : List KeptEdge). map (kept_edge objects) ks) (none k) ∙ nothing k;
-  few = λ (k : RefKind). omega (arith, ap (λ (ks : List KeptEdge). length ks) (none k));
-}
-  where
-    nothing : (k : RefKind) → [] ≡ map (λ (e : Edge). Some e) (of_kind k (flat_map (edges_from objects) (take 0 (enumerate_from 0 objects))))
-    nothing k = refl
-
 filter-append : (k : RefKind) (xs ys : List Edge) → of_kind k (xs ++ ys) ≡ of_kind k xs ++ of_kind k ys
 filter-append k [] ys = refl
 filter-append k (x ∷ xs) ys = by_case (same_kind x.kind (kind_of_references k)) (filter-append k xs ys)
@@ -360,42 +365,127 @@ filter-append k (x ∷ xs) ys = by_case (same_kind x.kind (kind_of_references k)
     by_case true e = ap (λ (es : List Edge). x ∷ es) e
     by_case false e = e
 
-module _ (objects : List Object) where
-  abbrev firsts_of : ℕ → List Edge
-  firsts_of o = flat_map (edges_from objects) (take o (enumerate_from 0 objects))
+-- two stretches of a list side by side
+range-join : {X : Type 0} (xs : List X) (a b c : ℕ) → a ≤ b → b ≤ c → slice_range xs a c ≡ slice_range xs a b ++ slice_range xs b c
+range-join xs a b c ab bc =
+    let m = b - a in
+    let n = c - b in
+    let ys = drop a xs in
+    ap (λ (k : ℕ). take k ys) (omega arith)
+    ∙ sym (take-append-drop m (take (m + n) ys))
+    ∙ ap (λ l. l ++ drop m (take (m + n) ys)) (take-take m (m + n) ys (omega arith))
+    ∙ ap (λ l. take m ys ++ l) (drop-take m n ys ∙ ap (take n) (drop-drop m a xs ∙ ap (λ (k : ℕ). drop k xs) (omega arith)))
 
-  firsts-next : (o : ℕ) → o < length objects → firsts_of (o + 1) ≡ firsts_of o ++ edges_at objects o
-  firsts-next o lt =
+module _ (objects : List Object) where
+  -- what is kept of two lists of edges
+  kept-both : (k : RefKind) (xs ys : List KeptEdge) (es fs : List Edge) → AreKept objects xs (of_kind k es) → AreKept objects ys (of_kind k fs) → AreKept objects (xs ++ ys) (of_kind k (es ++ fs))
+  kept-both k xs ys es fs one other =
+      map-append (kept_edge objects) xs ys
+      ∙ ap (λ (zs : List (Option Edge)). zs ++ map (kept_edge objects) ys) one
+      ∙ ap (λ (zs : List (Option Edge)). map (λ (e : Edge). Some e) (of_kind k es) ++ zs) other
+      ∙ sym (map-append (λ (e : Edge). Some e) (of_kind k es) (of_kind k fs))
+      ∙ ap (λ (gs : List Edge). map (λ (e : Edge). Some e) gs) (sym (filter-append k es fs))
+
+  -- of no object nothing is kept
+  pub kinds-none : (start : ℕ) (lists : KindLists) → ((k : RefKind) → kept_of lists k ≡ []) → AreKindsBetween objects start start lists
+  kinds-none start lists none = record {
+    edges = λ (k : RefKind).
+        ap (λ (ks : List KeptEdge). map (kept_edge objects) ks) (none k)
+        ∙ ap (λ (ps : List (ℕ × Object)). map (λ (e : Edge). Some e) (of_kind k (flat_map (edges_from objects) ps))) (sym (between_none (enumerate_from 0 objects) start));
+    few = λ (k : RefKind). omega (arith, ap (λ (ks : List KeptEdge). length ks) (none k));
+  }
+
+  -- the edges of one object more
+  edges-next : (start o : ℕ) → start ≤ o → o < length objects → edges_between objects start (o + 1) ≡ edges_between objects start o ++ edges_at objects o
+  edges-next start o le lt =
       let all = enumerate_from 0 objects in
       let d : ℕ × Object = (0, no_object) in
-      ap (flat_map (edges_from objects)) (take_more all o d (omega (arith, lt, length-enumerate_from 0 objects)))
-      ∙ flat_map-append (edges_from objects) (take o all) (get_or all o d ∷ [])
-      ∙ ap (λ (p : ℕ × Object). firsts_of o ++ (edges_from objects p ++ [])) (get_or-enumerate_from 0 objects o d lt)
-      ∙ ap (λ (n : ℕ). firsts_of o ++ (edges_from objects (n, get_or objects o no_object) ++ [])) (omega arith)
-      ∙ ap (λ (es : List Edge). firsts_of o ++ es) (append-nil (edges_at objects o))
+      ap (flat_map (edges_from objects)) (between_more all start o d le (omega (arith, lt, length-enumerate_from 0 objects)))
+      ∙ flat_map-append (edges_from objects) (slice_range all start o) (get_or all o d ∷ [])
+      ∙ ap (λ (p : ℕ × Object). edges_between objects start o ++ (edges_from objects p ++ [])) (get_or-enumerate_from 0 objects o d lt)
+      ∙ ap (λ (n : ℕ). edges_between objects start o ++ (edges_from objects (n, get_or objects o no_object) ++ [])) (omega arith)
+      ∙ ap (λ (es : List Edge). edges_between objects start o ++ es) (append-nil (edges_at objects o))
 
-  pub kinds-next : (o : ℕ) (old new : KindLists) → o < length objects → AreKindsOfFirst objects o old → KeepsEdgesOf objects o old new → AreKindsOfFirst objects (o + 1) new
-  kinds-next o old new lt h keeps = record {
+  pub kinds-next : (start o : ℕ) (old new : KindLists) → o < length objects → AreKindsBetween objects start o old → KeepsEdgesOf objects o old new → AreKindsBetween objects start (o + 1) new
+  kinds-next start o old new lt h keeps = record {
     edges = λ (k : RefKind).
         let more = keeps k in
         ap (λ (ks : List KeptEdge). map (kept_edge objects) ks) more.goes_on
-        ∙ map-append (kept_edge objects) (kept_of old k) more.more
-        ∙ ap (λ (xs : List (Option Edge)). xs ++ map (kept_edge objects) more.more) (h.edges k)
-        ∙ ap (λ (xs : List (Option Edge)). map (λ (e : Edge). Some e) (of_kind k (firsts_of o)) ++ xs) more.kept
-        ∙ sym (map-append (λ (e : Edge). Some e) (of_kind k (firsts_of o)) (of_kind k (edges_at objects o)))
-        ∙ ap (λ (es : List Edge). map (λ (e : Edge). Some e) es) (sym (filter-append k (firsts_of o) (edges_at objects o)))
-        ∙ ap (λ (es : List Edge). map (λ (e : Edge). Some e) (of_kind k es)) (sym (firsts-next o lt));
+        ∙ kept-both k (kept_of old k) more.more (edges_between objects start o) (edges_at objects o) (h.edges k) more.kept
+        ∙ ap (λ (es : List Edge). map (λ (e : Edge). Some e) (of_kind k es)) (sym (edges-next start o (omega (arith, h.few references.Soft)) lt));
     few = λ (k : RefKind).
         let more = keeps k in
         omega (arith, ap (λ (ks : List KeptEdge). length ks) more.goes_on, length-append (kept_of old k) more.more, more.few, h.few k);
   }
 
-  pub kinds-all : (n : ℕ) (lists : KindLists) → n ≡ length objects → AreKindsOfFirst objects n lists → AreKinds objects lists
+  -- two stretches of objects side by side
+  pub kinds-join : (start middle end : ℕ) (one other both : KindLists) → AreKindsBetween objects start middle one → AreKindsBetween objects middle end other
+      → ((k : RefKind) → kept_of both k ≡ kept_of one k ++ kept_of other k) → AreKindsBetween objects start end both
+  kinds-join start middle end one other both h more joined =
+      let all = enumerate_from 0 objects in
+      let first : start ≤ middle = omega (arith, h.few references.Soft) in
+      let second : middle ≤ end = omega (arith, more.few references.Soft) in
+      let edges : edges_between objects start end ≡ edges_between objects start middle ++ edges_between objects middle end =
+      ap (flat_map (edges_from objects)) (range-join all start middle end first second) ∙ flat_map-append (edges_from objects) (slice_range all start middle) (slice_range all middle end) in
+      record {
+        edges = λ (k : RefKind).
+            ap (λ (ks : List KeptEdge). map (kept_edge objects) ks) (joined k)
+            ∙ kept-both k (kept_of one k) (kept_of other k) (edges_between objects start middle) (edges_between objects middle end) (h.edges k) (more.edges k)
+            ∙ ap (λ (es : List Edge). map (λ (e : Edge). Some e) (of_kind k es)) (sym edges);
+        few = λ (k : RefKind). omega (arith, ap (λ (ks : List KeptEdge). length ks) (joined k), length-append (kept_of one k) (kept_of other k), h.few k, more.few k);
+      }
+
+  pub kinds-all : (n : ℕ) (lists : KindLists) → n ≡ length objects → AreKindsBetween objects 0 n lists → AreKinds objects lists
   kinds-all n lists is h = record {
     edges = λ (k : RefKind).
-        h.edges k ∙ ap (λ (ps : List (ℕ × Object)). map (λ (e : Edge). Some e) (of_kind k (flat_map (edges_from objects) ps))) (take_all n (enumerate_from 0 objects) (omega (arith, is, length-enumerate_from 0 objects)));
+        h.edges k ∙ ap (λ (ps : List (ℕ × Object)). map (λ (e : Edge). Some e) (of_kind k (flat_map (edges_from objects) ps))) (take_all (n - 0) (enumerate_from 0 objects) (omega (arith, is, length-enumerate_from 0 objects)));
     few = λ (k : RefKind). omega (arith, h.few k, is);
   }
+
+  module _ {E : Type 0} where
+    -- the parts from one on, each with its edges or with no memory for them
+    abbrev pub ArePartsFrom : ℕ → List (Result KindLists E) → Type 0
+    ArePartsFrom part [] = Unit {0}
+    ArePartsFrom part (r ∷ rs) = IfOk r (AreKindsOfPart objects part) × ArePartsFrom (part + 1) rs
+
+    parts-from : (part : ℕ) (rs : List (Result KindLists E)) (d : Result KindLists E) → ((i : ℕ) → i < length rs → IfOk (get_or rs i d) (AreKindsOfPart objects (part + i))) → ArePartsFrom part rs
+    parts-from part [] d each = tt
+    parts-from part (r ∷ rs) d each = (
+      subst (λ (n : ℕ). IfOk r (AreKindsOfPart objects n)) (omega arith) (each 0 (omega arith)),
+      parts-from (part + 1) rs d (λ i lt. subst (λ (n : ℕ). IfOk (get_or rs i d) (AreKindsOfPart objects n)) (omega arith) (each (suc i) (omega (arith, lt)))),
+    )
+
+    -- the first parts are joined, and the others are left
+    pub record AreJoined (rest : List (Result KindLists E)) (lists : KindLists) : Type 0 where
+      pub joined : ℕ
+      pub four : joined + length rest ≡ 4
+      pub left : ArePartsFrom joined rest
+      pub kinds : AreKindsBetween objects 0 (part_start (length objects) joined) lists
+
+    pub none-joined : (rs : List (Result KindLists E)) (d : Result KindLists E) (lists : KindLists) → length rs ≡ 4 → ((i : ℕ) → i < 4 → IfOk (get_or rs i d) (AreKindsOfPart objects i))
+        → ((k : RefKind) → kept_of lists k ≡ []) → AreJoined rs lists
+    none-joined rs d lists four each none = record {
+      joined = 0;
+      four = omega (arith, four);
+      left = parts-from 0 rs d (λ i lt. subst (λ (n : ℕ). IfOk (get_or rs i d) (AreKindsOfPart objects n)) (omega arith) (each i (omega (arith, lt, four))));
+      kinds = subst (λ (n : ℕ). AreKindsBetween objects 0 n lists) (omega arith) (kinds-none 0 lists none);
+    }
+
+    pub next-joined : (rest rs : List (Result KindLists E)) (old part new : KindLists) → AreJoined rest old → rest ≡ Ok part ∷ rs → ((k : RefKind) → kept_of new k ≡ kept_of old k ++ kept_of part k) → AreJoined rs new
+    next-joined rest rs old part new h next joined =
+        let left : ArePartsFrom h.joined (Ok part ∷ rs) = subst (ArePartsFrom h.joined) next h.left in
+        record {
+          joined = h.joined + 1;
+          four = omega (arith, h.four, ap (λ (xs : List (Result KindLists E)). length xs) next);
+          left = left.1;
+          kinds = kinds-join 0 (part_start (length objects) h.joined) (part_start (length objects) (h.joined + 1)) old part new h.kinds left.0 joined;
+        }
+
+    pub all-joined : (rest : List (Result KindLists E)) (lists : KindLists) → AreJoined rest lists → length rest ≡ 0 → AreKinds objects lists
+    all-joined rest lists h none =
+        let four : h.joined ≡ 4 = omega (arith, h.four, none) in
+        let all : part_start (length objects) h.joined ≡ length objects = ap (part_start (length objects)) four ∙ omega arith in
+        kinds-all (part_start (length objects) h.joined) lists all h.kinds
 
   -- as many are kept as there are edges
   pub as-many-kept : (kept : List KeptEdge) (es : List Edge) → AreKept objects kept es → length kept ≡ length es

@@ -1,5 +1,5 @@
 -- The edges that go through referents, as they are kept: a list for each kind of reference objects.
-use Rattle.std.specs.Prelude.{◌≡◌, ◌≤◌, ℕ, List, [], ◌∷◌, ◌++◌, length, map, take, Option, Some, None}
+use Rattle.std.specs.Prelude.{◌≡◌, ◌≤◌, ℕ, ◌+◌, ◌*◌, ◌/◌, List, [], ◌∷◌, ◌++◌, length, map, slice_range, Option, Some, None}
 use Rattle.std.specs.Option.{option_and_then}
 use Rattle.std.specs.List.{flat_map, filter, slice_get, slice_index_or, enumerate_from}
 use Rattle.hd_terms.specs.declared.EdgeKind.{EdgeKind}
@@ -58,10 +58,22 @@ pub record KeepsMore (objects : List Object) (es : List Edge) (old new : List Ke
 abbrev pub KeepsEdgesOf : List Object → ℕ → KindLists → KindLists → Type 0
 KeepsEdgesOf objects o old new = (k : RefKind) → KeepsMore objects (of_kind k (edges_at objects o)) (kept_of old k) (kept_of new k)
 
--- of each kind the edges of the first objects are kept
-pub record AreKindsOfFirst (objects : List Object) (n : ℕ) (lists : KindLists) : Type 0 where
-  pub edges : (k : RefKind) → AreKept objects (kept_of lists k) (of_kind k (flat_map (edges_from objects) (take n (enumerate_from 0 objects))))
-  pub few : (k : RefKind) → length (kept_of lists k) ≤ n
+-- the edges from the objects from one number on, before another
+abbrev pub edges_between : List Object → ℕ → ℕ → List Edge
+edges_between objects start end = flat_map (edges_from objects) (slice_range (enumerate_from 0 objects) start end)
+
+-- of each kind the edges of the objects from one number on, before another, are kept
+pub record AreKindsBetween (objects : List Object) (start end : ℕ) (lists : KindLists) : Type 0 where
+  pub edges : (k : RefKind) → AreKept objects (kept_of lists k) (of_kind k (edges_between objects start end))
+  pub few : (k : RefKind) → length (kept_of lists k) + start ≤ end
+
+-- the number of the first object of a part, where so many objects are cut into four; of part 4 it is their count
+abbrev pub part_start : ℕ → ℕ → ℕ
+part_start n part = n * part / 4
+
+-- of each kind the edges of the objects of a part are kept
+abbrev pub AreKindsOfPart : List Object → ℕ → KindLists → Type 0
+AreKindsOfPart objects part lists = AreKindsBetween objects (part_start (length objects) part) (part_start (length objects) (part + 1)) lists
 
 -- of each kind the edges of all objects are kept
 pub record AreKinds (objects : List Object) (lists : KindLists) : Type 0 where

@@ -5,13 +5,14 @@ ghost use Rattle.hd_terms.specs.Edges.{kind_edges};
 ghost use Rattle.hd_terms.specs.Paths.{Edge};
 ghost use Rattle.hd_terms.specs.Ranks.{kind_of_references, same_kind};
 ghost use Rattle.hd_graph.specs.Shapes.{AreColumns, row_objects};
-ghost use Rattle.hd_graph.specs.Kinds.{kept_of, IsReferentEdge, KeepsEdgesOf, AreKinds};
+ghost use Rattle.hd_graph.specs.Kinds.{kept_of, IsReferentEdge, AreKindsOfPart, AreKinds};
 
 use crate::graph::{Graph, index_in, kind_of_slot, referent_in};
 use crate::shape::Shapes;
 use hd_slots::SlotTable;
 use hd_terms::{EdgeKind, RefKind, Slot};
 use std::alloc::{AllocError, Global};
+use std::thread::{Threads, map_indices};
 
 /// A reference from an object to an object: the number of the first, and the index of the slot among its slots.
 #[derive(Clone, Copy)]
@@ -68,7 +69,27 @@ impl KindLists {
         }
         Ok(())
     }
+
+    /// Keeps the references of other lists behind those that are kept.
+    fn append(&mut self, more: KindLists) -> Result<(), AllocError>
+        ensures { OnOk result ((k : OneKind) → kept_of self.new k ≡ kept_of self.old k ++ kept_of more k) }
+    {
+        let KindLists {
+            mut soft,
+            mut weak,
+            mut finals,
+            mut phantom,
+        } = more;
+        self.soft.append(&mut soft)?;
+        self.weak.append(&mut weak)?;
+        self.finals.append(&mut finals)?;
+        self.phantom.append(&mut phantom)?;
+        Ok(())
+    }
 }
+
+/// How many parts of the objects are gone over at once.
+const PARTS: usize = 4;
 
 /// The index of an object's referent among its slots, and the kind of the reference there, if it refers to an object.
 fn referent_edge(slot_table: &SlotTable, shapes: &Shapes, o: u32) -> Option<(u32, EdgeKind)>
@@ -90,25 +111,40 @@ fn referent_edge(slot_table: &SlotTable, shapes: &Shapes, o: u32) -> Option<(u32
     None
 }
 
-/// Keeps the reference in the referent of an object, if there is one.
-fn keep_referent(
-    lists: &mut KindLists,
+/// The references that go through the referents of the objects of one of four parts, into which the objects are cut by their
+/// numbers. Only the slots of objects that have a referent are looked at.
+fn kinds_of_part(
+    alloc: Global,
     slot_table: &SlotTable,
     shapes: &Shapes,
-    o: u32,
-) -> Result<(), AllocError>
+    part: usize,
+) -> Result<KindLists, AllocError>
     requires columns { AreColumns shapes.now.objects slot_table.now.ids slot_table.now.rows }
-    requires object { o < length slot_table.now.ids }
-    ensures { OnOk result (KeepsEdgesOf (row_objects shapes.now.objects slot_table.now.ids slot_table.now.rows) o lists.old lists.new) }
+    requires few { length slot_table.now.ids < 2 ^ 31 }
+    requires part { part < 4 }
+    ensures { IfOk result (AreKindsOfPart (row_objects shapes.now.objects slot_table.now.ids slot_table.now.rows) part) }
 {
-    if let Some((index, kind)) = referent_edge(slot_table, shapes, o) {
-        lists.push(kind, KeptEdge { source: o, index })?;
+    let mut lists = KindLists {
+        soft: Vec::new(alloc),
+        weak: Vec::new(alloc),
+        finals: Vec::new(alloc),
+        phantom: Vec::new(alloc),
+    };
+    let objects = slot_table.ids().len();
+    let start = objects * part / PARTS;
+    let end = objects * (part + 1) / PARTS;
+    for o in start as u32..end as u32 {
+        if let Some((index, kind)) = referent_edge(slot_table, shapes, o) {
+            lists.push(kind, KeptEdge { source: o, index })?;
+        }
     }
-    Ok(())
+    Ok(lists)
 }
 
-/// The references that go through referents. Only the slots of objects that have a referent are looked at.
-pub(crate) fn kinds_of(
+/// The references that go through referents. Those of four parts of the objects are found side by side; where the system refuses
+/// a thread, one part after the other.
+pub(crate) fn kinds_of<R: Threads + Sync>(
+    rt: &R,
     alloc: Global,
     slot_table: &SlotTable,
     shapes: &Shapes,
@@ -117,15 +153,21 @@ pub(crate) fn kinds_of(
     requires few { length slot_table.now.ids < 2 ^ 31 }
     ensures { IfOk result (λ lists. AreKinds (row_objects shapes.now.objects slot_table.now.ids slot_table.now.rows) lists) }
 {
+    let kinds_of_one = |part: usize| -> Result<KindLists, AllocError>
+        requires columns { AreColumns shapes.now.objects slot_table.now.ids slot_table.now.rows }
+        requires few { length slot_table.now.ids < 2 ^ 31 }
+        requires part { part < 4 }
+        ensures { IfOk result (AreKindsOfPart (row_objects shapes.entry.now.objects slot_table.entry.now.ids slot_table.entry.now.rows) part) }
+    { kinds_of_part(alloc, slot_table, shapes, part) };
+    let parts = map_indices(rt, alloc, PARTS, &kinds_of_one)?;
     let mut lists = KindLists {
         soft: Vec::new(alloc),
         weak: Vec::new(alloc),
         finals: Vec::new(alloc),
         phantom: Vec::new(alloc),
     };
-    let objects = slot_table.ids().len() as u32;
-    for o in 0..objects {
-        keep_referent(&mut lists, slot_table, shapes, o)?;
+    for part in parts {
+        lists.append(part?)?;
     }
     Ok(lists)
 }

@@ -93,7 +93,7 @@ impl Graph {
         let Numbered { ids, roots, tally } = numbered;
         let Rows { slot_table, shapes } = rows_of(alloc, ids, rows, classes, id_size, bytes, list)?;
         let slot_table = slot_table.resolve(rt, alloc)?;
-        let kinds = kinds_of(alloc, &slot_table, &shapes)?;
+        let kinds = kinds_of(rt, alloc, &slot_table, &shapes)?;
         let repeats = Repeats {
             objects: tally.repeated,
             strings,

@@ -1,20 +1,25 @@
-use Rattle.std.proofs.Common.{ℕ, List, length, ap, arith}
+use Rattle.std.proofs.Common.{◌∙◌, ◌∷◌, Ok, ap, arith}
+use Rattle.hd_graph.specs.declared.kinds.KindLists.{KindLists}
 use Rattle.hd_graph.specs.Shapes.{row_objects}
-use Rattle.hd_graph.proofs.ArrayLemmas.{length-row_objects}
-use Rattle.hd_graph.proofs.KindLemmas.{kinds-next, kinds-all}
+use Rattle.hd_graph.proofs.KindLemmas.{all-empty, none-joined, next-joined, all-joined}
 use Rattle.hd_graph.proofs.kinds.kinds_of.Goals as goal
 
-pub loop-o-preserved : goal.loop-o-preserved
-loop-o-preserved c =
-    let shapes = c.args.shapes.now.objects in
-    let ids = c.args.slot_table.now.ids in
-    let rows = c.args.slot_table.now.rows in
-    kinds-next (row_objects shapes ids rows) c.loop-o.o c.loop-o.lists c.keep_referent.new.lists
-    (omega (arith, c.loop-o-test.true, ap (λ (xs : List ℕ). length xs) c.ids.ensures, length-row_objects shapes ids rows c.requires.columns)) c.loop-o.invariant c.in_ok-keep_referent.ensures
+pub loop-part-init : goal.loop-part-init
+loop-part-init g c =
+    let objects = row_objects c.args.shapes.now.objects c.args.slot_table.now.ids c.args.slot_table.now.rows in
+    let empty : KindLists = record { soft = c.new.result; weak = c.new-2.result; finals = c.new-3.result; phantom = c.new-4.result } in
+    rw c.into_iter-part-iterator.ensures.into_iter_gives.0
+    (none-joined objects c.in_ok-parts.parts.items (Ok empty) empty (omega (arith, c.in_ok-parts.ensures.len)) (λ i lt. (c.in_ok-parts.ensures.each i (Ok empty) lt).1.met)
+    (all-empty empty c.new.ensures.items c.new-2.ensures.items c.new-3.ensures.items c.new-4.ensures.items))
+
+pub loop-part-preserved : goal.loop-part-preserved
+loop-part-preserved g c =
+    let objects = row_objects c.args.shapes.now.objects c.args.slot_table.now.ids c.args.slot_table.now.rows in
+    let next = c.in-Some.ensures.steps.0 ∙ ap (λ r. r ∷ c.next.new.self.rest.items) c.in_ok-part.was in
+    next-joined objects c.loop-part.part-iterator.rest.items c.next.new.self.rest.items c.loop-part.lists c.in_ok-part.field-0 c.append.new.self c.loop-part.invariant next c.in_ok-append.ensures
 
 pub returns : goal.returns
-returns c =
-    let shapes = c.args.shapes.now.objects in
-    let ids = c.args.slot_table.now.ids in
-    let rows = c.args.slot_table.now.rows in
-    kinds-all (row_objects shapes ids rows) c.loop-o.o c.loop-o.lists (omega (arith, ap (λ (xs : List ℕ). length xs) c.ids.ensures, length-row_objects shapes ids rows c.requires.columns)) c.loop-o.invariant
+returns g c =
+    let objects = row_objects c.args.shapes.now.objects c.args.slot_table.now.ids c.args.slot_table.now.rows in
+    let rest = c.loop-part.part-iterator.rest in
+    all-joined objects rest.items c.loop-part.lists c.loop-part.invariant (omega (arith, c.in-None.ensures.steps.0, rest.ok.0))
