@@ -1,15 +1,12 @@
 -- Lemmas on the classes that stand.
-use Rattle.std.specs.Prelude.{is_some}
-use Rattle.std.proofs.Common.{◌≡◌, ◌∙◌, ℕ, suc, ◌-◌, ◌<◌, ◌≤◌, arith, get_or, List, [], ◌∷◌, ◌++◌, length, map, take, drop, Option, Some, None, Bool, true, false, ◌||◌, cond, not, eqb, eqb-true, ne_eqb, refl, sym, ap}
-use Rattle.std.specs.List.{list_any, filter_map, cons_option, find, slice_get}
+use Rattle.std.proofs.Common.{◌≡◌, ◌∙◌, ℕ, suc, List, [], ◌∷◌, ◌++◌, length, map, take, drop, Option, Some, None, Bool, true, false, ◌||◌, cond, not, eqb, eqb-true, ne_eqb, refl, sym, ap}
+use Rattle.std.specs.List.{list_any, filter_map, cons_option, find}
 use Rattle.std.specs.Option.{option_map, option_map_or}
 use Rattle.std.specs.Map.{lookup}
-use Rattle.std.proofs.lemmas.Bool.{or_parts, false≢true, true≢false}
+use Rattle.std.proofs.lemmas.Bool.{or_parts, false≢true}
 use Rattle.std.proofs.lemmas.List.{append-nil, map-append, take-append-drop}
 use Rattle.std.proofs.lemmas.List.Elements.{filter_map-append}
 use Rattle.std.proofs.lemmas.List.Folds.{list_any-append}
-use Rattle.std.proofs.lemmas.Option.{slice_get_within, slice_get-get_or, get_or_from_slice_get}
-use Rattle.std.proofs.Math.Seq.{drop-cons}
 use Rattle.std.proofs.lemmas.Map.Made.{lookup-map_values}
 use Rattle.indexmap.specs.IndexMap.{insert_entry}
 use Rattle.hd_terms.specs.declared.errors.Cause.TheVariants as causes
@@ -19,7 +16,7 @@ use Rattle.hd_terms.specs.SubRecords as subs
 use Rattle.hd_terms.specs.FirstRecords.{id_of_item, object_sub, first_subs, first_of_each}
 use Rattle.hd_terms.specs.Classes.{ClassTable, class_of_item, first_classes, class_at, never_ends}
 use Rattle.hd_terms.specs.HeapFaults.{fault_if, class_fault, class_faults}
-use Rattle.hd_subs.specs.Packed.{no_sub}
+use Rattle.hd_subs.specs.ClassSubs.{class_of_sub}
 use Rattle.hd_classes.specs.declared.first_class.FirstClass as declared_first
 use Rattle.hd_classes.specs.FirstClass.{PlacedClass, placed_class, placed_classes, entry_of, first_class_view, HasFirstClasses, AreFirstClasses}
 use Rattle.hd_classes.specs.Building.{cycle_at}
@@ -277,29 +274,13 @@ places-front list n none =
     ∙ append-nil (placed_classes (take n list))
     )
 
-none-longer : (list : List Sub) (end : ℕ) (s : Sub) → 0 < end → slice_get list (end - 1) ≡ Some s → placed_class s ≡ None → filter_map placed_class (drop end list) ≡ [] → filter_map placed_class (drop (end - 1) list) ≡ []
-none-longer list end s some is none behind =
-    let lt = slice_get_within list (end - 1) s is in
-    let same : suc (end - 1) ≡ end = omega arith in
-    ap (filter_map placed_class) (drop-cons list (end - 1) s lt)
-    ∙ ap (λ (x : Sub). cons_option (placed_class x) (filter_map placed_class (drop (suc (end - 1)) list))) (get_or_from_slice_get list (end - 1) s s is)
-    ∙ ap (λ (o : Option PlacedClass). cons_option o (filter_map placed_class (drop (suc (end - 1)) list))) none
-    ∙ ap (λ (n : ℕ). filter_map placed_class (drop n list)) same
-    ∙ behind
-
--- nor is there one where none is at the place before
-no-class : (o : Option ClassItem) → is_some o ≡ false → o ≡ None
-no-class None none = refl
-no-class (Some c) some = absurd (true≢false some)
-
-pub none-from-here : (list : List Sub) (end : ℕ) (found : Bool) → 0 < end → end ≤ length list
-    → ((s : Sub) → slice_get list (end - 1) ≡ Some s → found ≡ is_some (class_of_item s.item)) → found ≡ false
-    → filter_map placed_class (drop end list) ≡ [] → filter_map placed_class (drop (end - 1) list) ≡ []
-none-from-here list end found some within tells none behind =
-    let s = get_or list (end - 1) no_sub in
-    let is : slice_get list (end - 1) ≡ Some s = slice_get-get_or list (end - 1) no_sub (omega arith) in
-    let no-place : placed_class s ≡ None = ap (option_map (λ (c : ClassItem). record { class = c; offset = s.offset })) (no-class (class_of_item s.item) (sym (tells s is) ∙ none)) in
-    none-longer list end s some is no-place behind
+-- those that aren't classes have no places
+pub none-placed : (list : List Sub) → filter_map class_of_sub list ≡ [] → filter_map placed_class list ≡ []
+none-placed [] none = refl
+none-placed (s ∷ list) none =
+    let parts = case-nothing (class_of_sub s) (filter_map class_of_sub list) none in
+    ap (λ (o : Option ClassItem). cons_option (option_map (λ (c : ClassItem). record { class = c; offset = s.offset }) o) (filter_map placed_class list)) parts.0
+    ∙ none-placed list parts.1
 
 -- they are as many as the definition's
 length-map : {X Y : Type 0} (f : X → Y) (xs : List X) → length (map f xs) ≡ length xs

@@ -1,8 +1,7 @@
 //! The class objects of a dump: an ID is a class's where the first sub-record of that ID is a CLASS DUMP.
-ghost use Rattle.std.specs.Prelude.{◌≡◌, ◌≤◌, [], length, drop, IfOk, OnOk};
-ghost use Rattle.std.specs.List.{filter_map};
+ghost use Rattle.std.specs.Prelude.{IfOk, OnOk};
 ghost use Rattle.hd_subs.specs.Views.{sub_view};
-ghost use Rattle.hd_classes.specs.FirstClass.{placed_class, HasFirstClasses, NotesOneMore};
+ghost use Rattle.hd_classes.specs.FirstClass.{HasFirstClasses, NotesOneMore};
 
 use hd_ids::IdHasher;
 use hd_subs::{ClassDump, DumpSubs, Item, Sub};
@@ -15,21 +14,6 @@ pub(crate) struct FirstClass<'a> {
     pub(crate) class: &'a ClassDump,
     /// Where its tag lies: an offset into the file in bytes.
     pub(crate) offset: u64,
-}
-
-/// How many sub-records there are up to the last class.
-fn classes_end(list: &DumpSubs<'_>) -> usize
-    ensures within { result ≤ length list.now }
-    ensures none_after { filter_map placed_class (drop result list.now) ≡ [] }
-{
-    let mut end = list.len();
-    while end > 0 {
-        if list.is_class(end - 1) {
-            return end;
-        }
-        end -= 1;
-    }
-    0
 }
 
 /// Notes the ID of a sub-record's object, and its class if it is the first of its ID.
@@ -73,7 +57,7 @@ pub(crate) fn first_classes<'a>(
 {
     let mut ids = IndexSet::with_hasher(alloc, hasher);
     let mut classes = IndexMap::with_hasher(alloc, hasher);
-    for i in 0..classes_end(list) {
+    for i in 0..list.classes_end() {
         note_sub(&mut ids, &mut classes, list.get(i))?;
     }
     Ok(classes)

@@ -4,18 +4,19 @@ use Rattle.std.proofs.lemmas.List.{at_drop_more}
 use Rattle.hd_terms.specs.SubRecords.{Sub}
 use Rattle.hd_subs.specs.Joined.{joined}
 
-in-front : {X : Type 0} (xs ys : List X) (i : ℕ) → i < length xs → slice_get (xs ++ ys) i ≡ slice_get xs i
+pub in-front : {X : Type 0} (xs ys : List X) (i : ℕ) → i < length xs → slice_get (xs ++ ys) i ≡ slice_get xs i
 in-front [] ys i lt = absurd (omega arith)
 in-front (x ∷ xs) ys zero lt = refl
 in-front (x ∷ xs) ys (suc i) lt = in-front xs ys i (omega arith)
 
-behind : {X : Type 0} (xs ys : List X) (i : ℕ) → length xs ≤ i → slice_get (xs ++ ys) i ≡ slice_get ys (i - length xs)
+pub behind : {X : Type 0} (xs ys : List X) (i : ℕ) → length xs ≤ i → slice_get (xs ++ ys) i ≡ slice_get ys (i - length xs)
 behind [] ys i le = ap (λ (n : ℕ). slice_get ys n) (omega arith)
 behind (x ∷ xs) ys zero le = absurd (omega arith)
 behind (x ∷ xs) ys (suc i) le = behind xs ys i (omega arith) ∙ ap (λ (n : ℕ). slice_get ys n) (omega arith)
 
 module _ (parts : List (List Sub)) (k : ℕ) (d : List Sub) (lt : k < length parts) where
-  more : joined (drop k parts) ≡ get_or parts k d ++ joined (drop (k + 1) parts)
+  -- the next part is the first of those that are left
+  pub more : joined (drop k parts) ≡ get_or parts k d ++ joined (drop (k + 1) parts)
   more = at_drop_more joined parts k d lt
 
   -- an element of the next part

@@ -8,3 +8,4 @@ pub mod Heads
 pub mod Wholes
 pub mod Steps
 pub mod JoinedLemmas
+pub mod ClassEnds

@@ -6,3 +6,4 @@ pub mod ParsedSubs
 pub mod Parts
 pub mod Reading
 pub mod Joined
+pub mod ClassSubs

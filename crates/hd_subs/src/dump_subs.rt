@@ -1,8 +1,8 @@
 //! The sub-records of a whole dump.
-ghost use Rattle.std.specs.Prelude.{◌≡◌, ◌↔◌, ◌+◌, ◌^◌, ◌<◌, [], ◌++◌, length, slice_get, IsTrue, Some, is_some, OnOk, OnErr};
-ghost use Rattle.hd_terms.specs.SubRecords.{Sub as OneSub};
-ghost use Rattle.hd_terms.specs.Classes.{class_of_item};
+ghost use Rattle.std.specs.Prelude.{◌≡◌, ◌↔◌, ◌+◌, ◌-◌, ◌^◌, ◌<◌, ◌≤◌, [], ◌++◌, length, drop, slice_get, IsTrue, Some, OnOk, OnErr};
+ghost use Rattle.std.specs.List.{filter_map};
 ghost use Rattle.hd_subs.specs.Views.{sub_view};
+ghost use Rattle.hd_subs.specs.ClassSubs.{class_of_sub, IsClassAt};
 
 use crate::sub::Sub;
 use crate::subs::Subs;
@@ -94,12 +94,25 @@ impl<'a> DumpSubs<'a> {
         part.get(index)
     }
 
-    /// Whether one of them is a class. The file isn't read for it.
-    pub fn is_class(&self, i: usize) -> bool
-        requires { i < length self.now }
-        ensures { (s : OneSub) → slice_get self.now i ≡ Some s → result ≡ is_some (class_of_item s.item) }
+    /// How many there are up to and with the last class, or 0 where none is a class.
+    ///
+    /// The file isn't read for it, and of a part into which no class was read no sub-record is looked at.
+    pub fn classes_end(&self) -> usize
+        ensures within { result ≤ length self.now }
+        ensures last { 0 < result → IsClassAt self.now (result - 1) }
+        ensures none_after { filter_map class_of_sub (drop result self.now) ≡ [] }
     {
-        let (part, index) = self.place(i);
-        part.is_class(index)
+        let mut start = self.len;
+        let mut left = self.parts.len();
+        while left > 0 {
+            left -= 1;
+            let part = &self.parts[left];
+            start -= part.len();
+            let end = part.classes_end();
+            if end > 0 {
+                return start + end;
+            }
+        }
+        0
     }
 }

@@ -1,8 +1,10 @@
 //! Sub-records as rows of 32 bytes.
-ghost use Rattle.std.specs.Prelude.{◌≡◌, ◌+◌, ◌^◌, ◌<◌, [], ◌∷◌, ◌++◌, length, slice_get, Some, OnOk, OnErr};
+ghost use Rattle.std.specs.Prelude.{◌≡◌, ◌+◌, ◌^◌, ◌<◌, [], ◌∷◌, ◌++◌, length, slice_get, Some, IsTrue, OnOk, OnErr};
+ghost use Rattle.std.specs.List.{filter_map};
 ghost use Rattle.hd_terms.specs.SubRecords.{Class, Instance, ObjArray};
 ghost use Rattle.hd_subs.specs.Views.{item_view, sub_view, class_view};
 ghost use Rattle.hd_subs.specs.Rows.{row_view, IsRowOver};
+ghost use Rattle.hd_subs.specs.ClassSubs.{class_of_sub};
 
 use crate::class::ClassDump;
 use crate::layout::elements_offset;
@@ -111,6 +113,13 @@ impl SubRows {
         ensures { result ≡ length self.now }
     {
         self.rows.len()
+    }
+
+    /// Whether there is no class to which a row could lead; then none of the rows is a class.
+    pub(crate) fn lacks_classes(&self) -> bool
+        ensures { IsTrue result → filter_map class_of_sub self.now ≡ [] }
+    {
+        self.classes.is_empty()
     }
 
     /// One of them; they are numbered from 0.

@@ -1,10 +1,12 @@
 //! A list of sub-records, of which most are kept by their file offsets alone.
-ghost use Rattle.std.specs.Prelude.{◌≡◌, ◌↔◌, ◌+◌, ◌^◌, ◌<◌, ◌≤◌, [], ◌∷◌, ◌++◌, length, take, slice_get, IsTrue, Some, is_some, IfSome, IfOk, OnOk, OnErr};
+ghost use Rattle.std.specs.Prelude.{◌≡◌, ◌↔◌, ◌+◌, ◌-◌, ◌^◌, ◌<◌, ◌≤◌, [], ◌∷◌, ◌++◌, length, take, drop, slice_get, IsTrue, Some, is_some, IfSome, IfOk, OnOk, OnErr};
+ghost use Rattle.std.specs.List.{filter_map};
 ghost use Rattle.hd_terms.specs.SubRecords.{Class, Sub as OneSub};
 ghost use Rattle.hd_terms.specs.Classes.{class_of_item};
 ghost use Rattle.hd_subs.specs.Views.{sub_view, class_view};
 ghost use Rattle.hd_subs.specs.Rows.{row_view, IsRowOver};
 ghost use Rattle.hd_subs.specs.Packed.{first_row, packed_item};
+ghost use Rattle.hd_subs.specs.ClassSubs.{class_of_sub, IsClassAt};
 
 use crate::class::ClassDump;
 use crate::packed::{HEAD, hold_same, read_packed};
@@ -135,7 +137,7 @@ impl<'a> Subs<'a> {
     }
 
     /// Whether one of them is a class. The file isn't read for it: classes are rows.
-    pub fn is_class(&self, i: usize) -> bool
+    fn is_class(&self, i: usize) -> bool
         requires { i < length self.now }
         ensures { (s : OneSub) → slice_get self.now i ≡ Some s → result ≡ is_some (class_of_item s.item) }
     {
@@ -143,6 +145,25 @@ impl<'a> Subs<'a> {
             Some(row) => self.rows.get(row as usize).item.is_class(),
             None => false,
         }
+    }
+
+    /// How many there are up to and with the last class, or 0 where none is a class. Where no row is one, none is looked at.
+    pub(crate) fn classes_end(&self) -> usize
+        ensures within { result ≤ length self.now }
+        ensures last { 0 < result → IsClassAt self.now (result - 1) }
+        ensures none_after { filter_map class_of_sub (drop result self.now) ≡ [] }
+    {
+        if self.rows.lacks_classes() {
+            return 0;
+        }
+        let mut end = self.len();
+        while end > 0 {
+            if self.is_class(end - 1) {
+                return end;
+            }
+            end -= 1;
+        }
+        0
     }
 
     /// One more at the end, which is no class.

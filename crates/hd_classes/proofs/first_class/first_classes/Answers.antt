@@ -1,7 +1,7 @@
-use Rattle.std.proofs.Common.{◌≡◌, ◌∙◌, take, map, ap, arith}
+use Rattle.std.proofs.Common.{◌≡◌, ◌∙◌, take, drop, map, ap, arith}
 use Rattle.hd_classes.specs.FirstClass.{entry_of, placed_classes}
 use Rattle.hd_classes.proofs.NameLemmas.{take-next}
-use Rattle.hd_classes.proofs.FirstClassLemmas.{places-front}
+use Rattle.hd_classes.proofs.FirstClassLemmas.{places-front, none-placed}
 use Rattle.hd_classes.proofs.first_class.first_classes.Goals as goal
 
 pub loop-i-preserved : goal.loop-i-preserved
@@ -12,4 +12,4 @@ returns c =
     let all : c.loop-i.i ≡ c.classes_end-i-end.result = omega arith in
     c.loop-i.invariant.kept
     ∙ ap (λ n. map entry_of (placed_classes (take n c.args.list.now))) all
-    ∙ ap (map entry_of) (places-front c.args.list.now c.classes_end-i-end.result c.classes_end-i-end.ensures.none_after)
+    ∙ ap (map entry_of) (places-front c.args.list.now c.classes_end-i-end.result (none-placed (drop c.classes_end-i-end.result c.args.list.now) c.classes_end-i-end.ensures.none_after))
