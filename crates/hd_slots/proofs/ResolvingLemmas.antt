@@ -3,7 +3,7 @@ use Rattle.std.proofs.Common.{◌≡◌, ◌≢◌, ◌∙◌, ℕ, ◌+◌, ◌
 use Rattle.std.specs.List.{position}
 use Rattle.std.specs.Option.{option_map_or}
 use Rattle.std.proofs.lemmas.Bool.{cases_eq, lt-ltb, le-ltb}
-use Rattle.std.proofs.lemmas.List.{take_all, take_more, take_more_set, map-append, drop-set-lt, get_or-drop, length-set}
+use Rattle.std.proofs.lemmas.List.{take_more, take_more_set, map-append, drop-set-lt, get_or-drop, length-set, append-nil, set-get_or}
 use Rattle.std.proofs.lemmas.List.Elements.{All-head, All-tail, All-push, All-nil, All-cons}
 use Rattle.std.proofs.lemmas.List.Quantifiers.{position-Some}
 use Rattle.std.proofs.lemmas.Grind.{drop_more_same}
@@ -145,6 +145,12 @@ module _ (ids bytes : List ℕ) (size : IdSize) where
       rest = drop-set-lt (i + 1) items i code (omega arith) ∙ drop_more_same items before i h.rest;
       few = let long : length longer ≡ length absent + length grown.more = ap length grown.is ∙ length-append absent grown.more in omega (arith, h.few, grown.one, long);
     }
+
+    -- it stays as it is
+    pub stays : IsCode ids absent item → id_of_code ids absent item ≡ id_of_found ids bytes size item → ArePackedSoFar before items absent (i + 1)
+    stays is stands =
+        let same : IsLonger absent absent = record { more = []; is = sym (append-nil absent); one = omega arith } in
+        subst (λ (xs : List ℕ). ArePackedSoFar before xs absent (i + 1)) (set-get_or items i 0) (becomes absent item same is stands)
 
   -- a number that isn't marked is a number as it is
   pub unmarked : (absent : List ℕ) (item : ℕ) → length ids < 2 ^ 31 → All (λ id. 0 < id) ids → IsFound ids bytes size item → ((mark ≤ item) → item ≡ null_code)

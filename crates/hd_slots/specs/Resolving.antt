@@ -9,6 +9,10 @@ use Rattle.hd_slots.specs.Codes.{id_of_code, target_of_code, IsCode}
 abbrev pub mark : ℕ
 mark = 2147483648
 
+-- what was found is a marked offset
+abbrev pub IsMarked : ℕ → Type 0
+IsMarked item = (mark ≤ item) × (item ≢ null_code)
+
 -- what is found for an ID that lies at an offset: null, the object's number, or the marked offset
 abbrev pub found_for : List ℕ → ℕ → ℕ → ℕ
 found_for ids offset id = if id == 0 then null_code else option_map_or (λ (o : ℕ). o) (position (λ x. id == x) ids) (mark + offset)

@@ -1,8 +1,8 @@
 //! Resolving references: each offset of an ID becomes the number of the object with that ID.
-ghost use Rattle.std.specs.Prelude.{◌≡◌, ◌+◌, ◌<◌, ◌≤◌, ◌-◌, ◌^◌, length, map, All, IfOk, OnOk};
+ghost use Rattle.std.specs.Prelude.{◌≡◌, ◌+◌, ◌<◌, ◌≤◌, ◌-◌, ◌^◌, ◌↔◌, length, map, All, IsTrue, IfOk, OnOk};
 ghost use Rattle.hd_slots.specs.Table.{id_at, IsIdWithin};
 ghost use Rattle.hd_slots.specs.Codes.{IsCode, IsLonger, id_of_code};
-ghost use Rattle.hd_slots.specs.Resolving.{found_code, id_of_found, IsFound, AreCodesOf};
+ghost use Rattle.hd_slots.specs.Resolving.{found_code, id_of_found, IsFound, IsMarked, AreCodesOf};
 
 use crate::slot_table::NULL;
 use hd_ids::{Finder, ObjectIds};
@@ -74,8 +74,15 @@ fn find_objects<R: Threads + Sync>(
     );
 }
 
-/// The number for what was found: that itself, or for a marked offset the next behind those of the objects and of the absent
-/// IDs so far, of which the ID at the offset is one from then on.
+/// Whether what was found is a marked offset, since no object has the ID there.
+fn is_marked(item: u32) -> bool
+    ensures { IsTrue result ↔ IsMarked item }
+{
+    item >= ABSENT && item != NULL
+}
+
+/// The number for a marked offset: the next behind those of the objects and of the absent IDs so far, of which the ID at the
+/// offset is one from then on.
 fn number_for(
     ids: &[u64],
     id_size: IdSize,
@@ -84,22 +91,19 @@ fn number_for(
     item: u32,
 ) -> Result<u32, AllocError>
     requires found { IsFound ids.now bytes.now id_size item }
+    requires marked { IsMarked item }
     requires few { length ids.now < 2 ^ 31 }
-    requires no_null { All (λ id. 0 < id) ids.now }
     requires room { length ids.now + length absent.old.items < 2 ^ 32 - 1 }
     ensures code { IfOk result (λ code. IsCode ids.now absent.new.items code × (id_of_code ids.now absent.new.items code ≡ id_of_found ids.now bytes.now id_size item)) }
     ensures kept { OnOk result (IsLonger absent.old.items absent.new.items) }
 {
-    if item < ABSENT || item == NULL {
-        return Ok(item);
-    }
     let offset = (item - ABSENT) as usize;
     let code = (ids.len() + absent.len()) as u32;
     absent.push(id_size.read(&bytes[offset..]))?;
     Ok(code)
 }
 
-/// Keeps the IDs that are no object's, and gives each a number behind those of the objects.
+/// Keeps the IDs that are no object's, and gives each a number behind those of the objects. Of the others nothing is written.
 fn keep_absent(
     alloc: Global,
     ids: &[u64],
@@ -115,8 +119,10 @@ fn keep_absent(
 {
     let mut absent = Vec::new(alloc);
     for i in 0..items.len() {
-        let code = number_for(ids, id_size, bytes, &mut absent, items[i])?;
-        items[i] = code;
+        let item = items[i];
+        if is_marked(item) {
+            items[i] = number_for(ids, id_size, bytes, &mut absent, item)?;
+        }
     }
     Ok(absent)
 }

@@ -1,9 +1,12 @@
-use Rattle.std.proofs.Common.{◌∙◌, ◌<◌, ◌≤◌, length, map, ap, sym, subst, arith, All}
+use Rattle.std.proofs.Common.{◌≡◌, ◌∙◌, ℕ, ◌<◌, ◌≤◌, inl, inr, length, map, get_or, ap, sym, subst, arith, All}
+use Rattle.std.proofs.lemmas.Bool.{cases_eq, false≢true}
 use Rattle.std.proofs.lemmas.List.{take_all, length-set}
 use Rattle.hd_slots.specs.Codes.{IsCode, id_of_code}
-use Rattle.hd_slots.specs.Resolving.{id_of_found, IsFound}
-use Rattle.hd_slots.proofs.ResolvingLemmas.{as-found, becomes}
+use Rattle.hd_slots.specs.Table.{null_code}
+use Rattle.hd_slots.specs.Resolving.{mark, id_of_found, IsFound}
+use Rattle.hd_slots.proofs.ResolvingLemmas.{as-found, becomes, stays, unmarked}
 use Rattle.hd_slots.proofs.resolving.keep_absent.Goals as goal
+use Rattle.hd_slots.proofs.resolving.keep_absent.Goals.{then-is_marked+in_ok-items, else-is_marked}
 
 pub number_for-requires-clause-found : goal.number_for-requires-clause-found
 number_for-requires-clause-found c =
@@ -16,11 +19,32 @@ number_for-requires-clause-found c =
 pub loop-i-preserved : goal.loop-i-preserved
 loop-i-preserved c =
     let lt' : c.loop-i.i < length c.args.items.now = omega arith in
-    let lt : c.loop-i.i < length c.loop-i.items = omega arith in (
-      becomes c.args.ids.now c.args.bytes.now c.args.id_size c.args.items.now c.loop-i.items c.loop-i.absent.items c.loop-i.i c.loop-i.invariant.0 lt lt'
-          c.number_for.new.absent.items c.in_ok-code.code c.in_ok-code.ensures.kept c.in_ok-code.ensures.code.0 c.in_ok-code.ensures.code.1,
-      length-set c.loop-i.items c.loop-i.i c.in_ok-code.code ∙ c.loop-i.invariant.1,
-    )
+    let lt : c.loop-i.i < length c.loop-i.items = omega arith in
+    let before = c.args.items.now in
+    let items = c.loop-i.items in
+    let absent = c.loop-i.absent.items in
+    let item : ℕ = get_or items c.loop-i.i 0 in
+    let found : IsFound c.args.ids.now c.args.bytes.now c.args.id_size item =
+    subst (IsFound c.args.ids.now c.args.bytes.now c.args.id_size)
+    (sym (as-found c.args.ids.now c.args.bytes.now c.args.id_size before items absent c.loop-i.i c.loop-i.invariant.0 lt lt'))
+    (c.requires.found c.loop-i.i 0 lt') in
+    elim c.if-is_marked.branch [
+      | then-is_marked+in_ok-items w ↦ rw (w.items-is, w.absent-is) (
+        becomes c.args.ids.now c.args.bytes.now c.args.id_size before items absent c.loop-i.i c.loop-i.invariant.0 lt lt'
+            w.number_for.new.absent.items w.in_ok-items.field-0 w.in_ok-items.ensures.kept w.in_ok-items.ensures.code.0 w.in_ok-items.ensures.code.1,
+        length-set items c.loop-i.i w.in_ok-items.field-0 ∙ c.loop-i.invariant.1,
+      )
+      | else-is_marked w ↦
+          let plain : (mark ≤ item) → item ≡ null_code = λ high. elim (cases_eq item null_code) [
+            | inl null ↦ null
+            | inr other ↦ absurd (false≢true (sym w.if-is_marked.false ∙ c.is_marked.ensures.1 (high, other)))
+          ] in
+          let code = unmarked c.args.ids.now c.args.bytes.now c.args.id_size absent item c.requires.few c.requires.no_null found plain in
+          rw (w.items-is, w.absent-is) (
+            stays c.args.ids.now c.args.bytes.now c.args.id_size before items absent c.loop-i.i c.loop-i.invariant.0 lt lt' code.0 code.1,
+            c.loop-i.invariant.1,
+          )
+    ]
 
 pub returns : goal.returns
 returns c =
