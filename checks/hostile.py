@@ -94,6 +94,12 @@ def chain_with_instances(size):
     return in_segments(parts)
 
 
+def many_fields(size):
+    """A class of as many fields as fit, and instances of its ID that have no values: an ID's second object isn't judged."""
+    rest = size - 65535 * 9
+    return in_segments([class_dump(1, 0, range(65535))] + [instance(1, 1)] * (rest // 25))
+
+
 def names(size):
     """Texts and loaded classes of these names, and nothing else."""
     parts = [HEADER]
@@ -132,6 +138,7 @@ DUMPS = [
     chain_of_classes,
     chain_with_fields,
     chain_with_instances,
+    many_fields,
     names,
     one_array,
     empty_segments,

@@ -1,3 +1,5 @@
+pub mod FieldLemmas
+pub mod FitLemmas
 pub mod LinkLemmas
 pub mod LookLemmas
 pub mod FirstLemmas

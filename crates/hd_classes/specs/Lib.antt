@@ -12,3 +12,5 @@ pub mod Building
 pub mod Names
 pub mod NamesInside
 pub mod Repeats
+pub mod Fits
+pub mod FitsInside

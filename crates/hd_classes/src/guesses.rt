@@ -1,6 +1,4 @@
 //! Guesses at the numbers of classes, by their IDs.
-ghost use Rattle.std.specs.Prelude.{◌<◌};
-
 use crate::linked::LinkedClass;
 use hd_ids::IdHasher;
 use indexmap::IndexMap;
@@ -18,9 +16,7 @@ pub(crate) struct Guesses {
 }
 
 /// The place of an ID. IDs are mostly multiples of 8.
-fn place_of(id: u64) -> usize
-    ensures { result < 16384 }
-{
+fn place_of(id: u64) -> usize {
     (id / 8 % PLACES as u64) as usize
 }
 

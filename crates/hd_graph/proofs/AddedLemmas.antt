@@ -1,16 +1,13 @@
--- A class object's row and shape, once its IDs and names were added.
+-- The rows of class objects and instances, once their IDs were added.
 use Rattle.std.proofs.Common.{◌≡◌, ◌∙◌, ℕ, ◌+◌, ◌≤◌, List, [], ◌∷◌, ◌++◌, length, map, refl, sym, ap, subst, arith}
 use Rattle.std.proofs.lemmas.List.{length-map}
 use Rattle.hd_terms.specs.declared.IdSize.{IdSize}
 use Rattle.hd_terms.specs.declared.Span.{Span}
-use Rattle.hd_terms.specs.declared.Slot.{Slot}
-use Rattle.hd_terms.specs.declared.Slot.TheVariants as slots
 use Rattle.hd_subs.specs.declared.class.ClassDump.{ClassDump}
 use Rattle.hd_subs.specs.Views.{static_view, constant_view, class_view}
 use Rattle.hd_slots.specs.Table.{Table, id_at}
-use Rattle.hd_graph.specs.Shapes.{ObjectShape, ClassObject}
-use Rattle.hd_graph.specs.ArrayRows.{HasLinks, links_at, values_of_statics, values_of_constants, value_ids, value_names, static_bytes, class_row, class_names, class_weight}
-use Rattle.hd_graph.specs.Building.{Columns, GrowsBy, Adds, columns}
+use Rattle.hd_graph.specs.ArrayRows.{HasLinks, links_at, values_of_statics, values_of_constants, value_ids, class_row, class_weight}
+use Rattle.hd_graph.specs.Building.{GrowsBy, AddsRow}
 use Rattle.hd_graph.proofs.GrownLemmas.{IsOver, grown-over, over-both, over-same, ids-over, same_table}
 use Rattle.hd_graph.proofs.ValueLemmas.{ids-le, length-static-values, length-constant-values}
 
@@ -18,7 +15,7 @@ use Rattle.hd_graph.proofs.ValueLemmas.{ids-le, length-static-values, length-con
 pub grown-room : (bytes : List ℕ) (size : IdSize) (vs : List (ℕ × Span)) (t u : Table) → GrowsBy (value_ids bytes size vs) t u → (length u.ids ≡ length t.ids) × (u.count ≤ t.count + length vs)
 grown-room bytes size vs t u e = (ap (λ (x : Table). length x.ids) e, omega (arith, ap (λ (x : Table). x.count) e, ids-le bytes size vs))
 
-module _ (c : ClassDump) (offset : ℕ) (first second third fourth last : Table) (shapes shapes' : List ObjectShape) (ns ks all : List Slot) (b : ℕ) where
+module _ (c : ClassDump) (offset : ℕ) (first second third fourth last : Table) where
   abbrev bytes : List ℕ
   bytes = first.bytes
 
@@ -34,9 +31,6 @@ module _ (c : ClassDump) (offset : ℕ) (first second third fourth last : Table)
   abbrev ids : List ℕ
   ids = c.super_id ∷ c.loader ∷ c.signers ∷ c.domain ∷ []
 
-  abbrev names : List Slot
-  names = slots.Super ∷ slots.Loader ∷ slots.Signers ∷ slots.Domain ∷ []
-
   -- the links of the class, where they are read by the third table's file
   links-are : HasLinks bytes size offset (class_view c) → IsOver first third → GrowsBy (links_at third.bytes third.size offset) third fourth → GrowsBy ids third fourth
   links-are links over grows =
@@ -45,10 +39,8 @@ module _ (c : ClassDump) (offset : ℕ) (first second third fourth last : Table)
   pub class-added : first.filling ≡ [] → HasLinks bytes size offset (class_view c) → GrowsBy (value_ids bytes size statics) first second → GrowsBy (value_ids second.bytes second.size constants) second third
       → GrowsBy (links_at third.bytes third.size offset) third fourth
       → last ≡ record fourth { rows = fourth.rows ++ fourth.filling ∷ []; filling = [] }
-      → ns ≡ value_names (λ i. slots.Static i) 0 statics → ks ≡ ns ++ value_names (λ i. slots.Const i) 0 constants → all ≡ ks ++ names
-      → b ≡ static_bytes (map static_view c.statics.items) → shapes' ≡ shapes ++ ClassObject b all ∷ []
-      → Adds (c.id, class_row bytes size (class_view c), ClassObject (static_bytes (map static_view c.statics.items)) (class_names (class_view c))) (class_weight (class_view c)) (columns first shapes) (columns last shapes')
-  class-added empty links to_second grows_third grows_fourth to_last ns_are ks_are all_are b_is shapes_are =
+      → AddsRow (class_row bytes size (class_view c)) (class_weight (class_view c)) first last
+  class-added empty links to_second grows_third grows_fourth to_last =
       let second_over = grown-over (value_ids bytes size statics) first second to_second in
       let to_third = ids-over constants first second third second_over grows_third in
       let third_over = over-both first second third second_over (grown-over (value_ids bytes size constants) second third to_third) in
@@ -80,16 +72,13 @@ module _ (c : ClassDump) (offset : ℕ) (first second third fourth last : Table)
             (ap (λ (t : Table). t.filling) to_last ∙ sym empty)
             refl;
         count = count;
-        shapes = shapes_are
-            ∙ ap (λ (n : ℕ). shapes ++ ClassObject n all ∷ []) b_is
-            ∙ ap (λ (xs : List Slot). shapes ++ ClassObject (static_bytes (map static_view c.statics.items)) xs ∷ []) (all_are ∙ ap (λ (xs : List Slot). xs ++ names) (ks_are ∙ ap (λ (xs : List Slot). xs ++ value_names (λ i. slots.Const i) 0 constants) ns_are));
       }
 
--- an instance's row and shape, once the IDs in its fields were added
-pub instance-added : (ids : List ℕ) (offset weight : ℕ) (shape : ObjectShape) (first second third last : Table) (shapes shapes' : List ObjectShape) → first.filling ≡ [] → GrowsBy ids first second
+-- an instance's row, once the IDs in its fields were added
+pub instance-added : (ids : List ℕ) (offset weight : ℕ) (first second third last : Table) → first.filling ≡ [] → GrowsBy ids first second
     → third ≡ record second { filling = second.filling ++ id_at second.bytes second.size offset ∷ []; count = second.count + 1 } → last ≡ record third { rows = third.rows ++ third.filling ∷ []; filling = [] }
-    → length ids + 1 ≤ weight → shapes' ≡ shapes ++ shape ∷ [] → Adds (0, ids ++ id_at first.bytes first.size offset ∷ [], shape) weight (columns first shapes) (columns last shapes')
-instance-added ids offset weight shape first second third last shapes shapes' empty to_second grows_third to_last few shapes_are =
+    → length ids + 1 ≤ weight → AddsRow (ids ++ id_at first.bytes first.size offset ∷ []) weight first last
+instance-added ids offset weight first second third last empty to_second grows_third to_last few =
     let class = id_at first.bytes first.size offset in
     let over = grown-over ids first second to_second in
     let to_third : third ≡ record second { filling = second.filling ++ class ∷ []; count = second.count + 1 } =
@@ -107,9 +96,8 @@ instance-added ids offset weight shape first second third last shapes shapes' em
           (ap (λ (t : Table). t.filling) to_last ∙ sym empty)
           refl;
       count = omega (arith, ap (λ (t : Table). t.count) to_last, ap (λ (t : Table). t.count) to_third, ap (λ (t : Table). t.count) to_second, few);
-      shapes = shapes_are;
     }
 
--- what is added may weigh less, and is the same under any ID
-pub added-more : (id : ℕ) (row : List ℕ) (shape : ObjectShape) (less more : ℕ) (old new : Columns) → less ≤ more → Adds (0, row, shape) less old new → Adds (id, row, shape) more old new
-added-more id row shape less more old new le h = record { table = h.table; count = omega (arith, h.count); shapes = h.shapes }
+-- what is added may weigh less
+pub added-more : (row : List ℕ) (less more : ℕ) (old new : Table) → less ≤ more → AddsRow row less old new → AddsRow row more old new
+added-more row less more old new le h = record { table = h.table; count = omega (arith, h.count) }

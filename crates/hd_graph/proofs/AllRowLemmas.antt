@@ -1,34 +1,36 @@
 -- Filling the rows and shapes of the objects of all sub-records, and what they are where no ID is repeated.
 use Rattle.std.proofs.Common.{◌≡◌, ◌∙◌, ℕ, suc, ◌+◌, ◌≤◌, List, [], ◌∷◌, ◌++◌, length, map, take, Option, Some, None, Bool, true, false, cond, refl, sym, ap, subst, arith}
+use Rattle.std.specs.Option.{option_map}
 use Rattle.std.specs.List.{filter_map, cons_option, slice_get}
 use Rattle.std.proofs.lemmas.List.{append-nil, map-append, length-map}
 use Rattle.std.proofs.lemmas.List.Elements.{filter_map-append}
 use Rattle.hd_terms.specs.declared.IdSize.{IdSize}
-use Rattle.hd_terms.specs.SubRecords.{Sub}
-use Rattle.hd_terms.specs.Classes.{KnownClasses}
+use Rattle.hd_terms.specs.declared.Span.{Span}
+use Rattle.hd_terms.specs.SubRecords.{Sub, Item, ObjArray, PrimArray}
+use Rattle.hd_terms.specs.SubRecords as subs
+use Rattle.hd_terms.specs.Classes.{KnownClasses, ResolvedClass}
 use Rattle.hd_slots.specs.Table.{Table}
 use Rattle.hd_classes.specs.Firsts.{firsts, firsts_from}
 use Rattle.hd_classes.proofs.FirstLemmas.{is_known, firsts-le, firsts-map, filter_map-le}
 use Rattle.hd_graph.specs.Shapes.{ObjectShape}
-use Rattle.hd_graph.specs.ArrayRows.{ObjectEntry, object_ids, entry_of, entries_of, item_weight}
-use Rattle.hd_graph.specs.Building.{Columns, columns, AddsEntry, AddsItem, HasAllRows, HasRowsOf}
+use Rattle.hd_graph.specs.ArrayRows.{ObjectEntry, fitting, instance_entry, object_ids, entry_of, entry_of_item, shape_of_item, entries_of, item_weight}
+use Rattle.hd_graph.specs.Building.{columns, AddsRowOf, AddsItemRow, HasAllRows, HasAllShapes, HasRowsOf}
 use Rattle.hd_graph.proofs.NumberLemmas.{take-next}
 use Rattle.hd_graph.proofs.RowLemmas.{same, id_of_entry, row_of_entry, shape_of_entry, ids-of-entries, weight-push}
 
 -- one more sub-record
-module _ (known : KnownClasses) (bytes : List ℕ) (size : IdSize) (front : List Sub) (s : Sub) (old new : Columns) (h : HasAllRows known bytes size front old) where
+module _ (known : KnownClasses) (bytes : List ℕ) (size : IdSize) (front : List Sub) (s : Sub) (old new : Table) (h : HasAllRows known bytes size front old) where
   abbrev so_far : List ObjectEntry
   so_far = filter_map (entry_of known bytes size) front
 
-  by-entry : (o : Option ObjectEntry) → filter_map (entry_of known bytes size) (front ++ s ∷ []) ≡ so_far ++ cons_option o [] → AddsEntry o (item_weight s.item) old new → HasAllRows known bytes size (front ++ s ∷ []) new
-  by-entry None all same_columns =
+  by-entry : (o : Option ObjectEntry) → filter_map (entry_of known bytes size) (front ++ s ∷ []) ≡ so_far ++ cons_option o [] → AddsRowOf o (item_weight s.item) old new → HasAllRows known bytes size (front ++ s ∷ []) new
+  by-entry None all same_rows =
       let none : filter_map (entry_of known bytes size) (front ++ s ∷ []) ≡ so_far = all ∙ append-nil so_far in
-      rw same_columns (record {
+      rw same_rows (record {
         bytes_are = h.bytes_are;
         size_is = h.size_is;
         ids_are = h.ids_are;
         rows_are = h.rows_are ∙ ap (map row_of_entry) (sym none);
-        shapes_are = h.shapes_are ∙ ap (map shape_of_entry) (sym none);
         filled = h.filled;
         few = omega (arith, h.few, weight-push front s);
       })
@@ -37,25 +39,57 @@ module _ (known : KnownClasses) (bytes : List ℕ) (size : IdSize) (front : List
     size_is = ap (λ (t : Table). t.size) added.table ∙ h.size_is;
     ids_are = ap (λ (t : Table). t.ids) added.table ∙ h.ids_are;
     rows_are = ap (λ (t : Table). t.rows) added.table ∙ ap (λ (rs : List (List ℕ)). rs ++ a.1 ∷ []) h.rows_are ∙ sym (map-append row_of_entry so_far (a ∷ [])) ∙ ap (map row_of_entry) (sym all);
-    shapes_are = added.shapes ∙ ap (λ (ss : List ObjectShape). ss ++ a.2 ∷ []) h.shapes_are ∙ sym (map-append shape_of_entry so_far (a ∷ [])) ∙ ap (map shape_of_entry) (sym all);
     filled = ap (λ (t : Table). t.filling) added.table ∙ h.filled;
     few = omega (arith, h.few, added.count, weight-push front s);
   }
 
-  all-push : AddsItem known bytes size s.item old new → HasAllRows known bytes size (front ++ s ∷ []) new
+  all-push : AddsItemRow known bytes size s.item old new → HasAllRows known bytes size (front ++ s ∷ []) new
   all-push adds = by-entry (entry_of known bytes size s) (filter_map-append (entry_of known bytes size) front (s ∷ [])) adds
 
-pub all-next : (known : KnownClasses) (bytes : List ℕ) (size : IdSize) (list : List Sub) (i : ℕ) (s : Sub) → slice_get list i ≡ Some s → (old new : Columns)
-    → HasAllRows known bytes size (take i list) old → AddsItem known old.table.bytes old.table.size s.item old new → HasAllRows known bytes size (take (i + 1) list) new
+pub all-next : (known : KnownClasses) (bytes : List ℕ) (size : IdSize) (list : List Sub) (i : ℕ) (s : Sub) → slice_get list i ≡ Some s → (old new : Table)
+    → HasAllRows known bytes size (take i list) old → AddsItemRow known old.bytes old.size s.item old new → HasAllRows known bytes size (take (i + 1) list) new
 all-next known bytes size list i s is old new h adds =
-    let added : AddsItem known bytes size s.item old new =
-    subst (λ (n : IdSize). AddsItem known bytes n s.item old new) h.size_is (subst (λ (bs : List ℕ). AddsItem known bs old.table.size s.item old new) h.bytes_are adds) in
+    let added : AddsItemRow known bytes size s.item old new =
+    subst (λ (n : IdSize). AddsItemRow known bytes n s.item old new) h.size_is (subst (λ (bs : List ℕ). AddsItemRow known bs old.size s.item old new) h.bytes_are adds) in
     subst (λ (front : List Sub). HasAllRows known bytes size front new) (sym (take-next list i s is)) (all-push known bytes size (take i list) s old new h added)
 
+-- one more shape, or none
+pub shapes-next : (known : KnownClasses) (size : IdSize) (list : List Sub) (i : ℕ) (s : Sub) → slice_get list i ≡ Some s → (old new : List ObjectShape)
+    → HasAllShapes known size (take i list) old → new ≡ old ++ cons_option (shape_of_item known size s.item) [] → HasAllShapes known size (take (i + 1) list) new
+shapes-next known size list i s is old new h more =
+    let shape = λ (x : Sub). shape_of_item known size x.item in
+    more
+    ∙ ap (λ (ss : List ObjectShape). ss ++ cons_option (shape s) []) h
+    ∙ sym (filter_map-append shape (take i list) (s ∷ []))
+    ∙ ap (filter_map shape) (sym (take-next list i s is))
+
 -- there are no more shapes than sub-records
-pub few-all-shapes : (known : KnownClasses) (bytes : List ℕ) (size : IdSize) (front : List Sub) (c : Columns) → HasAllRows known bytes size front c → length c.shapes ≤ length front
-few-all-shapes known bytes size front c h =
-    omega (arith, ap (λ (ss : List ObjectShape). length ss) h.shapes_are, length-map (filter_map (entry_of known bytes size) front) shape_of_entry, filter_map-le (entry_of known bytes size) front)
+pub few-all-shapes : (known : KnownClasses) (size : IdSize) (front : List Sub) (shapes : List ObjectShape) → HasAllShapes known size front shapes → length shapes ≤ length front
+few-all-shapes known size front shapes h = omega (arith, ap (λ (ss : List ObjectShape). length ss) h, filter_map-le (λ (s : Sub). shape_of_item known size s.item) front)
+
+-- the shape of an instance doesn't depend on the bytes of the file
+shape-of-instance : (bytes : List ℕ) (size : IdSize) (id class : ℕ) (values : Span) (k : Option ResolvedClass) → (instance_entry bytes size id class values k).2 ≡ (instance_entry [] size id class values k).2
+shape-of-instance bytes size id class values None = refl
+shape-of-instance bytes size id class values (Some k) = refl
+
+shape-any-bytes : (known : KnownClasses) (bytes : List ℕ) (size : IdSize) (i : Item) → option_map shape_of_entry (entry_of_item known bytes size i) ≡ shape_of_item known size i
+shape-any-bytes known bytes size (subs.Root kind id) = refl
+shape-any-bytes known bytes size (subs.Class c) = refl
+shape-any-bytes known bytes size (subs.Instance id class values) = ap (λ (s : ObjectShape). Some s) (shape-of-instance bytes size id class values (fitting size values.len (known class)))
+shape-any-bytes known bytes size (ObjArray id class elements) = refl
+shape-any-bytes known bytes size (PrimArray id element count) = refl
+
+-- the shapes of all sub-records are those of their objects
+shapes-of-entries : (known : KnownClasses) (bytes : List ℕ) (size : IdSize) (list : List Sub) → filter_map (λ (s : Sub). shape_of_item known size s.item) list ≡ map shape_of_entry (filter_map (entry_of known bytes size) list)
+shapes-of-entries known bytes size [] = refl
+shapes-of-entries known bytes size (s ∷ list) =
+    ap (λ (o : Option ObjectShape). cons_option o (filter_map (λ (x : Sub). shape_of_item known size x.item) list)) (sym (shape-any-bytes known bytes size s.item))
+    ∙ ap (λ (ss : List ObjectShape). cons_option (option_map shape_of_entry (entry_of known bytes size s)) ss) (shapes-of-entries known bytes size list)
+    ∙ mapped (entry_of known bytes size s) (filter_map (entry_of known bytes size) list)
+  where
+    mapped : (o : Option ObjectEntry) (es : List ObjectEntry) → cons_option (option_map shape_of_entry o) (map shape_of_entry es) ≡ map shape_of_entry (cons_option o es)
+    mapped None es = refl
+    mapped (Some a) es = refl
 
 -- where as many are the first of their keys as there are, all are
 module _ {X : Type 0} where
@@ -69,9 +103,13 @@ all-firsts key before (x ∷ xs) long =
     all-new (is_known key before x) x (firsts_from key (before ++ x ∷ []) xs) xs long (firsts-le key (before ++ x ∷ []) xs) (all-firsts key (before ++ x ∷ []) xs)
 
 -- where there are as many IDs as objects, all rows are those of the objects of the IDs
-module _ (known : KnownClasses) (bytes : List ℕ) (size : IdSize) (list : List Sub) (c : Columns) (ids : List ℕ) (h : HasAllRows known bytes size list c) (ids_are : ids ≡ object_ids list) (as_many : length c.shapes ≡ length ids) where
+module _ (known : KnownClasses) (bytes : List ℕ) (size : IdSize) (list : List Sub) (t : Table) (shapes : List ObjectShape) (ids : List ℕ) (h : HasAllRows known bytes size list t) (all : HasAllShapes known size list shapes)
+    (ids_are : ids ≡ object_ids list) (as_many : length shapes ≡ length ids) where
   abbrev entries : List ObjectEntry
   entries = filter_map (entry_of known bytes size) list
+
+  shapes_are : shapes ≡ map shape_of_entry entries
+  shapes_are = all ∙ shapes-of-entries known bytes size list
 
   ids-by-entries : ids ≡ map id_of_entry (firsts id_of_entry entries)
   ids-by-entries = ids_are ∙ ap (λ (xs : List ℕ). firsts same xs) (ids-of-entries known bytes size list) ∙ firsts-map same id_of_entry entries
@@ -79,11 +117,11 @@ module _ (known : KnownClasses) (bytes : List ℕ) (size : IdSize) (list : List 
   none-repeated : entries_of known bytes size list ≡ entries
   none-repeated =
       all-firsts id_of_entry [] entries
-      (sym (length-map (firsts id_of_entry entries) id_of_entry) ∙ ap (λ (xs : List ℕ). length xs) (sym ids-by-entries) ∙ sym as_many ∙ ap (λ (ss : List ObjectShape). length ss) h.shapes_are ∙ length-map entries shape_of_entry)
+      (sym (length-map (firsts id_of_entry entries) id_of_entry) ∙ ap (λ (xs : List ℕ). length xs) (sym ids-by-entries) ∙ sym as_many ∙ ap (λ (ss : List ObjectShape). length ss) shapes_are ∙ length-map entries shape_of_entry)
 
-  pub rows-of-all : HasRowsOf known bytes size list (columns (record c.table { ids = ids }) c.shapes)
+  pub rows-of-all : HasRowsOf known bytes size list (columns (record t { ids = ids }) shapes)
   rows-of-all = record {
     ids_are = ids_are;
     rows_are = h.rows_are ∙ ap (map row_of_entry) (sym none-repeated);
-    shapes_are = h.shapes_are ∙ ap (map shape_of_entry) (sym none-repeated);
+    shapes_are = shapes_are ∙ ap (map shape_of_entry) (sym none-repeated);
   }

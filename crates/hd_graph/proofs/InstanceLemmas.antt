@@ -1,9 +1,8 @@
 -- Instances: their rows and shapes, and what an INSTANCE DUMP at an offset of the file comes to.
-use Rattle.std.proofs.Common.{◌≡◌, ◌∙◌, ℕ, zero, suc, ◌+◌, ◌*◌, ◌<◌, ◌≤◌, inl, inr, List, [], ◌∷◌, ◌++◌, length, map, drop, Option, Some, None, Bool, true, false, cond, eqb, eqb-true, refl, sym, ap, subst, arith, append_assoc, length-append}
+use Rattle.std.proofs.Common.{◌≡◌, ◌∙◌, ℕ, zero, suc, ◌+◌, ◌*◌, ◌<◌, ◌≤◌, inl, inr, List, [], ◌∷◌, ◌++◌, length, map, drop, Option, Some, None, Bool, true, false, cond, eqb, eqb-true, eq-eqb, ne_eqb, refl, sym, ap, subst, arith, append_assoc, length-append}
 use Rattle.std.specs.Option.{option_map, option_and_then}
 use Rattle.std.specs.List.{AllByRecursion}
 use Rattle.std.proofs.lemmas.List.{length-drop, drop-drop}
-use Rattle.std.proofs.lemmas.List.Sums.{sum_by-cons}
 use Rattle.std.proofs.Math.Seq.{drop-append_seam}
 use Rattle.byteorder.specs.Endian.{big_number}
 use Rattle.byteorder.specs.Numbers.{big_from-append}
@@ -24,8 +23,10 @@ use Rattle.hd_terms.specs.Dump.{Object, SlotEntry}
 use Rattle.hd_terms.specs.Slots.{strong_slot, field_kind, field_slots, instance_slots}
 use Rattle.hd_terms.specs.Objects.{object_of}
 use Rattle.hd_slots.specs.Table.{HasIdAt}
+use Rattle.hd_classes.specs.Fits.{IsMisfit, FitsClass}
 use Rattle.hd_graph.specs.Shapes.{shape_bytes, named_slots, with_kind, referent_kind, HasShape, ComesBefore, IsRising}
 use Rattle.hd_graph.specs.ArrayRows.{placed_fields, value_ids, field_names, layout_names, fitting, instance_entry}
+use Rattle.hd_classes.proofs.FieldLemmas.{layout_len-cons}
 use Rattle.hd_slots.proofs.CutLemmas.{last_from-push}
 use Rattle.hd_graph.proofs.ArrayRowLemmas.{object_of_entry, id-behind}
 
@@ -37,6 +38,18 @@ fitting-one size len x k true e is = let same : x ≡ k = cc in eqb-true len (la
 pub fitting-len : (size : IdSize) (len : ℕ) (known : Option ResolvedClass) (k : ResolvedClass) → fitting size len known ≡ Some k → len ≡ layout_len size k.layout
 fitting-len size len None k is = absurd cc
 fitting-len size len (Some x) k is = fitting-one size len x k (eqb len (layout_len size x.layout)) refl is
+
+-- the class by whose layout values are read, where they fit it, and where they don't
+pub fits-fitting : (size : IdSize) (len : ℕ) (known by_number : Option ResolvedClass) → FitsClass size len known by_number → (x : ResolvedClass) → by_number ≡ Some x → fitting size len known ≡ Some x
+fits-fitting size len known by_number h x is =
+    let same : h.k ≡ x = same_class (sym h.numbered ∙ is) in
+    ap (fitting size len) h.is ∙ ap (λ (b : Bool). let o : Option ResolvedClass = cond b (Some h.k) None in o) (eq-eqb len (layout_len size h.k.layout) h.same) ∙ ap (λ (y : ResolvedClass). Some y) same
+  where
+    same_class : {a b : ResolvedClass} → Some a ≡ Some b → a ≡ b
+    same_class e = cc
+
+pub misfit-fitting : (size : IdSize) (len : ℕ) (known : Option ResolvedClass) → IsMisfit size len known → fitting size len known ≡ None
+misfit-fitting size len known h = ap (fitting size len) h.is ∙ ap (λ (b : Bool). let o : Option ResolvedClass = cond b (Some h.k) None in o) (ne_eqb len (layout_len size h.k.layout) h.other)
 
 -- an instance's recorded bytes are those of its values
 pub instance-bytes : (bytes : List ℕ) (size : IdSize) (id class : ℕ) (values : Span) (known k : Option ResolvedClass) → fitting size values.len known ≡ k
@@ -102,9 +115,6 @@ value-some size code = by_type size (is_id_type code) (element-some code)
     by_type sizes.Eight true h = omega arith
     by_type sizes.Four false h = h
     by_type sizes.Eight false h = h
-
-pub layout_len-cons : (size : IdSize) (f : LayoutField) (fs : List LayoutField) → layout_len size (f ∷ fs) ≡ value_len size f.code + layout_len size fs
-layout_len-cons size f fs = sum_by-cons (λ (x : LayoutField). value_len size x.code) f fs
 
 pub fields-le-bytes : (size : IdSize) (layout : List LayoutField) → length layout ≤ layout_len size layout
 fields-le-bytes size [] = omega arith

@@ -16,46 +16,7 @@ use Rattle.hd_graph.specs.ArrayRows.{IsValueWithin, placed_fields, value_ids, fi
 use Rattle.hd_graph.specs.Building.{GrowsBy}
 use Rattle.hd_graph.proofs.GrownLemmas.{IsOver, grown-over, over-same, over-new, value-over}
 use Rattle.hd_graph.proofs.ValueLemmas.{ids-append, ids-le}
-use Rattle.hd_graph.proofs.InstanceLemmas.{layout_len-cons}
-
--- the first fields, as the definitions say them
-abbrev pub first_fields : List LayoutField → ℕ → List classes_of.LayoutField
-first_fields xs i = map field_view (take i xs)
-
--- one more field
-pub one-more : (xs : List LayoutField) (i : ℕ) (d : LayoutField) → i < length xs → first_fields xs (i + 1) ≡ first_fields xs i ++ field_view (get_or xs i d) ∷ []
-one-more xs i d lt = ap (map field_view) (take_more xs i d lt) ∙ map-append field_view (take i xs) (get_or xs i d ∷ [])
-
--- all of them
-pub all-fields : (xs : List LayoutField) (i : ℕ) → length xs ≤ i → first_fields xs i ≡ map field_view xs
-all-fields xs i past = ap (map field_view) (take_all i xs past)
-
-pub length-first : (xs : List LayoutField) (i : ℕ) → i < length xs → length (first_fields xs i) ≡ i
-length-first xs i lt = omega (arith, length-map (take i xs) field_view, length-take i xs)
-
--- the bytes of fields and of those behind them
-pub len-append : (size : IdSize) (xs ys : List classes_of.LayoutField) → layout_len size (xs ++ ys) ≡ layout_len size xs + layout_len size ys
-len-append size xs ys = sum_by-append (λ (f : classes_of.LayoutField). value_len size f.code) xs ys
-
-len-one : (size : IdSize) (f : classes_of.LayoutField) → layout_len size (f ∷ []) ≡ value_len size f.code
-len-one size f = layout_len-cons size f [] ∙ add-zero (value_len size f.code)
-
--- one more field's
-pub bytes-more : (size : IdSize) (xs : List LayoutField) (i : ℕ) (d : LayoutField) → i < length xs → layout_len size (first_fields xs (i + 1)) ≡ layout_len size (first_fields xs i) + value_len size (get_or xs i d).code
-bytes-more size xs i d lt =
-    ap (layout_len size) (one-more xs i d lt)
-    ∙ len-append size (first_fields xs i) (field_view (get_or xs i d) ∷ [])
-    ∙ ap (λ (n : ℕ). layout_len size (first_fields xs i) + n) (len-one size (field_view (get_or xs i d)))
-
--- no more than those of all
-bytes-within : (size : IdSize) (xs : List LayoutField) (i : ℕ) → layout_len size (first_fields xs i) ≤ layout_len size (map field_view xs)
-bytes-within size xs i =
-    omega (
-      arith,
-      ap (λ (ys : List LayoutField). layout_len size (map field_view ys)) (take-append-drop i xs),
-      ap (layout_len size) (map-append field_view (take i xs) (drop i xs)),
-      len-append size (map field_view (take i xs)) (map field_view (drop i xs)),
-    )
+use Rattle.hd_classes.proofs.FieldLemmas.{first_fields, one-more, all-fields, length-first, len-append, len-one, bytes-more, bytes-within, layout_len-cons}
 
 -- the names of fields and of those behind them
 pub names-append : (k : ℕ) (xs ys : List classes_of.LayoutField) → field_names k (xs ++ ys) ≡ field_names k xs ++ field_names (k + length xs) ys

@@ -153,13 +153,13 @@ module _ (known : KnownClasses) (bytes : List ℕ) (size : IdSize) (front : List
       let one : firsts id_of_entry A ++ if_new id_of_entry (is_known id_of_entry A a) a ≡ firsts id_of_entry A ++ a ∷ [] = ap (λ (c : Bool). firsts id_of_entry A ++ if_new id_of_entry c a) e in
       let added = adds.next (then_next e) in
       record {
-        bytes_are = ap (λ (t : Table). t.bytes) added.table ∙ h.bytes_are;
-        size_is = ap (λ (t : Table). t.size) added.table ∙ h.size_is;
-        ids_are = ap (λ (t : Table). t.ids) added.table ∙ h.ids_are;
-        rows_are = ap (λ (t : Table). t.rows) added.table ∙ ap (λ (rs : List (List ℕ)). rs ++ a.1 ∷ []) h.rows_are ∙ sym (map-append row_of_entry (firsts id_of_entry A) (a ∷ [])) ∙ ap (map row_of_entry) (sym (all ∙ one));
+        bytes_are = ap (λ (t : Table). t.bytes) added.row.table ∙ h.bytes_are;
+        size_is = ap (λ (t : Table). t.size) added.row.table ∙ h.size_is;
+        ids_are = ap (λ (t : Table). t.ids) added.row.table ∙ h.ids_are;
+        rows_are = ap (λ (t : Table). t.rows) added.row.table ∙ ap (λ (rs : List (List ℕ)). rs ++ a.1 ∷ []) h.rows_are ∙ sym (map-append row_of_entry (firsts id_of_entry A) (a ∷ [])) ∙ ap (map row_of_entry) (sym (all ∙ one));
         shapes_are = added.shapes ∙ ap (λ (ss : List ObjectShape). ss ++ a.2 ∷ []) h.shapes_are ∙ sym (map-append shape_of_entry (firsts id_of_entry A) (a ∷ [])) ∙ ap (map shape_of_entry) (sym (all ∙ one));
-        filled = ap (λ (t : Table). t.filling) added.table ∙ h.filled;
-        few = omega (arith, h.few, added.count, weight-push front (sub i));
+        filled = ap (λ (t : Table). t.filling) added.row.table ∙ h.filled;
+        few = omega (arith, h.few, added.row.count, weight-push front (sub i));
       }
 
   fill-object : (i : Item) (a : ObjectEntry) → entry_of_item known bytes size i ≡ Some a → id_of_item i ≡ Some a.0 → IsFilledSoFar known bytes size front (ids_all i) old → AddsNext a (item_weight i) old new

@@ -69,51 +69,54 @@ names-push slot k (x ∷ xs) v =
     by_type true e = ap (λ (ns : List Slot). slot k ∷ ns) e
     by_type false e = e
 
--- the IDs and names of the values so far were added
-pub record IsPushedSoFar (slot : ℕ → Slot) (vs : List (ℕ × Span)) (i : ℕ) (first now : Table) (before names : List Slot) : Type 0 where
-  pub table : GrowsBy (value_ids first.bytes first.size (take i vs)) first now
-  pub names_are : names ≡ before ++ value_names slot 0 (take i vs)
+-- the IDs of the values so far were added
+abbrev pub AreIdsSoFar : List (ℕ × Span) → ℕ → Table → Table → Type 0
+AreIdsSoFar vs i first now = GrowsBy (value_ids first.bytes first.size (take i vs)) first now
 
-pub none-pushed : (slot : ℕ → Slot) (vs : List (ℕ × Span)) (first : Table) (before : List Slot) → IsPushedSoFar slot vs 0 first first before before
-none-pushed slot vs first before = record {
-  table = ap (λ (f : List ℕ). record first { filling = f; count = first.count }) (sym (append-nil first.filling)) ∙ ap (λ (n : ℕ). record first { filling = first.filling ++ []; count = n }) (sym (add-zero first.count));
-  names_are = sym (append-nil before);
-}
+-- so were the names of their slots
+abbrev pub AreNamesSoFar : (ℕ → Slot) → List (ℕ × Span) → ℕ → List Slot → List Slot → Type 0
+AreNamesSoFar slot vs i before names = names ≡ before ++ value_names slot 0 (take i vs)
+
+pub no-ids : (vs : List (ℕ × Span)) (first : Table) → AreIdsSoFar vs 0 first first
+no-ids vs first = ap (λ (f : List ℕ). record first { filling = f; count = first.count }) (sym (append-nil first.filling)) ∙ ap (λ (n : ℕ). record first { filling = first.filling ++ []; count = n }) (sym (add-zero first.count))
 
 -- they are over the same file
-pub over-so-far : (slot : ℕ → Slot) (vs : List (ℕ × Span)) (i : ℕ) (first now : Table) (before names : List Slot) → IsPushedSoFar slot vs i first now before names → IsOver first now
-over-so-far slot vs i first now before names h = grown-over (value_ids first.bytes first.size (take i vs)) first now h.table
+pub over-so-far : (vs : List (ℕ × Span)) (i : ℕ) (first now : Table) → AreIdsSoFar vs i first now → IsOver first now
+over-so-far vs i first now h = grown-over (value_ids first.bytes first.size (take i vs)) first now h
 
-pub one-pushed : (slot : ℕ → Slot) (vs : List (ℕ × Span)) (i : ℕ) (d : ℕ × Span) (first now next : Table) (before names names' : List Slot) → i < length vs → IsPushedSoFar slot vs i first now before names
-    → (v : ℕ × Span) → get_or vs i d ≡ v → GrowsBy (value_ids now.bytes now.size (v ∷ [])) now next → names' ≡ names ++ name_of (slot i) v.0 → IsPushedSoFar slot vs (i + 1) first next before names'
-one-pushed slot vs i d first now next before names names' lt h v is grows named =
+pub one-id : (vs : List (ℕ × Span)) (i : ℕ) (d : ℕ × Span) (first now next : Table) → i < length vs → AreIdsSoFar vs i first now
+    → (v : ℕ × Span) → get_or vs i d ≡ v → GrowsBy (value_ids now.bytes now.size (v ∷ [])) now next → AreIdsSoFar vs (i + 1) first next
+one-id vs i d first now next lt h v is grows =
     let old = value_ids first.bytes first.size (take i vs) in
     let one = value_ids first.bytes first.size (v ∷ []) in
     let more : take (i + 1) vs ≡ take i vs ++ v ∷ [] = take_more vs i d lt ∙ ap (λ (x : ℕ × Span). take i vs ++ x ∷ []) is in
     let ids : value_ids first.bytes first.size (take (i + 1) vs) ≡ old ++ one = ap (value_ids first.bytes first.size) more ∙ ids-append first.bytes first.size (take i vs) (v ∷ []) in
-    let long : 0 + length (take i vs) ≡ i = omega (arith, length-take i vs) in
     let count : first.count + length old + length one ≡ first.count + length (old ++ one) = omega (arith, length-append old one) in
-    record {
-      table = ids-over (v ∷ []) first now next (over-so-far slot vs i first now before names h) grows
-          ∙ ap (λ (t : Table). record t { filling = t.filling ++ one; count = t.count + length one }) h.table
-          ∙ ap (λ (f : List ℕ). record first { filling = f; count = first.count + length old + length one }) (append_assoc first.filling old one)
-          ∙ ap (λ (n : ℕ). record first { filling = first.filling ++ (old ++ one); count = n }) count
-          ∙ ap (λ (xs : List ℕ). record first { filling = first.filling ++ xs; count = first.count + length xs }) (sym ids);
-      names_are = named
-          ∙ ap (λ (ns : List Slot). ns ++ name_of (slot i) v.0) h.names_are
-          ∙ append_assoc before (value_names slot 0 (take i vs)) (name_of (slot i) v.0)
-          ∙ ap (λ (n : ℕ). before ++ (value_names slot 0 (take i vs) ++ name_of (slot n) v.0)) (sym long)
-          ∙ ap (λ (ns : List Slot). before ++ ns) (sym (names-push slot 0 (take i vs) v) ∙ ap (value_names slot 0) (sym more));
-    }
+    ids-over (v ∷ []) first now next (over-so-far vs i first now h) grows
+    ∙ ap (λ (t : Table). record t { filling = t.filling ++ one; count = t.count + length one }) h
+    ∙ ap (λ (f : List ℕ). record first { filling = f; count = first.count + length old + length one }) (append_assoc first.filling old one)
+    ∙ ap (λ (n : ℕ). record first { filling = first.filling ++ (old ++ one); count = n }) count
+    ∙ ap (λ (xs : List ℕ). record first { filling = first.filling ++ xs; count = first.count + length xs }) (sym ids)
 
-pub room-so-far : (slot : ℕ → Slot) (vs : List (ℕ × Span)) (i : ℕ) (first now : Table) (before names : List Slot) → IsPushedSoFar slot vs i first now before names → (length now.ids ≡ length first.ids) × (now.count ≤ first.count + i)
-room-so-far slot vs i first now before names h =
-    (ap (λ (t : Table). length t.ids) h.table, omega (arith, ap (λ (t : Table). t.count) h.table, ids-le first.bytes first.size (take i vs), length-take i vs))
+pub one-name : (slot : ℕ → Slot) (vs : List (ℕ × Span)) (i : ℕ) (d : ℕ × Span) (before names names' : List Slot) → i < length vs → AreNamesSoFar slot vs i before names
+    → (v : ℕ × Span) → get_or vs i d ≡ v → names' ≡ names ++ name_of (slot i) v.0 → AreNamesSoFar slot vs (i + 1) before names'
+one-name slot vs i d before names names' lt h v is named =
+    let more : take (i + 1) vs ≡ take i vs ++ v ∷ [] = take_more vs i d lt ∙ ap (λ (x : ℕ × Span). take i vs ++ x ∷ []) is in
+    let long : 0 + length (take i vs) ≡ i = omega (arith, length-take i vs) in
+    named
+    ∙ ap (λ (ns : List Slot). ns ++ name_of (slot i) v.0) h
+    ∙ append_assoc before (value_names slot 0 (take i vs)) (name_of (slot i) v.0)
+    ∙ ap (λ (n : ℕ). before ++ (value_names slot 0 (take i vs) ++ name_of (slot n) v.0)) (sym long)
+    ∙ ap (λ (ns : List Slot). before ++ ns) (sym (names-push slot 0 (take i vs) v) ∙ ap (value_names slot 0) (sym more))
 
-pub all-pushed : (slot : ℕ → Slot) (vs : List (ℕ × Span)) (i : ℕ) (first now : Table) (before names : List Slot) → length vs ≤ i → IsPushedSoFar slot vs i first now before names
-    → GrowsBy (value_ids first.bytes first.size vs) first now × (names ≡ before ++ value_names slot 0 vs)
-all-pushed slot vs i first now before names past h =
-    (subst (λ (xs : List (ℕ × Span)). GrowsBy (value_ids first.bytes first.size xs) first now) (take_all i vs past) h.table, h.names_are ∙ ap (λ (xs : List (ℕ × Span)). before ++ value_names slot 0 xs) (take_all i vs past))
+pub room-so-far : (vs : List (ℕ × Span)) (i : ℕ) (first now : Table) → AreIdsSoFar vs i first now → (length now.ids ≡ length first.ids) × (now.count ≤ first.count + i)
+room-so-far vs i first now h = (ap (λ (t : Table). length t.ids) h, omega (arith, ap (λ (t : Table). t.count) h, ids-le first.bytes first.size (take i vs), length-take i vs))
+
+pub all-ids : (vs : List (ℕ × Span)) (i : ℕ) (first now : Table) → length vs ≤ i → AreIdsSoFar vs i first now → GrowsBy (value_ids first.bytes first.size vs) first now
+all-ids vs i first now past h = subst (λ (xs : List (ℕ × Span)). GrowsBy (value_ids first.bytes first.size xs) first now) (take_all i vs past) h
+
+pub all-names : (slot : ℕ → Slot) (vs : List (ℕ × Span)) (i : ℕ) (before names : List Slot) → length vs ≤ i → AreNamesSoFar slot vs i before names → names ≡ before ++ value_names slot 0 vs
+all-names slot vs i before names past h = h ∙ ap (λ (xs : List (ℕ × Span)). before ++ value_names slot 0 xs) (take_all i vs past)
 
 -- the bytes of statics, one after another
 bytes-append : (xs ys : List Static) → static_bytes (map static_view (xs ++ ys)) ≡ static_bytes (map static_view xs) + static_bytes (map static_view ys)

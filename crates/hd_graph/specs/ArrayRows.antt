@@ -96,10 +96,6 @@ ObjectEntry = ℕ × List ℕ × ObjectShape
 abbrev pub fitting : IdSize → ℕ → Option ResolvedClass → Option ResolvedClass
 fitting size len k = option_and_then (λ (x : ResolvedClass). if len == layout_len size x.layout then Some x else None) k
 
--- the class of a number is this one
-abbrev pub HasNumber : List (ℕ × ResolvedClass) → ℕ → Option ResolvedClass → Type 0
-HasNumber classes i k = IsSome k × (option_map (λ (p : ℕ × ResolvedClass). p.1) (slice_get classes i) ≡ k)
-
 -- an instance by the class by whose layout it is read, if there is one
 abbrev pub instance_entry : List ℕ → IdSize → ℕ → ℕ → Span → Option ResolvedClass → ObjectEntry
 instance_entry bytes size id class values None = (id, class ∷ [], ObjectArray values.len)
@@ -115,6 +111,10 @@ entry_of_item known bytes size (PrimArray id element count) = Some (id, [], Prim
 
 abbrev pub entry_of : KnownClasses → List ℕ → IdSize → Sub → Option ObjectEntry
 entry_of known bytes size s = entry_of_item known bytes size s.item
+
+-- the shape of the object of a sub-record, if it is one; the bytes of the file say nothing of it
+abbrev pub shape_of_item : KnownClasses → IdSize → Item → Option ObjectShape
+shape_of_item known size item = option_map (λ (a : ObjectEntry). a.2) (entry_of_item known [] size item)
 
 -- the objects of sub-records, the first of each ID
 abbrev pub entries_of : KnownClasses → List ℕ → IdSize → List Sub → List ObjectEntry

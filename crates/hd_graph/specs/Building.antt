@@ -11,7 +11,7 @@ use Rattle.hd_classes.specs.Known.{Known}
 use Rattle.hd_graph.specs.Shapes.{ObjectShape}
 use Rattle.hd_graph.specs.PackedShapes.{shape_at, made_layout}
 use Rattle.hd_slots.specs.Table.{Table}
-use Rattle.hd_graph.specs.ArrayRows.{ObjectEntry, object_ids, entry_of, entry_of_item, entries_of, item_weight, weight, layout_shape}
+use Rattle.hd_graph.specs.ArrayRows.{ObjectEntry, object_ids, entry_of, entry_of_item, shape_of_item, entries_of, item_weight, weight, layout_shape}
 
 -- out of memory, or the fault of the file
 abbrev pub IsReadFaultOrMemory : List ℕ → ReadFault → Type 0
@@ -36,25 +36,29 @@ pub record HasNoRows (c : Columns) : Type 0 where
 abbrev pub GrowsBy : List ℕ → Table → Table → Type 0
 GrowsBy ids old new = new ≡ record old { filling = old.filling ++ ids; count = old.count + length ids }
 
+-- a row is added, with no more IDs than this
+pub record AddsRow (row : List ℕ) (weight : ℕ) (old new : Table) : Type 0 where
+  pub table : new ≡ record old { rows = old.rows ++ row ∷ []; count = new.count }
+  pub count : new.count ≤ old.count + weight
+
+-- the row of an object is added, if there is one
+abbrev pub AddsRowOf : Option ObjectEntry → ℕ → Table → Table → Type 0
+AddsRowOf None weight old new = new ≡ old
+AddsRowOf (Some a) weight old new = AddsRow a.1 weight old new
+
+-- so is the row of the object of a sub-record, if it is one
+abbrev pub AddsItemRow : KnownClasses → List ℕ → IdSize → Item → Table → Table → Type 0
+AddsItemRow known bytes size item old new = AddsRowOf (entry_of_item known bytes size item) (item_weight item) old new
+
 -- an object's row and shape are added
 pub record Adds (a : ObjectEntry) (weight : ℕ) (old new : Columns) : Type 0 where
-  pub table : new.table ≡ record old.table { rows = old.table.rows ++ a.1 ∷ []; count = new.table.count }
-  pub count : new.table.count ≤ old.table.count + weight
+  pub row : AddsRow a.1 weight old.table new.table
   pub shapes : new.shapes ≡ old.shapes ++ a.2 ∷ []
 
 -- an object is added where it comes next, and else nothing
 pub record AddsNext (a : ObjectEntry) (weight : ℕ) (old new : Columns) : Type 0 where
   pub next : slice_get old.table.ids (length old.table.rows) ≡ Some a.0 → Adds a weight old new
   pub other : slice_get old.table.ids (length old.table.rows) ≢ Some a.0 → new ≡ old
-
--- an object is added, if there is one
-abbrev pub AddsEntry : Option ObjectEntry → ℕ → Columns → Columns → Type 0
-AddsEntry None weight old new = new ≡ old
-AddsEntry (Some a) weight old new = Adds a weight old new
-
--- the object of a sub-record is added, if it is one
-abbrev pub AddsItem : KnownClasses → List ℕ → IdSize → Item → Columns → Columns → Type 0
-AddsItem known bytes size item old new = AddsEntry (entry_of_item known bytes size item) (item_weight item) old new
 
 -- an object is added where it comes next, if there is one
 abbrev pub FillsEntry : Option ObjectEntry → ℕ → Columns → Columns → Type 0
@@ -65,15 +69,18 @@ FillsEntry (Some a) weight old new = AddsNext a weight old new
 abbrev pub FillsItem : KnownClasses → List ℕ → IdSize → Item → Columns → Columns → Type 0
 FillsItem known bytes size item old new = FillsEntry (entry_of_item known bytes size item) (item_weight item) old new
 
--- the rows and shapes are those of the objects of all sub-records, over no IDs, and have no more IDs than the sub-records weigh
-pub record HasAllRows (known : KnownClasses) (bytes : List ℕ) (size : IdSize) (list : List Sub) (c : Columns) : Type 0 where
-  pub bytes_are : c.table.bytes ≡ bytes
-  pub size_is : c.table.size ≡ size
-  pub ids_are : c.table.ids ≡ []
-  pub rows_are : c.table.rows ≡ map (λ (a : ObjectEntry). a.1) (filter_map (entry_of known bytes size) list)
-  pub shapes_are : c.shapes ≡ map (λ (a : ObjectEntry). a.2) (filter_map (entry_of known bytes size) list)
-  pub filled : c.table.filling ≡ []
-  pub few : c.table.count ≤ weight list
+-- the rows are those of the objects of all sub-records, over no IDs, and have no more IDs than the sub-records weigh
+pub record HasAllRows (known : KnownClasses) (bytes : List ℕ) (size : IdSize) (list : List Sub) (t : Table) : Type 0 where
+  pub bytes_are : t.bytes ≡ bytes
+  pub size_is : t.size ≡ size
+  pub ids_are : t.ids ≡ []
+  pub rows_are : t.rows ≡ map (λ (a : ObjectEntry). a.1) (filter_map (entry_of known bytes size) list)
+  pub filled : t.filling ≡ []
+  pub few : t.count ≤ weight list
+
+-- the shapes are those of the objects of all sub-records
+abbrev pub HasAllShapes : KnownClasses → IdSize → List Sub → List ObjectShape → Type 0
+HasAllShapes known size list shapes = shapes ≡ filter_map (λ (s : Sub). shape_of_item known size s.item) list
 
 -- the rows and shapes are those of the objects of sub-records, the first of each ID
 pub record HasRowsOf (known : KnownClasses) (bytes : List ℕ) (size : IdSize) (list : List Sub) (c : Columns) : Type 0 where

@@ -57,7 +57,3 @@ IsNullIdOrMemory id offset f = (f ≡ fault causes.OutOfMemory 0) ⊎ ((id ≡ 0
 -- out of memory, or a fault of a sub-record behind others that were numbered
 abbrev pub StopsAt : KnownClasses → IdSize → Sub → List ℕ → ReadFault → Type 0
 StopsAt known size s ids f = (f ≡ fault causes.OutOfMemory 0) ⊎ ((id : ℕ) × (object_id s ≡ Some id) × IsObjectStop known size s.item id s.offset ids f)
-
--- how many bytes the values of a class's instances have, if it is known
-abbrev pub length_of : IdSize → Option ResolvedClass → Option ℕ
-length_of size k = option_map (λ (x : ResolvedClass). layout_len size x.layout) k

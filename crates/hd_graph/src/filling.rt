@@ -1,16 +1,19 @@
 //! Filling the rows and shapes of objects, in the order of their numbers.
-ghost use Rattle.std.specs.Prelude.{◌≡◌, ◌+◌, ◌<◌, ◌-◌, ◌^◌, [], length, All, IfOk, OnOk};
+ghost use Rattle.std.specs.Prelude.{◌≡◌, ◌+◌, ◌<◌, ◌≤◌, ◌-◌, ◌^◌, [], ◌++◌, length, All, IfOk, OnOk};
+ghost use Rattle.std.specs.List.{cons_option};
 ghost use Rattle.hd_terms.specs.FirstRecords.{id_of_item};
 ghost use Rattle.hd_classes.specs.Known.{known_at};
 ghost use Rattle.hd_subs.specs.Views.{item_view, sub_view};
-ghost use Rattle.hd_graph.specs.ArrayRows.{AreWithin, IsSubWithin, object_ids, item_weight};
-ghost use Rattle.hd_graph.specs.Building.{HasNoRows, HasRowsOf, HasAllRows, AddsItem, FillsItem, columns, AreLayouts, AreFewAndShort};
+ghost use Rattle.hd_graph.specs.ArrayRows.{AreWithin, IsSubWithin, object_ids, item_weight, shape_of_item, weight};
+ghost use Rattle.hd_graph.specs.Building.{HasNoRows, HasRowsOf, HasAllRows, HasAllShapes, AddsItemRow, FillsItem, columns, AreLayouts, AreFewAndShort};
 
 use crate::array_rows::{bytes_of_elements, push_array};
-use crate::class_rows::push_class;
-use crate::instance_rows::push_instance;
+use crate::class_rows::push_class_row;
+use crate::class_shapes::push_class_shape;
+use crate::instance_rows::push_instance_row;
+use crate::instance_shapes::push_instance_shape;
 use crate::shape::Shapes;
-use hd_classes::Classes;
+use hd_classes::{Classes, LayoutBytes};
 use hd_ids::ObjectIds;
 use hd_slots::UnresolvedSlots;
 use hd_subs::{DumpSubs, Item, Sub, array_class_offset};
@@ -37,38 +40,58 @@ fn id_of(item: Item<'_>) -> Option<u64>
     }
 }
 
-/// Adds the row and the shape of the object of a sub-record, if it is one.
-fn fill_one(
-    alloc: Global,
+/// Adds the row of the object of a sub-record, if it is one.
+fn fill_row(
     slot_table: &mut UnresolvedSlots<'_>,
-    shapes: &mut Shapes,
-    classes: &Classes,
+    layouts: &mut LayoutBytes<'_>,
     sub: Sub<'_>,
 ) -> Result<(), AllocError>
+    requires size { layouts.old.size ≡ slot_table.old.size }
     requires within { IsSubWithin slot_table.old.size slot_table.old.bytes (sub_view sub) }
     requires room { length slot_table.old.ids + slot_table.old.count + item_weight (item_view sub.item) < 2 ^ 32 - 1 }
-    requires few { length shapes.old.objects < 2 ^ 32 - 1 }
     requires filled { slot_table.old.filling ≡ [] }
-    requires classes { AreLayouts slot_table.old.size classes.now shapes.old.layouts }
-    ensures filled { OnOk result (AddsItem (known_at classes.now) slot_table.old.bytes slot_table.old.size (item_view sub.entry.item) (columns slot_table.old shapes.old.objects) (columns slot_table.new shapes.new.objects)) }
-    ensures classes { OnOk result (AreLayouts slot_table.old.size classes.now shapes.new.layouts) }
+    ensures filled { OnOk result (AddsItemRow (known_at layouts.old.classes) slot_table.old.bytes slot_table.old.size (item_view sub.entry.item) slot_table.old slot_table.new) }
+    ensures same { OnOk result (layouts.new ≡ layouts.old) }
 {
     let offset = sub.offset;
     match sub.item {
         Item::Root(..) => {}
-        Item::Class(class) => push_class(alloc, slot_table, shapes, class, offset)?,
+        Item::Class(class) => push_class_row(slot_table, class, offset)?,
         Item::Instance { class, values, .. } => {
-            push_instance(alloc, slot_table, shapes, classes, class, values, offset)?;
+            push_instance_row(slot_table, layouts, class, values, offset)?;
         }
         Item::ObjArray { elements, .. } => {
             let class = array_class_offset(slot_table.id_size(), offset);
             push_array(slot_table, class, elements)?;
-            shapes.push_object_array(elements.len as u32)?;
         }
+        Item::PrimArray { .. } => slot_table.end_row()?,
+    }
+    Ok(())
+}
+
+/// Adds the shape of the object of a sub-record, if it is one.
+fn fill_shape(
+    alloc: Global,
+    shapes: &mut Shapes,
+    layouts: &mut LayoutBytes<'_>,
+    sub: Sub<'_>,
+) -> Result<(), AllocError>
+    requires small { item_weight (item_view sub.item) < 2 ^ 32 }
+    requires few { length shapes.old.objects < 2 ^ 32 - 1 }
+    requires classes { AreLayouts layouts.old.size layouts.old.classes shapes.old.layouts }
+    ensures filled { OnOk result (shapes.new.objects ≡ shapes.old.objects ++ cons_option (shape_of_item (known_at layouts.old.classes) layouts.old.size (item_view sub.entry.item)) []) }
+    ensures classes { OnOk result (AreLayouts layouts.old.size layouts.old.classes shapes.new.layouts) }
+    ensures same { OnOk result (layouts.new ≡ layouts.old) }
+{
+    match sub.item {
+        Item::Root(..) => {}
+        Item::Class(class) => push_class_shape(alloc, shapes, class)?,
+        Item::Instance { class, values, .. } => {
+            push_instance_shape(alloc, shapes, layouts, class, values)?;
+        }
+        Item::ObjArray { elements, .. } => shapes.push_object_array(elements.len as u32)?,
         Item::PrimArray { element, count, .. } => {
-            slot_table.end_row()?;
-            let bytes = bytes_of_elements(element, count);
-            shapes.push_primitive_array(element, bytes)?;
+            shapes.push_primitive_array(element, bytes_of_elements(element, count))?;
         }
     }
     Ok(())
@@ -79,21 +102,24 @@ fn fill_next(
     alloc: Global,
     slot_table: &mut UnresolvedSlots<'_>,
     shapes: &mut Shapes,
-    classes: &Classes,
+    layouts: &mut LayoutBytes<'_>,
     sub: Sub<'_>,
 ) -> Result<(), AllocError>
+    requires size { layouts.old.size ≡ slot_table.old.size }
     requires within { IsSubWithin slot_table.old.size slot_table.old.bytes (sub_view sub) }
     requires room { length slot_table.old.ids + slot_table.old.count + item_weight (item_view sub.item) < 2 ^ 32 - 1 }
     requires few { length shapes.old.objects < 2 ^ 32 - 1 }
     requires filled { slot_table.old.filling ≡ [] }
-    requires classes { AreLayouts slot_table.old.size classes.now shapes.old.layouts }
-    ensures filled { OnOk result (FillsItem (known_at classes.now) slot_table.old.bytes slot_table.old.size (item_view sub.entry.item) (columns slot_table.old shapes.old.objects) (columns slot_table.new shapes.new.objects)) }
-    ensures classes { OnOk result (AreLayouts slot_table.old.size classes.now shapes.new.layouts) }
+    requires classes { AreLayouts layouts.old.size layouts.old.classes shapes.old.layouts }
+    ensures filled { OnOk result (FillsItem (known_at layouts.old.classes) slot_table.old.bytes slot_table.old.size (item_view sub.entry.item) (columns slot_table.old shapes.old.objects) (columns slot_table.new shapes.new.objects)) }
+    ensures classes { OnOk result (AreLayouts layouts.old.size layouts.old.classes shapes.new.layouts) }
+    ensures same { OnOk result (layouts.new ≡ layouts.old) }
 {
     if let Some(id) = id_of(sub.item)
         && slot_table.is_next(id)
     {
-        fill_one(alloc, slot_table, shapes, classes, sub)?;
+        fill_row(slot_table, layouts, sub)?;
+        fill_shape(alloc, shapes, layouts, sub)?;
     }
     Ok(())
 }
@@ -103,60 +129,96 @@ fn fill_first_rows(
     alloc: Global,
     slot_table: &mut UnresolvedSlots<'_>,
     shapes: &mut Shapes,
-    classes: &Classes,
+    layouts: &mut LayoutBytes<'_>,
     list: &DumpSubs<'_>,
 ) -> Result<(), AllocError>
+    requires size { layouts.old.size ≡ slot_table.old.size }
     requires within { AreWithin slot_table.old.size slot_table.old.bytes list.now }
     requires ids { slot_table.old.ids ≡ object_ids list.now }
     requires few { length slot_table.old.ids < 2 ^ 31 }
     requires empty { HasNoRows (columns slot_table.old shapes.old.objects) }
-    requires classes { AreLayouts slot_table.old.size classes.now shapes.old.layouts }
-    ensures { OnOk result (HasRowsOf (known_at classes.now) slot_table.old.bytes slot_table.old.size list.now (columns slot_table.new shapes.new.objects)) }
+    requires classes { AreLayouts layouts.old.size layouts.old.classes shapes.old.layouts }
+    ensures { OnOk result (HasRowsOf (known_at layouts.old.classes) slot_table.old.bytes slot_table.old.size list.now (columns slot_table.new shapes.new.objects)) }
 {
     for i in 0..list.len() {
-        fill_next(alloc, slot_table, shapes, classes, list.get(i))?;
+        fill_next(alloc, slot_table, shapes, layouts, list.get(i))?;
     }
     Ok(())
 }
 
-/// Adds the row and the shape of the object of each sub-record that is one, whether its ID is an earlier one's or not.
+/// Adds the row of the object of each sub-record that is one, whether its ID is an earlier one's or not.
 fn fill_all_rows(
-    alloc: Global,
     slot_table: &mut UnresolvedSlots<'_>,
-    shapes: &mut Shapes,
-    classes: &Classes,
+    layouts: &mut LayoutBytes<'_>,
     list: &DumpSubs<'_>,
 ) -> Result<(), AllocError>
+    requires size { layouts.old.size ≡ slot_table.old.size }
     requires within { AreWithin slot_table.old.size slot_table.old.bytes list.now }
     requires no_ids { slot_table.old.ids ≡ [] }
-    requires empty { HasNoRows (columns slot_table.old shapes.old.objects) }
-    requires classes { AreLayouts slot_table.old.size classes.now shapes.old.layouts }
-    ensures { OnOk result (HasAllRows (known_at classes.now) slot_table.old.bytes slot_table.old.size list.now (columns slot_table.new shapes.new.objects)) }
+    requires rows { slot_table.old.rows ≡ [] }
+    requires filled { slot_table.old.filling ≡ [] }
+    requires count { slot_table.old.count ≡ 0 }
+    ensures { OnOk result (HasAllRows (known_at layouts.old.classes) slot_table.old.bytes slot_table.old.size list.now slot_table.new) }
 {
     for i in 0..list.len() {
-        fill_one(alloc, slot_table, shapes, classes, list.get(i))?;
+        fill_row(slot_table, layouts, list.get(i))?;
     }
     Ok(())
 }
 
-/// The references and the shapes of the objects of all sub-records, whether their IDs are repeated or not, over no IDs.
+/// Adds the shape of the object of each sub-record that is one, whether its ID is an earlier one's or not.
+fn fill_all_shapes(
+    alloc: Global,
+    shapes: &mut Shapes,
+    layouts: &mut LayoutBytes<'_>,
+    list: &DumpSubs<'_>,
+) -> Result<(), AllocError>
+    requires few { weight list.now ≤ 2147483647 }
+    requires empty { shapes.old.objects ≡ [] }
+    requires classes { AreLayouts layouts.old.size layouts.old.classes shapes.old.layouts }
+    ensures { OnOk result (HasAllShapes (known_at layouts.old.classes) layouts.old.size list.now shapes.new.objects) }
+{
+    for i in 0..list.len() {
+        fill_shape(alloc, shapes, layouts, list.get(i))?;
+    }
+    Ok(())
+}
+
+/// The references of the objects of all sub-records, whether their IDs are repeated or not, over no IDs.
 pub(crate) fn all_rows_of<'a>(
     alloc: Global,
     classes: &Classes,
     id_size: IdSize,
     bytes: &'a [u8],
     list: &DumpSubs<'_>,
-) -> Result<Rows<'a>, AllocError>
+) -> Result<UnresolvedSlots<'a>, AllocError>
     requires within { AreWithin id_size bytes.now list.now }
     requires small { length bytes.now < 2 ^ 31 }
     requires classes { AreFewAndShort classes.now }
-    ensures { IfOk result (λ rows. HasAllRows (known_at classes.now) bytes.now id_size list.now (columns rows.slot_table rows.shapes.objects)) }
+    ensures { IfOk result (HasAllRows (known_at classes.now) bytes.now id_size list.now) }
 {
-    let mut shapes = Shapes::with_capacity(alloc, list.len(), classes.len())?;
+    let mut layouts = LayoutBytes::new(alloc, classes, id_size)?;
     let no_ids = ObjectIds::with_capacity(alloc, 0, 0)?;
     let mut slot_table = UnresolvedSlots::new(alloc, bytes, id_size, no_ids, list.len())?;
-    fill_all_rows(alloc, &mut slot_table, &mut shapes, classes, list)?;
-    Ok(Rows { slot_table, shapes })
+    fill_all_rows(&mut slot_table, &mut layouts, list)?;
+    Ok(slot_table)
+}
+
+/// The shapes of the objects of all sub-records, whether their IDs are repeated or not.
+pub(crate) fn all_shapes_of(
+    alloc: Global,
+    classes: &Classes,
+    id_size: IdSize,
+    list: &DumpSubs<'_>,
+) -> Result<Shapes, AllocError>
+    requires few { weight list.now ≤ 2147483647 }
+    requires classes { AreFewAndShort classes.now }
+    ensures { IfOk result (λ shapes. HasAllShapes (known_at classes.now) id_size list.now shapes.objects) }
+{
+    let mut layouts = LayoutBytes::new(alloc, classes, id_size)?;
+    let mut shapes = Shapes::with_capacity(alloc, list.len(), classes.len())?;
+    fill_all_shapes(alloc, &mut shapes, &mut layouts, list)?;
+    Ok(shapes)
 }
 
 /// The references and the shapes of the objects of a file, by the file offsets of the references' IDs, where IDs are repeated:
@@ -178,9 +240,10 @@ fn first_rows_of<'a>(
     ensures { IfOk result (λ rows. HasRowsOf (known_at classes.now) bytes.now id_size list.now (columns rows.slot_table rows.shapes.objects)) }
 {
     let count = ids.len();
+    let mut layouts = LayoutBytes::new(alloc, classes, id_size)?;
     let mut shapes = Shapes::with_capacity(alloc, count, classes.len())?;
     let mut slot_table = UnresolvedSlots::new(alloc, bytes, id_size, ids, count)?;
-    fill_first_rows(alloc, &mut slot_table, &mut shapes, classes, list)?;
+    fill_first_rows(alloc, &mut slot_table, &mut shapes, &mut layouts, list)?;
     Ok(Rows { slot_table, shapes })
 }
 
@@ -201,7 +264,8 @@ pub(crate) fn rows_of<'a>(
     requires no_null { All (λ id. 0 < id) ids }
     requires few { length ids < 2 ^ 31 }
     requires classes { AreFewAndShort classes.now }
-    requires all { HasAllRows (known_at classes.now) bytes.now id_size list.now (columns all.slot_table all.shapes.objects) }
+    requires rows { HasAllRows (known_at classes.now) bytes.now id_size list.now all.slot_table }
+    requires shapes { HasAllShapes (known_at classes.now) id_size list.now all.shapes.objects }
     ensures { IfOk result (λ rows. HasRowsOf (known_at classes.now) bytes.now id_size list.now (columns rows.slot_table rows.shapes.objects)) }
 {
     let Rows { slot_table, shapes } = all;

@@ -44,6 +44,18 @@ impl Drop for KindLists {
 }
 
 impl KindLists {
+    /// No references.
+    fn none(alloc: Global) -> KindLists
+        ensures { (k : OneKind) → kept_of result k ≡ [] }
+    {
+        KindLists {
+            soft: Vec::new(alloc),
+            weak: Vec::new(alloc),
+            finals: Vec::new(alloc),
+            phantom: Vec::new(alloc),
+        }
+    }
+
     /// The references of a kind.
     fn of(&self, kind: RefKind) -> &[KeptEdge]
         ensures { result.now ≡ kept_of self.now kind }
@@ -124,12 +136,7 @@ fn kinds_of_part(
     requires part { part < 4 }
     ensures { IfOk result (AreKindsOfPart (row_objects shapes.now.objects slot_table.now.ids slot_table.now.rows) part) }
 {
-    let mut lists = KindLists {
-        soft: Vec::new(alloc),
-        weak: Vec::new(alloc),
-        finals: Vec::new(alloc),
-        phantom: Vec::new(alloc),
-    };
+    let mut lists = KindLists::none(alloc);
     let objects = slot_table.ids().len();
     let start = objects * part / PARTS;
     let end = objects * (part + 1) / PARTS;
@@ -160,12 +167,7 @@ pub(crate) fn kinds_of<R: Threads + Sync>(
         ensures { IfOk result (AreKindsOfPart (row_objects shapes.entry.now.objects slot_table.entry.now.ids slot_table.entry.now.rows) part) }
     { kinds_of_part(alloc, slot_table, shapes, part) };
     let parts = map_indices(rt, alloc, PARTS, &kinds_of_one)?;
-    let mut lists = KindLists {
-        soft: Vec::new(alloc),
-        weak: Vec::new(alloc),
-        finals: Vec::new(alloc),
-        phantom: Vec::new(alloc),
-    };
+    let mut lists = KindLists::none(alloc);
     for part in parts {
         lists.append(part?)?;
     }

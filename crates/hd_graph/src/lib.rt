@@ -3,10 +3,12 @@
 
 mod array_rows;
 mod class_rows;
+mod class_shapes;
 mod counts;
 mod filling;
 mod graph;
 mod instance_rows;
+mod instance_shapes;
 mod kinds;
 mod layouts;
 mod number;

@@ -6,11 +6,10 @@ ghost use Rattle.hd_classes.specs.Known.{known_at};
 ghost use Rattle.hd_subs.specs.Views.{sub_view};
 ghost use Rattle.hd_ids.specs.Noted.{is_noted};
 ghost use Rattle.hd_classes.specs.Repeats.{NotesId};
-ghost use Rattle.hd_graph.specs.Numbering.{IsNumbered, NumbersOneMore, IsObjectFaultOrMemory, NotesObject, IsObjectStop, IsNullIdOrMemory, StopsAt, length_of};
+ghost use Rattle.hd_graph.specs.Numbering.{IsNumbered, NumbersOneMore, IsObjectFaultOrMemory, NotesObject, IsObjectStop, IsNullIdOrMemory, StopsAt};
 
 use crate::graph::StoredRoot;
-use crate::layouts::bytes_of_layout;
-use hd_classes::{Classes, note_id};
+use hd_classes::{Classes, Fit, LayoutBytes, note_id};
 use hd_ids::ObjectIds;
 use hd_subs::{DumpSubs, Item, Sub};
 use hd_terms::{Cause, IdSize, ReadFault, Span};
@@ -31,20 +30,6 @@ pub(crate) struct Numbered {
     pub(crate) ids: ObjectIds,
     pub(crate) roots: Vec<StoredRoot>,
     pub(crate) tally: Tally,
-}
-
-/// How many bytes the values of instances of a class have, if the class is known.
-fn length_of_values(classes: &Classes, id_size: IdSize, class: u64) -> Option<u64>
-    requires { All (λ (p : ℕ × classes_of.ResolvedClass). length p.1.layout < 2 ^ 29) classes.now.classes }
-    ensures { result ≡ length_of id_size (known_at classes.now class) }
-{
-    match classes.index_of(class) {
-        Some(i) => {
-            let layout = classes.get(i).layout;
-            Some(u64::from(bytes_of_layout(id_size, layout)))
-        }
-        None => None,
-    }
 }
 
 /// Numbers an object by its ID, if that is new, and counts it as repeated if it isn't. The ID 0 is a fault. Answers whether
@@ -75,8 +60,7 @@ fn number_object(
 fn number_instance(
     ids: &mut ObjectIds,
     tally: &mut Tally,
-    classes: &Classes,
-    id_size: IdSize,
+    layouts: &mut LayoutBytes<'_>,
     id: u64,
     class: u64,
     values: Span,
@@ -84,23 +68,22 @@ fn number_instance(
 ) -> Result<(), ReadFault>
     requires repeated { tally.old.repeated + 1 < 2 ^ 64 }
     requires opaque { tally.old.opaque + 1 < 2 ^ 64 }
-    requires short { All (λ (p : ℕ × classes_of.ResolvedClass). length p.1.layout < 2 ^ 29) classes.now.classes }
-    ensures ok { OnOk result (NotesObject (known_at classes.now) id_size (Instance id class values) id ids.old tally.old ids.new tally.new) }
-    ensures err { IfErr result (λ f. IsObjectStop (known_at classes.now) id_size (Instance id class values) id offset ids.old f) }
+    ensures ok { OnOk result (NotesObject (known_at layouts.old.classes) layouts.old.size (Instance id class values) id ids.old tally.old ids.new tally.new) }
+    ensures err { IfErr result (λ f. IsObjectStop (known_at layouts.old.classes) layouts.old.size (Instance id class values) id offset ids.old f) }
+    ensures same { OnOk result (layouts.new ≡ layouts.old) }
 {
     if !number_object(ids, tally, id, offset)? {
         return Ok(());
     }
-    match length_of_values(classes, id_size, class) {
-        None => tally.opaque += 1,
-        Some(len) => {
-            if len != values.len {
-                return Err(ReadFault {
-                    cause: Cause::InstanceSize,
-                    offset,
-                });
-            }
+    match layouts.fit(class, values.len) {
+        Fit::Unknown => tally.opaque += 1,
+        Fit::Misfit => {
+            return Err(ReadFault {
+                cause: Cause::InstanceSize,
+                offset,
+            });
         }
+        Fit::Class(_) => {}
     }
     Ok(())
 }
@@ -110,15 +93,14 @@ fn number_one(
     ids: &mut ObjectIds,
     roots: &mut Vec<StoredRoot>,
     tally: &mut Tally,
-    classes: &Classes,
-    id_size: IdSize,
+    layouts: &mut LayoutBytes<'_>,
     sub: Sub<'_>,
 ) -> Result<(), ReadFault>
     requires repeated { tally.old.repeated + 1 < 2 ^ 64 }
     requires opaque { tally.old.opaque + 1 < 2 ^ 64 }
-    requires short { All (λ (p : ℕ × classes_of.ResolvedClass). length p.1.layout < 2 ^ 29) classes.now.classes }
-    ensures ok { OnOk result (NumbersOneMore (known_at classes.now) id_size (sub_view sub.entry) ids.old roots.old.items tally.old ids.new roots.new.items tally.new) }
-    ensures err { IfErr result (λ f. StopsAt (known_at classes.now) id_size (sub_view sub.entry) ids.old f) }
+    ensures ok { OnOk result (NumbersOneMore (known_at layouts.old.classes) layouts.old.size (sub_view sub.entry) ids.old roots.old.items tally.old ids.new roots.new.items tally.new) }
+    ensures err { IfErr result (λ f. StopsAt (known_at layouts.old.classes) layouts.old.size (sub_view sub.entry) ids.old f) }
+    ensures same { OnOk result (layouts.new ≡ layouts.old) }
 {
     let offset = sub.offset;
     match sub.item {
@@ -127,7 +109,7 @@ fn number_one(
             number_object(ids, tally, class.id, offset)?;
         }
         Item::Instance { id, class, values } => {
-            number_instance(ids, tally, classes, id_size, id, class, values, offset)?;
+            number_instance(ids, tally, layouts, id, class, values, offset)?;
         }
         Item::ObjArray { id, .. } => {
             number_object(ids, tally, id, offset)?;
@@ -153,6 +135,7 @@ pub(crate) fn number(
     ensures err { IfErr result (λ f. IsObjectFaultOrMemory (known_at classes.now) id_size list.now f) }
 {
     let mut ids = ObjectIds::with_capacity(alloc, list.len(), secret)?;
+    let mut layouts = LayoutBytes::new(alloc, classes, id_size)?;
     let mut roots = Vec::new(alloc);
     let mut tally = Tally {
         repeated: 0,
@@ -160,7 +143,7 @@ pub(crate) fn number(
     };
     for i in 0..list.len() {
         let sub = list.get(i);
-        number_one(&mut ids, &mut roots, &mut tally, classes, id_size, sub)?;
+        number_one(&mut ids, &mut roots, &mut tally, &mut layouts, sub)?;
     }
     Ok(Numbered { ids, roots, tally })
 }

@@ -8,18 +8,20 @@ ghost use Rattle.hd_terms.specs.HeapFaults.{class_faults};
 ghost use Rattle.hd_records.specs.Reading.{ReadsRecords};
 ghost use Rattle.hd_decode.specs.Bodies.{ReadsBodies};
 ghost use Rattle.hd_classes.specs.Known.{AreClassesOf, known_at};
-ghost use Rattle.hd_graph.specs.ArrayRows.{AreWithin};
+ghost use Rattle.hd_graph.specs.ArrayRows.{AreWithin, weight};
 ghost use Rattle.hd_graph.specs.Numbering.{IsNumbered, IsObjectFaultOrMemory};
-ghost use Rattle.hd_graph.specs.Building.{HasAllRows, columns, AreFewAndShort, IsReadFaultOrMemory};
+ghost use Rattle.hd_graph.specs.Building.{HasAllRows, HasAllShapes, AreFewAndShort, IsReadFaultOrMemory};
 
-use crate::filling::{Rows, all_rows_of, rows_of};
+use crate::filling::{Rows, all_rows_of, all_shapes_of, rows_of};
 use crate::graph::{Graph, Repeats};
 use crate::kinds::kinds_of;
 use crate::number::{Numbered, number};
+use crate::shape::Shapes;
 use hd_classes::{Classes, names_of, repeated_loads, repeated_strings};
 use hd_decode::{Gate, decode};
 use hd_ids::secret;
 use hd_records::{Records, read_records};
+use hd_slots::UnresolvedSlots;
 use hd_subs::DumpSubs;
 use hd_terms::{IdSize, Mode, ReadFault};
 use std::alloc::{AllocError, Global};
@@ -27,8 +29,42 @@ use std::random::RandomSource;
 use std::sync::Arc;
 use std::thread::{Threads, join};
 
-/// The numbers of the objects of a file, and the rows of all its sub-records of objects. Neither needs the other, so they are made
-/// side by side; where the system refuses a thread, one after the other.
+/// The references and the shapes of the objects of all sub-records of a file. Neither need the other, so they are made side by
+/// side; where the system refuses a thread, one after the other.
+fn all_of<'a, R: Threads + Sync>(
+    rt: &R,
+    alloc: Global,
+    bytes: &'a [u8],
+    list: &DumpSubs<'_>,
+    classes: &Classes,
+    id_size: IdSize,
+) -> Result<Rows<'a>, AllocError>
+    requires within { AreWithin id_size bytes.now list.now }
+    requires small { length bytes.now < 2 ^ 31 }
+    requires classes { AreFewAndShort classes.now }
+    ensures rows { IfOk result (λ rows. HasAllRows (known_at classes.now) bytes.now id_size list.now rows.slot_table) }
+    ensures shapes { IfOk result (λ rows. HasAllShapes (known_at classes.now) id_size list.now rows.shapes.objects) }
+{
+    let rows = || -> Result<UnresolvedSlots<'_>, AllocError>
+        requires within { AreWithin id_size bytes.now list.now }
+        requires small { length bytes.now < 2 ^ 31 }
+        requires classes { AreFewAndShort classes.now }
+        ensures { IfOk result (HasAllRows (known_at classes.entry.now) bytes.entry.now id_size list.entry.now) }
+    { all_rows_of(alloc, classes, id_size, bytes, list) };
+    let shapes = || -> Result<Shapes, AllocError>
+        requires few { weight list.now ≤ 2147483647 }
+        requires classes { AreFewAndShort classes.now }
+        ensures { IfOk result (λ shapes. HasAllShapes (known_at classes.entry.now) id_size list.entry.now shapes.objects) }
+    { all_shapes_of(alloc, classes, id_size, list) };
+    let (slot_table, shapes) = join(rt, rows, shapes);
+    Ok(Rows {
+        slot_table: slot_table?,
+        shapes: shapes?,
+    })
+}
+
+/// The numbers of the objects of a file, and the references and shapes of all its sub-records of objects. Neither needs the
+/// other, so they are made side by side; where the system refuses a thread, one after the other.
 fn numbers_and_rows<'a, R: Threads + Sync>(
     rt: &R,
     alloc: Global,
@@ -42,7 +78,8 @@ fn numbers_and_rows<'a, R: Threads + Sync>(
     requires small { length bytes.now < 2 ^ 31 }
     requires classes { AreFewAndShort classes.now }
     ensures numbers { IfOk result (λ r. IsNumbered (known_at classes.now) id_size list.now r.0.ids r.0.roots.items r.0.tally) }
-    ensures rows { IfOk result (λ r. HasAllRows (known_at classes.now) bytes.now id_size list.now (columns r.1.slot_table r.1.shapes.objects)) }
+    ensures rows { IfOk result (λ r. HasAllRows (known_at classes.now) bytes.now id_size list.now r.1.slot_table) }
+    ensures shapes { IfOk result (λ r. HasAllShapes (known_at classes.now) id_size list.now r.1.shapes.objects) }
     ensures err { IfErr result (λ f. IsObjectFaultOrMemory (known_at classes.now) id_size list.now f) }
 {
     let numbers = || -> Result<Numbered, ReadFault>
@@ -54,8 +91,9 @@ fn numbers_and_rows<'a, R: Threads + Sync>(
         requires within { AreWithin id_size bytes.now list.now }
         requires small { length bytes.now < 2 ^ 31 }
         requires classes { AreFewAndShort classes.now }
-        ensures { IfOk result (λ rows. HasAllRows (known_at classes.entry.now) bytes.entry.now id_size list.entry.now (columns rows.slot_table rows.shapes.objects)) }
-    { all_rows_of(alloc, classes, id_size, bytes, list) };
+        ensures rows { IfOk result (λ rows. HasAllRows (known_at classes.entry.now) bytes.entry.now id_size list.entry.now rows.slot_table) }
+        ensures shapes { IfOk result (λ rows. HasAllShapes (known_at classes.entry.now) id_size list.entry.now rows.shapes.objects) }
+    { all_of(rt, alloc, bytes, list, classes, id_size) };
     let (numbered, rows) = join(rt, numbers, rows);
     Ok((numbered?, rows?))
 }

@@ -241,10 +241,9 @@ where
 
 /// Runs the program with these words after its name, and answers its exit status. Without words the built-in sample is
 /// served on input and output; with words a file is served, there or over connections, or its counts and totals are printed.
-/// Faults are reported on
-/// `faults`: a usage fault, or an asked help, with the text that belongs to it, any other in one line. At a usage fault, or
-/// where the file can't be read, no line is read and nothing is written on `output`. At a terminal one line on `faults` says how
-/// far the opening of the file is.
+/// Faults are reported on `faults`: a usage fault, or an asked help, with the text that belongs to it, any other in one line. At
+/// a usage fault, or where the file can't be read, no line is read and nothing is written on `output`. At a terminal one line on
+/// `faults` says how far the opening of the file is.
 pub fn program<T, R: BufRead, W: Write, E: Write>(
     rt: &T,
     words: &[String],

@@ -1,10 +1,9 @@
 use Rattle.std.proofs.Common.{ℕ, ◌<◌, length, map, subst, arith}
 use Rattle.hd_terms.specs.declared.Span.{Span}
-use Rattle.hd_terms.specs.declared.Slot.TheVariants as slots
 use Rattle.hd_subs.specs.declared.class.Constant.{Constant}
 use Rattle.hd_subs.specs.Views.{constant_view}
 use Rattle.hd_graph.specs.ArrayRows.{IsValueWithin, values_of_constants}
-use Rattle.hd_graph.proofs.ValueLemmas.{constant-at, length-constant-values, none-pushed, one-pushed, over-so-far, room-so-far, all-pushed}
+use Rattle.hd_graph.proofs.ValueLemmas.{constant-at, length-constant-values, no-ids, one-id, over-so-far, room-so-far, all-ids}
 use Rattle.hd_graph.proofs.GrownLemmas.{value-over}
 use Rattle.hd_graph.proofs.class_rows.push_constants.Goals as goal
 
@@ -13,33 +12,27 @@ abbrev none : Constant
 none = record { code = 0; value = record { start = 0; len = 0 } }
 
 pub loop-i-init : goal.loop-i-init
-loop-i-init c = none-pushed (λ i. slots.Const i) (values_of_constants (map constant_view c.args.constants.now)) c.args.slot_table.now c.args.names.now.items
+loop-i-init c = no-ids (values_of_constants (map constant_view c.args.constants.now)) c.args.slot_table.now
 
 pub push_value-requires-clause-within : goal.push_value-requires-clause-within
 push_value-requires-clause-within c =
     let within : c.loop-i.i < length (values_of_constants (map constant_view c.args.constants.now)) = omega (arith, length-constant-values c.args.constants.now) in
-    let slot = λ (i : ℕ). slots.Const i in
     let values = values_of_constants (map constant_view c.args.constants.now) in
     let first = c.args.slot_table.now in
-    let over = over-so-far slot values c.loop-i.i first c.loop-i.slot_table c.args.names.now.items c.loop-i.names.items c.loop-i.invariant in
+    let over = over-so-far values c.loop-i.i first c.loop-i.slot_table c.loop-i.invariant in
     value-over first c.loop-i.slot_table _ over
     (subst (λ (v : ℕ × Span). IsValueWithin first.size (length first.bytes) v) (constant-at c.args.constants.now c.loop-i.i none) (c.requires.within c.loop-i.i (none.code, none.value) within))
 
 pub push_value-requires-clause-room : goal.push_value-requires-clause-room
 push_value-requires-clause-room c =
-    let room = room-so-far (λ i. slots.Const i) (values_of_constants (map constant_view c.args.constants.now)) c.loop-i.i c.args.slot_table.now c.loop-i.slot_table c.args.names.now.items c.loop-i.names.items c.loop-i.invariant in
+    let room = room-so-far (values_of_constants (map constant_view c.args.constants.now)) c.loop-i.i c.args.slot_table.now c.loop-i.slot_table c.loop-i.invariant in
     omega (arith, room.0, room.1, c.requires.room)
 
 pub loop-i-preserved : goal.loop-i-preserved
 loop-i-preserved c =
     let within : c.loop-i.i < length (values_of_constants (map constant_view c.args.constants.now)) = omega (arith, length-constant-values c.args.constants.now) in
-    one-pushed (λ i. slots.Const i) (values_of_constants (map constant_view c.args.constants.now)) c.loop-i.i (none.code, none.value) c.args.slot_table.now c.loop-i.slot_table _ c.args.names.now.items c.loop-i.names.items _
-    within c.loop-i.invariant _ (constant-at c.args.constants.now c.loop-i.i none) c.in_ok-push_value.ensures.row c.in_ok-push_value.ensures.names
+    one-id (values_of_constants (map constant_view c.args.constants.now)) c.loop-i.i (none.code, none.value) c.args.slot_table.now c.loop-i.slot_table _
+    within c.loop-i.invariant _ (constant-at c.args.constants.now c.loop-i.i none) c.in_ok-push_value.ensures
 
-pub returns-clause-row : goal.returns-clause-row
-returns-clause-row c =
-    (all-pushed (λ i. slots.Const i) (values_of_constants (map constant_view c.args.constants.now)) c.loop-i.i c.args.slot_table.now c.loop-i.slot_table c.args.names.now.items c.loop-i.names.items (omega (arith, length-constant-values c.args.constants.now)) c.loop-i.invariant).0
-
-pub returns-clause-names : goal.returns-clause-names
-returns-clause-names c =
-    (all-pushed (λ i. slots.Const i) (values_of_constants (map constant_view c.args.constants.now)) c.loop-i.i c.args.slot_table.now c.loop-i.slot_table c.args.names.now.items c.loop-i.names.items (omega (arith, length-constant-values c.args.constants.now)) c.loop-i.invariant).1
+pub returns : goal.returns
+returns c = all-ids (values_of_constants (map constant_view c.args.constants.now)) c.loop-i.i c.args.slot_table.now c.loop-i.slot_table (omega (arith, length-constant-values c.args.constants.now)) c.loop-i.invariant

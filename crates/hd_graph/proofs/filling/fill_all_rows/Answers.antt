@@ -1,29 +1,27 @@
-use Rattle.std.proofs.Common.{ℕ, ap, subst, arith, length, List, take}
-use Rattle.std.proofs.lemmas.List.{length-take}
-use Rattle.hd_terms.specs.declared.IdSize.{IdSize}
+use Rattle.std.proofs.Common.{◌∙◌, ℕ, ap, sym, subst, arith, length, List}
 use Rattle.hd_classes.specs.Known.{known_at}
-use Rattle.hd_graph.specs.Building.{columns, AreLayouts}
+use Rattle.hd_classes.specs.Fits.{SizedClasses}
+use Rattle.hd_subs.specs.Views.{sub_view}
+use Rattle.hd_graph.specs.Building.{AddsItemRow}
 use Rattle.hd_graph.proofs.RowLemmas.{weight-at}
-use Rattle.hd_graph.proofs.AllRowLemmas.{all-next, few-all-shapes}
-use Rattle.hd_graph.proofs.OpenLemmas.{length-le-weight}
+use Rattle.hd_graph.proofs.AllRowLemmas.{all-next}
 use Rattle.hd_graph.proofs.filling.fill_all_rows.Goals as goal
 
-pub fill_one-requires-clause-room : goal.fill_one-requires-clause-room
-fill_one-requires-clause-room c =
+pub fill_row-requires-clause-size : goal.fill_row-requires-clause-size
+fill_row-requires-clause-size c = ap (λ (l : SizedClasses). l.size) c.loop-i.invariant.layouts ∙ c.requires.size ∙ sym c.loop-i.invariant.so_far.size_is
+
+pub fill_row-requires-clause-room : goal.fill_row-requires-clause-room
+fill_row-requires-clause-room c =
     let few = weight-at c.args.list.now c.loop-i.i _ c.get.ensures in
     omega (arith, few, c.loop-i.invariant.so_far.few, c.requires.within.few, ap (λ (xs : List ℕ). length xs) c.loop-i.invariant.so_far.ids_are)
-
-pub fill_one-requires-clause-few : goal.fill_one-requires-clause-few
-fill_one-requires-clause-few c =
-    let first = c.args.slot_table.now in
-    let few = few-all-shapes (known_at c.args.classes.now) first.bytes first.size (take c.loop-i.i c.args.list.now) (columns c.loop-i.slot_table c.loop-i.shapes.objects) c.loop-i.invariant.so_far in
-    omega (arith, few, length-take c.loop-i.i c.args.list.now, length-le-weight c.args.list.now, c.requires.within.few)
 
 pub loop-i-preserved : goal.loop-i-preserved
 loop-i-preserved c =
     let first = c.args.slot_table.now in
+    let now = c.loop-i.slot_table in
+    let next = c.fill_row.new.slot_table in
+    let adds = subst (λ (l : SizedClasses). AddsItemRow (known_at l.classes) now.bytes now.size (sub_view c.get.result).item now next) c.loop-i.invariant.layouts c.in_ok-fill_row.ensures.filled in
     record {
-      so_far = all-next (known_at c.args.classes.now) first.bytes first.size c.args.list.now c.loop-i.i _ c.get.ensures
-          (columns c.loop-i.slot_table c.loop-i.shapes.objects) (columns c.fill_one.new.slot_table c.fill_one.new.shapes.objects) c.loop-i.invariant.so_far c.in_ok-fill_one.ensures.filled;
-      layouts = subst (λ (size : IdSize). AreLayouts size c.args.classes.now c.fill_one.new.shapes.layouts) c.loop-i.invariant.so_far.size_is c.in_ok-fill_one.ensures.classes;
+      so_far = all-next (known_at c.args.layouts.now.classes) first.bytes first.size c.args.list.now c.loop-i.i _ c.get.ensures now next c.loop-i.invariant.so_far adds;
+      layouts = c.in_ok-fill_row.ensures.same ∙ c.loop-i.invariant.layouts;
     }

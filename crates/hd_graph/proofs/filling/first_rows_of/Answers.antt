@@ -2,4 +2,4 @@ use Rattle.hd_graph.proofs.MadeLemmas.{none-made}
 use Rattle.hd_graph.proofs.filling.first_rows_of.Goals as goal
 
 pub fill_first_rows-requires-clause-classes : goal.fill_first_rows-requires-clause-classes
-fill_first_rows-requires-clause-classes c = rw c.in_ok-shapes.ensures (none-made c.in_ok-slot_table.slot_table.size c.args.classes.now _ c.requires.classes c.len.ensures)
+fill_first_rows-requires-clause-classes c = rw (c.in_ok-shapes.ensures, c.in_ok-layouts.ensures) (none-made c.args.id_size c.args.classes.now _ c.requires.classes c.len.ensures)

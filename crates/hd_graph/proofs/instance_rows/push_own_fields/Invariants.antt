@@ -1,4 +1,5 @@
-use Rattle.hd_graph.proofs.LayoutLemmas.{ArePushed, first_fields}
+use Rattle.hd_classes.proofs.FieldLemmas.{first_fields}
+use Rattle.hd_graph.proofs.LayoutLemmas.{ArePushed}
 use Rattle.hd_graph.proofs.instance_rows.push_own_fields.Given as goal
 
 -- the IDs in the fields so far were added

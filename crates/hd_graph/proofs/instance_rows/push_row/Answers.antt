@@ -1,6 +1,5 @@
-use Rattle.std.proofs.Common.{◌+◌, [], ◌∷◌, ap, arith, length, refl}
+use Rattle.std.proofs.Common.{◌+◌, ap, arith, length}
 use Rattle.hd_slots.specs.Table.{Table}
-use Rattle.hd_graph.specs.Shapes.{ObjectArray}
 use Rattle.hd_graph.specs.ArrayRows.{placed_fields, value_ids}
 use Rattle.hd_graph.proofs.LayoutLemmas.{placed-few}
 use Rattle.hd_graph.proofs.AddedLemmas.{instance-added}
@@ -16,21 +15,11 @@ push-requires-clause-room c =
       c.requires.room,
     )
 
-pub returns-clause-row : goal.returns-clause-row
-returns-clause-row c =
+pub returns : goal.returns
+returns c =
     let t = c.args.slot_table.now in
     let layout = c.args.layout in
-    (instance-added (value_ids t.bytes t.size (placed_fields t.size c.args.start layout)) c.args.class (length c.args.layout + 1) (ObjectArray 0)
-    t c.push_fields.new.slot_table c.push.new.self c.end_row.new.self [] (ObjectArray 0 ∷ [])
+    instance-added (value_ids t.bytes t.size (placed_fields t.size c.args.start layout)) c.args.class (length c.args.layout + 1)
+    t c.push_fields.new.slot_table c.push.new.self c.end_row.new.self
     c.requires.filled c.in_ok-push_fields.ensures c.in_ok-push.ensures c.in_ok-end_row.ensures
-    (omega (arith, placed-few t.bytes t.size c.args.start layout)) refl).table
-
-pub returns-clause-count : goal.returns-clause-count
-returns-clause-count c =
-    omega (
-      arith,
-      placed-few c.args.slot_table.now.bytes c.args.slot_table.now.size c.args.start c.args.layout,
-      ap (λ (t : Table). t.count) c.in_ok-push_fields.ensures,
-      ap (λ (t : Table). t.count) c.in_ok-push.ensures,
-      ap (λ (t : Table). t.count) c.in_ok-end_row.ensures,
-    )
+    (omega (arith, placed-few t.bytes t.size c.args.start layout))

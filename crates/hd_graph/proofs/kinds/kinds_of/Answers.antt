@@ -1,16 +1,13 @@
 use Rattle.std.proofs.Common.{◌∙◌, ◌∷◌, Ok, ap, arith}
-use Rattle.hd_graph.specs.declared.kinds.KindLists.{KindLists}
 use Rattle.hd_graph.specs.Shapes.{row_objects}
-use Rattle.hd_graph.proofs.KindLemmas.{all-empty, none-joined, next-joined, all-joined}
+use Rattle.hd_graph.proofs.KindLemmas.{none-joined, next-joined, all-joined}
 use Rattle.hd_graph.proofs.kinds.kinds_of.Goals as goal
 
 pub loop-part-init : goal.loop-part-init
 loop-part-init g c =
     let objects = row_objects c.args.shapes.now.objects c.args.slot_table.now.ids c.args.slot_table.now.rows in
-    let empty : KindLists = record { soft = c.new.result; weak = c.new-2.result; finals = c.new-3.result; phantom = c.new-4.result } in
     rw c.into_iter-part-iterator.ensures.into_iter_gives.0
-    (none-joined objects c.in_ok-parts.parts.items (Ok empty) empty (omega (arith, c.in_ok-parts.ensures.len)) (λ i lt. (c.in_ok-parts.ensures.each i (Ok empty) lt).1.met)
-    (all-empty empty c.new.ensures.items c.new-2.ensures.items c.new-3.ensures.items c.new-4.ensures.items))
+    (none-joined objects c.in_ok-parts.parts.items (Ok c.none-lists.result) c.none-lists.result (omega (arith, c.in_ok-parts.ensures.len)) (λ i lt. (c.in_ok-parts.ensures.each i (Ok c.none-lists.result) lt).1.met) c.none-lists.ensures)
 
 pub loop-part-preserved : goal.loop-part-preserved
 loop-part-preserved g c =

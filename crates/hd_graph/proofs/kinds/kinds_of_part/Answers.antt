@@ -1,17 +1,14 @@
 use Rattle.std.proofs.Common.{◌≡◌, ◌+◌, ◌<◌, ℕ, List, length, ap, subst, arith}
-use Rattle.hd_graph.specs.declared.kinds.KindLists.{KindLists}
 use Rattle.hd_graph.specs.Shapes.{row_objects}
 use Rattle.hd_graph.specs.Kinds.{IsReferentEdge, AreKindsBetween, part_start}
 use Rattle.hd_graph.proofs.ArrayLemmas.{length-row_objects}
-use Rattle.hd_graph.proofs.KindLemmas.{part-order, part-within, none-from_not, all-empty, keeps-none, keeps-one, kinds-none, kinds-next}
+use Rattle.hd_graph.proofs.KindLemmas.{part-order, part-within, none-from_not, keeps-none, keeps-one, kinds-none, kinds-next}
 use Rattle.hd_graph.proofs.kinds.kinds_of_part.Goals as goal
 use Rattle.hd_graph.proofs.kinds.kinds_of_part.Goals.{in-Some+in_ok-push, in_default}
 
 pub loop-o-init : goal.loop-o-init
 loop-o-init c =
-    let empty : KindLists = record { soft = c.new.result; weak = c.new-2.result; finals = c.new-3.result; phantom = c.new-4.result } in
-    kinds-none (row_objects c.args.shapes.now.objects c.args.slot_table.now.ids c.args.slot_table.now.rows) (part_start (length c.ids-objects.result.now) c.args.part) empty
-    (all-empty empty c.new.ensures.items c.new-2.ensures.items c.new-3.ensures.items c.new-4.ensures.items)
+    kinds-none (row_objects c.args.shapes.now.objects c.args.slot_table.now.ids c.args.slot_table.now.rows) (part_start (length c.ids-objects.result.now) c.args.part) c.none-lists.result c.none-lists.ensures
 
 pub loop-o-preserved : goal.loop-o-preserved
 loop-o-preserved c =

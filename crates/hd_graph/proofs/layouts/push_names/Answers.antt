@@ -3,7 +3,8 @@ use Rattle.std.proofs.lemmas.List.{append-nil}
 use Rattle.hd_terms.specs.declared.Slot.{Slot}
 use Rattle.hd_terms.specs.declared.Slot.TheVariants as slots
 use Rattle.hd_graph.specs.ArrayRows.{field_names}
-use Rattle.hd_graph.proofs.LayoutLemmas.{first_fields, names-more}
+use Rattle.hd_classes.proofs.FieldLemmas.{first_fields}
+use Rattle.hd_graph.proofs.LayoutLemmas.{names-more}
 use Rattle.hd_graph.proofs.layouts.push_names.Goals as goal
 use Rattle.hd_graph.proofs.layouts.push_names.Goals.{then-is_id_type+in_ok-push, else-is_id_type}
 

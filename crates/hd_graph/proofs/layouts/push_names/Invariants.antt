@@ -1,6 +1,6 @@
 use Rattle.std.proofs.Common.{◌≡◌, ◌++◌}
 use Rattle.hd_graph.specs.ArrayRows.{field_names}
-use Rattle.hd_graph.proofs.LayoutLemmas.{first_fields}
+use Rattle.hd_classes.proofs.FieldLemmas.{first_fields}
 use Rattle.hd_graph.proofs.layouts.push_names.Given as goal
 
 -- the names of the fields so far were added

@@ -10,4 +10,7 @@ pub returns-clause-numbers : goal.returns-clause-numbers
 returns-clause-numbers g c = rw c.in_ok-numbered.was at c.join-numbered.ensures.first.0
 
 pub returns-clause-rows : goal.returns-clause-rows
-returns-clause-rows g c = rw c.in_ok-rows.was at c.join-numbered.ensures.second
+returns-clause-rows g c = rw c.in_ok-rows.was at c.join-numbered.ensures.second.0
+
+pub returns-clause-shapes : goal.returns-clause-shapes
+returns-clause-shapes g c = rw c.in_ok-rows.was at c.join-numbered.ensures.second.1

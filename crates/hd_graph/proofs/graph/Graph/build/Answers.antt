@@ -28,7 +28,7 @@ pub rows_of-requires-clause-classes : goal.rows_of-requires-clause-classes
 rows_of-requires-clause-classes g c = few-and-short c.args.bytes.now c.args.records.now.id_size _ _ c.args.records.now.segments c.requires.records c.args.list.now c.requires.list c.args.classes.now c.requires.classes c.requires.no_cycle
 
 pub kinds_of-requires-clause-columns : goal.kinds_of-requires-clause-columns
-kinds_of-requires-clause-columns g c = rw c.in_ok-slot_table-2.ensures (whole-columns c.args.bytes.now c.args.records.now.id_size _ _ c.args.records.now.segments c.requires.records c.args.list.now c.requires.list c.args.classes.now c.requires.classes c.requires.no_cycle _ _ _ c.in_ok-numbered.ensures.numbers (columns c.in_ok-slot_table.field-0.slot_table c.in_ok-slot_table.field-0.shapes.objects) c.in_ok-slot_table.ensures)
+kinds_of-requires-clause-columns g c κs within = rw c.in_ok-slot_table-2.ensures (whole-columns c.args.bytes.now c.args.records.now.id_size _ _ c.args.records.now.segments c.requires.records c.args.list.now c.requires.list c.args.classes.now c.requires.classes c.requires.no_cycle _ _ _ c.in_ok-numbered.ensures.numbers (columns c.in_ok-slot_table.field-0.slot_table c.in_ok-slot_table.field-0.shapes.objects) c.in_ok-slot_table.ensures)
 
 pub returns-in_err-kinds-clause-err : goal.returns-in_err-kinds-clause-err
 returns-in_err-kinds-clause-err g c =

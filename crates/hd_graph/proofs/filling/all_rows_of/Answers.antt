@@ -1,5 +1,0 @@
-use Rattle.hd_graph.proofs.MadeLemmas.{none-made}
-use Rattle.hd_graph.proofs.filling.all_rows_of.Goals as goal
-
-pub fill_all_rows-requires-clause-classes : goal.fill_all_rows-requires-clause-classes
-fill_all_rows-requires-clause-classes c = rw c.in_ok-shapes.ensures (none-made c.in_ok-slot_table.slot_table.size c.args.classes.now _ c.requires.classes c.len-2.ensures)

@@ -1,0 +1,60 @@
+//! The shapes of instances.
+ghost use Rattle.std.specs.Prelude.{◌≡◌, ◌<◌, ◌-◌, ◌^◌, ℕ, ◌∷◌, [], ◌++◌, length, OnOk};
+ghost use Rattle.hd_classes.specs.Fits.{length_by_number};
+ghost use Rattle.hd_classes.specs.Known.{known_at};
+ghost use Rattle.hd_graph.specs.ArrayRows.{fitting, instance_entry};
+ghost use Rattle.hd_graph.specs.Building.{AreLayouts, shape_by_number};
+
+use crate::layouts::shape_of_class;
+use crate::shape::Shapes;
+use hd_classes::{Fit, LayoutBytes};
+use hd_terms::Span;
+use std::alloc::{AllocError, Global};
+
+/// Adds the shape of an instance of the class of a number, whose values have so many bytes. The shape that the instances of a
+/// class share is made with the first.
+fn push_shape(
+    alloc: Global,
+    shapes: &mut Shapes,
+    layouts: &LayoutBytes<'_>,
+    class: usize,
+    bytes: u32,
+) -> Result<(), AllocError>
+    requires class { class < length layouts.now.classes.classes }
+    requires bytes { bytes ≡ length_by_number layouts.now.size layouts.now.classes class }
+    requires few { length shapes.old.objects < 2 ^ 32 - 1 }
+    requires classes { AreLayouts layouts.now.size layouts.now.classes shapes.old.layouts }
+    ensures added { OnOk result (shapes.new.objects ≡ shapes.old.objects ++ shape_by_number layouts.now.size layouts.now.classes class ∷ []) }
+    ensures classes { OnOk result (AreLayouts layouts.now.size layouts.now.classes shapes.new.layouts) }
+{
+    if shapes.instance_bytes(class).is_none() {
+        let shape = shape_of_class(alloc, layouts, class, bytes)?;
+        shapes.push_first_instance(class, shape)?;
+    } else {
+        shapes.push_instance(class)?;
+    }
+    Ok(())
+}
+
+/// Adds the shape of an instance. One by whose class its values can't be read is like an object array.
+pub(crate) fn push_instance_shape(
+    alloc: Global,
+    shapes: &mut Shapes,
+    layouts: &mut LayoutBytes<'_>,
+    class: u64,
+    values: Span,
+) -> Result<(), AllocError>
+    requires small { values.len < 2 ^ 32 }
+    requires few { length shapes.old.objects < 2 ^ 32 - 1 }
+    requires classes { AreLayouts layouts.old.size layouts.old.classes shapes.old.layouts }
+    ensures added { OnOk result ((id : ℕ) → shapes.new.objects ≡ shapes.old.objects ++ (instance_entry [] layouts.old.size id class values (fitting layouts.old.size values.len (known_at layouts.old.classes class))).2 ∷ []) }
+    ensures classes { OnOk result (AreLayouts layouts.old.size layouts.old.classes shapes.new.layouts) }
+    ensures same { OnOk result (layouts.new ≡ layouts.old) }
+{
+    let bytes = values.len as u32;
+    match layouts.fit(class, values.len) {
+        Fit::Class(number) => push_shape(alloc, shapes, layouts, number, bytes)?,
+        Fit::Unknown | Fit::Misfit => shapes.push_object_array(bytes)?,
+    }
+    Ok(())
+}
