@@ -81,6 +81,7 @@ impl Classes {
     }
 
     /// The number of the class of an ID, if its chain is whole.
+    #[inline(always)]
     pub fn index_of(&self, id: u64) -> Option<usize>
         ensures { result ≡ number_of self.now id }
     {

@@ -106,14 +106,8 @@ impl<'a> LayoutBytes<'a> {
         self.classes
     }
 
-    /// The size of an identifier in the file.
-    pub fn id_size(&self) -> IdSize
-        ensures { result ≡ self.now.size }
-    {
-        self.id_size
-    }
-
     /// The bytes of the values of the class of a number, unless they are more than this limit.
+    #[inline(always)]
     fn bytes_of(&mut self, class: usize, limit: u64) -> Option<u64>
         requires { class < length self.old.classes.classes }
         ensures bytes { MatchOption result (limit < length_by_number self.old.size self.old.classes class) (λ bytes. bytes ≡ length_by_number self.old.size self.old.classes class) }
@@ -128,6 +122,7 @@ impl<'a> LayoutBytes<'a> {
     }
 
     /// How so many bytes of values fit the layout of the class of an ID.
+    #[inline(always)]
     pub fn fit(&mut self, class: u64, len: u64) -> Fit
         ensures fit { IsFit self.old.size len self.old.classes class result }
         ensures same { self.new ≡ self.old }

@@ -15,6 +15,7 @@ use std::alloc::{AllocError, Global};
 /// # Errors
 ///
 /// Memory ran out.
+#[inline(always)]
 pub fn note_id(ids: &mut ObjectIds, repeated: &mut u64, id: u64) -> Result<bool, AllocError>
     requires { repeated.old + 1 < 2 ^ 64 }
     ensures noted { OnOk result (NotesId id ids.old repeated.old ids.new repeated.new) }

@@ -1,7 +1,6 @@
 -- Going through the fields of a layout, one after another.
-use Rattle.std.proofs.Common.{◌≡◌, ◌∙◌, ℕ, suc, ◌+◌, ◌<◌, ◌≤◌, List, [], ◌∷◌, ◌++◌, length, get_or, take, drop, map, Bool, true, false, cond, refl, sym, ap, subst, arith, append_assoc, length-append, add-zero}
-use Rattle.std.proofs.lemmas.List.{append-nil, take_more, take_all, length-take, length-map, take-append-drop, map-append}
-use Rattle.std.proofs.lemmas.List.Sums.{sum_by-append}
+use Rattle.std.proofs.Common.{◌≡◌, ◌∙◌, ℕ, suc, ◌+◌, ◌<◌, ◌≤◌, List, [], ◌∷◌, ◌++◌, length, get_or, map, Bool, true, false, cond, refl, sym, ap, subst, arith, append_assoc, length-append, add-zero}
+use Rattle.std.proofs.lemmas.List.{append-nil}
 use Rattle.hd_terms.specs.declared.IdSize.{IdSize}
 use Rattle.hd_terms.specs.declared.Span.{Span}
 use Rattle.hd_terms.specs.declared.Slot.{Slot}
@@ -16,7 +15,7 @@ use Rattle.hd_graph.specs.ArrayRows.{IsValueWithin, placed_fields, value_ids, fi
 use Rattle.hd_graph.specs.Building.{GrowsBy}
 use Rattle.hd_graph.proofs.GrownLemmas.{IsOver, grown-over, over-same, over-new, value-over}
 use Rattle.hd_graph.proofs.ValueLemmas.{ids-append, ids-le}
-use Rattle.hd_classes.proofs.FieldLemmas.{first_fields, one-more, all-fields, length-first, len-append, len-one, bytes-more, bytes-within, layout_len-cons}
+use Rattle.hd_classes.proofs.FieldLemmas.{first_fields, one-more, length-first, len-append, len-one, bytes-more, bytes-within, layout_len-cons}
 
 -- the names of fields and of those behind them
 pub names-append : (k : ℕ) (xs ys : List classes_of.LayoutField) → field_names k (xs ++ ys) ≡ field_names k xs ++ field_names (k + length xs) ys

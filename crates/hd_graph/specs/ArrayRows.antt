@@ -1,6 +1,6 @@
 -- The rows and shapes of objects, read from the file by their sub-records' spans.
 -- Source: HPROF binary format, CLASS DUMP, INSTANCE DUMP, OBJECT ARRAY DUMP and PRIMITIVE ARRAY DUMP.
-use Rattle.std.specs.Prelude.{◌≡◌, ℕ, zero, suc, ◌+◌, ◌*◌, ◌/◌, ◌≤◌, ◌==◌, if◌then◌else◌, map, List, [], ◌∷◌, ◌++◌, length, drop, sum_by, slice_get, All, Option, Some, None, IsSome}
+use Rattle.std.specs.Prelude.{◌≡◌, ℕ, zero, suc, ◌+◌, ◌*◌, ◌/◌, ◌≤◌, ◌==◌, if◌then◌else◌, map, List, [], ◌∷◌, ◌++◌, length, drop, sum_by, All, Option, Some, None}
 use Rattle.std.specs.Option.{option_map, option_and_then}
 use Rattle.std.specs.List.{filter_map}
 use Rattle.byteorder.specs.Endian.{big_number}

@@ -1,13 +1,12 @@
 -- What numbering the objects in file order comes to.
-use Rattle.std.specs.Prelude.{◌≡◌, ◌⊎◌, ◌<◌, ◌==◌, ◌+◌, ◌&&◌, not, if◌then◌else◌, ℕ, true, false, List, slice_get, [], ◌∷◌, ◌++◌, map, Option, Some, All}
-use Rattle.std.specs.Option.{option_map}
+use Rattle.std.specs.Prelude.{◌≡◌, ◌⊎◌, ◌<◌, ◌==◌, ◌+◌, ◌&&◌, not, if◌then◌else◌, ℕ, true, false, List, slice_get, [], ◌∷◌, ◌++◌, map, Some, All}
 use Rattle.std.specs.List.{list_any, filter_map}
 use Rattle.hd_terms.specs.declared.IdSize.{IdSize}
 use Rattle.hd_terms.specs.declared.errors.Cause.TheVariants as causes
 use Rattle.hd_terms.specs.declared.errors.ReadFault.{ReadFault}
 use Rattle.hd_terms.specs.SubRecords.{Sub, Item}
 use Rattle.hd_terms.specs.FirstRecords.{repeats}
-use Rattle.hd_terms.specs.Classes.{ResolvedClass, layout_len, KnownClasses}
+use Rattle.hd_terms.specs.Classes.{KnownClasses}
 use Rattle.hd_terms.specs.HeapFaults.{is_size_mismatch, object_faults}
 use Rattle.hd_terms.specs.Objects.{is_opaque, opaque_in}
 use Rattle.hd_terms.specs.ReadFaults.{fault}

@@ -41,6 +41,7 @@ fn id_of(item: Item<'_>) -> Option<u64>
 }
 
 /// Adds the row of the object of a sub-record, if it is one.
+#[inline(always)]
 fn fill_row(
     slot_table: &mut UnresolvedSlots<'_>,
     layouts: &mut LayoutBytes<'_>,
@@ -70,6 +71,7 @@ fn fill_row(
 }
 
 /// Adds the shape of the object of a sub-record, if it is one.
+#[inline(always)]
 fn fill_shape(
     alloc: Global,
     shapes: &mut Shapes,

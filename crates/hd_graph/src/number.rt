@@ -34,6 +34,7 @@ pub(crate) struct Numbered {
 
 /// Numbers an object by its ID, if that is new, and counts it as repeated if it isn't. The ID 0 is a fault. Answers whether
 /// it is new.
+#[inline(always)]
 fn number_object(
     ids: &mut ObjectIds,
     tally: &mut Tally,
@@ -57,6 +58,7 @@ fn number_object(
 }
 
 /// Numbers an instance. If its ID is new, it has to fit its class's layout, and it is counted if its class isn't known.
+#[inline(always)]
 fn number_instance(
     ids: &mut ObjectIds,
     tally: &mut Tally,
@@ -89,6 +91,7 @@ fn number_instance(
 }
 
 /// Numbers an object, or keeps a root.
+#[inline(always)]
 fn number_one(
     ids: &mut ObjectIds,
     roots: &mut Vec<StoredRoot>,

@@ -29,6 +29,7 @@ impl<'a> Model for Finder<'a> {
 
 impl<'a> Finder<'a> {
     /// The number of an ID, if it was noted.
+    #[inline(always)]
     pub fn index_of(&mut self, id: u64) -> Option<usize>
         ensures first { result ≡ position (λ x. id == x) self.old }
         ensures same { self.new ≡ self.old }

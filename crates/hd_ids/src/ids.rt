@@ -103,6 +103,7 @@ impl ObjectIds {
     }
 
     /// Notes an ID, and answers whether it is new. Out of memory, nothing is noted.
+    #[inline(always)]
     pub fn note(&mut self, id: u64) -> Result<bool, AllocError>
         ensures noted { OnOk result (self.new ≡ noted self.old id) }
         ensures is_new { IfOk result (λ new. new ≡ not (is_noted self.old id)) }

@@ -31,6 +31,7 @@ impl<'a> Model for NearIds<'a> {
 
 impl<'a> NearIds<'a> {
     /// The number of an ID, if it is one of them.
+    #[inline(always)]
     pub(crate) fn index_of(&mut self, id: u64) -> Option<usize>
         ensures first { result ≡ position (λ x. id == x) self.old }
         ensures same { self.new ≡ self.old }

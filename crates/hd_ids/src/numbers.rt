@@ -89,6 +89,7 @@ impl Numbers {
     }
 
     /// The number at a place.
+    #[inline(always)]
     pub(crate) fn get(&self, slot: usize) -> u32
         requires { slot < length self.now }
         ensures { result ≡ slice_index self.now slot }
@@ -104,6 +105,7 @@ impl Numbers {
     }
 
     /// Puts a number at a place.
+    #[inline(always)]
     pub(crate) fn set(&mut self, slot: usize, number: u32) -> Result<(), AllocError>
         requires within { slot < length self.old }
         requires some { 1 ≤ number }

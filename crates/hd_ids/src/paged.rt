@@ -113,6 +113,7 @@ impl PagedIds {
 
     /// Notes an ID, and answers whether it is new, or `None` where rows don't serve: a further row would have too few IDs,
     /// or the ID's number would have too many bits. Then, and out of memory, nothing is noted.
+    #[inline(always)]
     pub(crate) fn note(&mut self, id: u64) -> Result<Option<bool>, AllocError>
         ensures noted { IfOk result (λ answer. IfSome answer (λ new. self.new ≡ noted self.old id)) }
         ensures is_new { IfOk result (λ answer. IfSome answer (λ new. new ≡ not (is_noted self.old id))) }

@@ -34,6 +34,7 @@ pub(crate) fn row_of(pages: &IndexSet<u64, PageHasher>, page: u64) -> usize
 }
 
 /// The row of a page, where that of the last page is known.
+#[inline(always)]
 pub(crate) fn row_after(
     pages: &IndexSet<u64, PageHasher>,
     last_page: u64,
@@ -53,6 +54,7 @@ pub(crate) fn row_after(
 }
 
 /// What stands at the place of an ID in a row, 0 where there is no such row.
+#[inline(always)]
 pub(crate) fn number_in(numbers: &Numbers, row: usize, id: u64) -> u32
     requires { row ≤ 2 ^ 32 }
     ensures { result ≡ slice_index numbers.now (row * 512 + rows.place_of id) }
@@ -92,6 +94,7 @@ pub(crate) fn add_row(
 }
 
 /// Adds an ID, and writes its number into its row.
+#[inline(always)]
 pub(crate) fn add_id(
     ids: &mut Vec<u64>,
     numbers: &mut Numbers,

@@ -19,6 +19,7 @@ const PART: usize = 65_536;
 
 /// The number of the object whose ID lies at an offset of the file, `NULL` for the ID 0, and the marked offset where no object
 /// has the ID.
+#[inline(always)]
 fn found(finder: &mut Finder<'_>, id_size: IdSize, bytes: &[u8], offset: u32) -> u32
     requires within { IsIdWithin id_size (length bytes.now) offset }
     requires small { length bytes.now < 2 ^ 31 }

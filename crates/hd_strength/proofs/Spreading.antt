@@ -22,7 +22,7 @@ use Rattle.hd_strength.specs.Buckets.{bucket, TakesFirst}
 use Rattle.hd_strength.specs.Found.{Findings}
 use Rattle.hd_strength.specs.Rows.{width, edge_at}
 use Rattle.hd_strength.specs.Growing.{rank_at, offered_strength, offer_at, IsBacked, IsHadOrOffered, IsGrowing, IsSearching, NotQueued, NotQueuedBelow, HasComeTo, HasAccepted, Reaches, IsPassedOver, IsAccepted, IsOffered, IsTakenOut, HasNoneQueued, unreached_count, to_do}
-use Rattle.hd_strength.proofs.Lists.{Contains-nil, Contains-head, Contains-tail, Contains-cons_cases}
+use Rattle.hd_strength.proofs.Lists.{Contains-nil}
 use Rattle.hd_strength.proofs.RowLemmas.{edge_stands_at, at_source, edge_has_index, is_at, IsAt}
 use Rattle.hd_strength.proofs.Grow.{AreRows, Extends, extends, extends-first, weaken, decline, offer, none_left, descend, take, offered_strength-le, settled_in_the_end}
 use Rattle.hd_strength.proofs.Holding.{weight, weight-none, weight-some}

@@ -137,6 +137,7 @@ impl Removed {
     }
 
     /// Whether the reference at an index of an object's slots, of a kind, is taken away.
+    #[inline(always)]
     pub fn slot(&self, o: u32, index: u32, kind: EdgeKind) -> bool
         ensures { result ≡ is_removed self.now o index kind }
     {

@@ -110,6 +110,7 @@ fn begin(alloc: Global, edited: Edited<'_>, found: Found) -> Result<Search, NoMe
 
 /// The slot at an index of an object where all is kept of what it reaches. Where strengths alone are kept any slot will do, and
 /// none is looked up.
+#[inline(always)]
 fn slot_to_keep(graph: &Graph, found: &Found, o: u32, index: u32) -> Slot
     requires object { o < length graph.now.objects }
     requires index { index < width graph.now o }
@@ -122,6 +123,7 @@ fn slot_to_keep(graph: &Graph, found: &Found, o: u32, index: u32) -> Slot
 }
 
 /// Reaches an object by the reference at an index of another's slots, and queues it if it passes its strength on.
+#[inline(always)]
 fn reach(
     edited: Edited<'_>,
     search: &mut Search,
@@ -189,6 +191,7 @@ fn accept_offers(
 
 /// What the reference at an index of an object's slots gives its target, if nothing reaches that yet. The strength is the
 /// object's.
+#[inline(always)]
 fn gain_at(
     edited: Edited<'_>,
     search: &Search,
@@ -220,6 +223,7 @@ fn gain_at(
 
 /// Gives the target of the reference at an index what it gains: at once if that is the strength of the object, which is
 /// being spread, and else by an offer.
+#[inline(always)]
 fn relax_edge(
     edited: Edited<'_>,
     search: &mut Search,
@@ -252,6 +256,7 @@ fn relax_edge(
 }
 
 /// Passes on the strength of an object that was queued.
+#[inline(always)]
 fn relax_edges(
     edited: Edited<'_>,
     search: &mut Search,
@@ -275,6 +280,7 @@ fn relax_edges(
 /// Takes out the object that passes its strength on next. Where all is kept of the objects it is the one that was queued
 /// first, so that supports make short chains, and what the next ones will ask for is read ahead. Where only strengths are
 /// asked for it is the one that was queued last: what an object refers to mostly lies near it in memory.
+#[inline(always)]
 fn take_next(graph: &Graph, search: &mut Search) -> Option<u32>
     ensures none { IfNone result (HasNoneQueued search.old search.new) }
     ensures some { IfSome result (λ o. IsTakenOut search.old search.new o) }

@@ -70,6 +70,7 @@ impl<'a> DumpSubs<'a> {
     }
 
     /// The part that has one of them, and its index there. They are numbered from 0 through all parts.
+    #[inline(always)]
     fn place(&self, i: usize) -> (&Subs<'a>, usize)
         requires { i < length self.now }
         ensures within { result.1 < length result.0.now }
@@ -86,6 +87,7 @@ impl<'a> DumpSubs<'a> {
     }
 
     /// One of them; they are numbered from 0 through all parts.
+    #[inline(always)]
     pub fn get(&self, i: usize) -> Sub<'_>
         requires { i < length self.now }
         ensures { slice_get self.now i ≡ Some (sub_view result) }

@@ -81,6 +81,7 @@ fn read_primitive_array(bytes: &[u8], id_size: IdSize, offset: u32) -> Item<'sta
 }
 
 /// What is read at an offset: by its tag an instance or an object array, and else a primitive array.
+#[inline(always)]
 pub(crate) fn read_packed(bytes: &[u8], id_size: IdSize, offset: u32) -> Item<'static>
     requires { offset + 25 ≤ length bytes.now }
     ensures { item_view result ≡ packed_item id_size bytes.now offset }

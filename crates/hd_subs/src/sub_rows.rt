@@ -123,6 +123,7 @@ impl SubRows {
     }
 
     /// One of them; they are numbered from 0.
+    #[inline(always)]
     pub(crate) fn get(&self, i: usize) -> Sub<'_>
         requires { i < length self.now }
         ensures { slice_get self.now i ≡ Some (sub_view result) }

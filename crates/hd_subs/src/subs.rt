@@ -122,6 +122,7 @@ impl<'a> Subs<'a> {
     }
 
     /// One of them; they are numbered from 0.
+    #[inline(always)]
     pub fn get(&self, i: usize) -> Sub<'_>
         requires { i < length self.now }
         ensures { slice_get self.now i ≡ Some (sub_view result) }
