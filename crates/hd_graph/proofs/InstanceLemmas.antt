@@ -23,7 +23,8 @@ use Rattle.hd_terms.specs.Dump.{Object, SlotEntry}
 use Rattle.hd_terms.specs.Slots.{strong_slot, field_kind, field_slots, instance_slots}
 use Rattle.hd_terms.specs.Objects.{object_of}
 use Rattle.hd_slots.specs.Table.{HasIdAt}
-use Rattle.hd_classes.specs.Fits.{IsMisfit, FitsClass}
+use Rattle.hd_classes.specs.Fits.{IsMisfit, FitsClass, SizedClasses}
+use Rattle.hd_classes.specs.Known.{known_at, known_by_number}
 use Rattle.hd_graph.specs.Shapes.{shape_bytes, named_slots, with_kind, referent_kind, HasShape, ComesBefore, IsRising}
 use Rattle.hd_graph.specs.ArrayRows.{placed_fields, value_ids, field_names, layout_names, fitting, instance_entry}
 use Rattle.hd_classes.proofs.FieldLemmas.{layout_len-cons}
@@ -40,13 +41,21 @@ fitting-len size len None k is = absurd cc
 fitting-len size len (Some x) k is = fitting-one size len x k (eqb len (layout_len size x.layout)) refl is
 
 -- the class by whose layout values are read, where they fit it, and where they don't
-pub fits-fitting : (size : IdSize) (len : ℕ) (known by_number : Option ResolvedClass) → FitsClass size len known by_number → (x : ResolvedClass) → by_number ≡ Some x → fitting size len known ≡ Some x
+fits-fitting : (size : IdSize) (len : ℕ) (known by_number : Option ResolvedClass) → FitsClass size len known by_number → (x : ResolvedClass) → by_number ≡ Some x → fitting size len known ≡ Some x
 fits-fitting size len known by_number h x is =
     let same : h.k ≡ x = same_class (sym h.numbered ∙ is) in
     ap (fitting size len) h.is ∙ ap (λ (b : Bool). let o : Option ResolvedClass = cond b (Some h.k) None in o) (eq-eqb len (layout_len size h.k.layout) h.same) ∙ ap (λ (y : ResolvedClass). Some y) same
   where
     same_class : {a b : ResolvedClass} → Some a ≡ Some b → a ≡ b
     same_class e = cc
+
+-- the same, by the number of the class among the classes that are known
+pub fits-numbered : (size : IdSize) (len number class : ℕ) (before after : SizedClasses) (k : ResolvedClass) → before.size ≡ size → after ≡ before
+    → FitsClass before.size len (known_at before.classes class) (known_by_number before.classes number)
+    → known_by_number after.classes number ≡ Some k → fitting size len (known_at before.classes class) ≡ Some k
+fits-numbered size len number class before after k sizes same fits is =
+    subst (λ (n : IdSize). fitting n len (known_at before.classes class) ≡ Some k) sizes
+    (fits-fitting before.size len (known_at before.classes class) (known_by_number before.classes number) fits k (ap (λ (l : SizedClasses). known_by_number l.classes number) (sym same) ∙ is))
 
 pub misfit-fitting : (size : IdSize) (len : ℕ) (known : Option ResolvedClass) → IsMisfit size len known → fitting size len known ≡ None
 misfit-fitting size len known h = ap (fitting size len) h.is ∙ ap (λ (b : Bool). let o : Option ResolvedClass = cond b (Some h.k) None in o) (ne_eqb len (layout_len size h.k.layout) h.other)

@@ -1,7 +1,6 @@
-use Rattle.std.proofs.Common.{◌≡◌, ◌∙◌, ℕ, List, length, ap, sym, subst}
+use Rattle.std.proofs.Common.{◌≡◌, ◌∙◌, ℕ, length, ap, sym, subst}
 use Rattle.std.specs.Prelude.{count_by}
 use Rattle.std.specs.List.{range_with_len}
-use Rattle.hd_terms.specs.declared.Event.{Event}
 use Rattle.hd_terms.specs.Kept.{AreKept}
 use Rattle.hd_totals.specs.Fallen.{falls_from}
 use Rattle.hd_queries.proofs.FallenLemmas.{fell-count}

@@ -1,9 +1,8 @@
-use Rattle.std.proofs.Common.{◌∙◌, [], ◌∷◌, ◌++◌, List, ℕ, length, inl, ap, sym, arith}
+use Rattle.std.proofs.Common.{[], length, inl}
 use Rattle.std.proofs.lemmas.List.Elements.{All-push}
-use Rattle.hd_terms.specs.SubRecords.{Sub}
 use Rattle.hd_subs.specs.Rows.{row_view}
 use Rattle.hd_subs.specs.Packed.{IsEntry}
-use Rattle.hd_subs.proofs.EntryLemmas.{push-row, push-packed}
+use Rattle.hd_subs.proofs.EntryLemmas.{push-row}
 use Rattle.hd_subs.proofs.subs.Subs.push.Goals as goal
 
 pub invariant_of-self-in-Some : goal.invariant_of-self-in-Some

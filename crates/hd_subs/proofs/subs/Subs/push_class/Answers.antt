@@ -1,4 +1,3 @@
-use Rattle.std.proofs.Common.{◌∙◌}
 use Rattle.hd_terms.specs.SubRecords.{Class}
 use Rattle.hd_subs.specs.Views.{class_view}
 use Rattle.hd_subs.proofs.EntryLemmas.{push-row}
