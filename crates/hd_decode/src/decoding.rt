@@ -2,35 +2,17 @@
 ghost use Rattle.std.specs.Prelude.{◌≤◌, ◌<◌, ◌^◌, length, All, IfOk, IfErr, OnOk};
 ghost use Rattle.hd_terms.specs.Workers.{IsWorkers};
 ghost use Rattle.hd_records.specs.Reading.{ReadsRecords};
-ghost use Rattle.hd_subs.specs.Reading.{AppendsSegment, IsSegmentFaultOrMemory};
-ghost use Rattle.hd_terms.specs.Classes.{bytes_of_span};
 ghost use Rattle.hd_decode.specs.Bodies.{ReadsBodies, IsSpanWithin, IsBodiesFaultOrMemory};
 ghost use Rattle.hd_decode.specs.Shares.{IsPart, AreJoined, IsFirstFaultOrMemory, subs_in, share_at};
 
 use crate::gate::Gate;
 use crate::shares::shares_of;
 use hd_records::Records;
-use hd_subs::{DumpSubs, Subs, read_segment_into};
+use hd_subs::{DumpSubs, SegmentReader, Subs};
 use hd_terms::{IdSize, ReadFault, Span};
 use std::alloc::Global;
 use std::thread;
 use std::thread::Threads;
-
-/// Adds the sub-records of one segment, whose body is a span of the file.
-fn read_body(
-    list: &mut Subs<'_>,
-    bytes: &[u8],
-    id_size: IdSize,
-    span: Span,
-) -> Result<(), ReadFault>
-    requires { IsSpanWithin bytes.now span }
-    ensures ok { OnOk result (AppendsSegment id_size span.start (bytes_of_span bytes.now span) list.old list.new) }
-    ensures err { IfErr result (λ f. IsSegmentFaultOrMemory id_size span.start (bytes_of_span bytes.now span) f) }
-{
-    let start = span.start as usize;
-    let body = &bytes[start..start + span.len as usize];
-    read_segment_into(list, body, id_size, span.start)
-}
 
 /// The sub-records of a worker's share of the segments, in file order.
 fn read_share<'a>(
@@ -42,11 +24,11 @@ fn read_share<'a>(
     requires { All (IsSpanWithin bytes.now) share.now }
     ensures { IsPart id_size bytes.now share.now result }
 {
-    let mut list = Subs::new(alloc, bytes, id_size);
+    let mut reader = SegmentReader::new(alloc, bytes, id_size);
     for span in share {
-        read_body(&mut list, bytes, id_size, *span)?;
+        reader.read(*span)?;
     }
-    Ok(list)
+    Ok(reader.into_subs())
 }
 
 /// What workers read, one part after another, or the fault of the first part that has one.

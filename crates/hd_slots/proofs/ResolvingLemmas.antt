@@ -1,9 +1,9 @@
 -- Lemmas on resolving: offsets of IDs become numbers of objects.
-use Rattle.std.proofs.Common.{◌≡◌, ◌≢◌, ◌∙◌, ℕ, ◌+◌, ◌-◌, ◌<◌, ◌≤◌, ◌^◌, inl, inr, List, [], ◌∷◌, ◌++◌, length, map, get_or, take, drop, set, Option, Some, None, refl, sym, ap, subst, arith, All, eqb, eqb-true, ne_eqb, length-append, add-zero}
+use Rattle.std.proofs.Common.{◌≡◌, ◌≢◌, ◌∙◌, ℕ, zero, suc, ◌+◌, ◌-◌, ◌<◌, ◌≤◌, ◌^◌, inl, inr, List, [], ◌∷◌, ◌++◌, length, map, get_or, take, drop, set, Option, Some, None, refl, sym, ap, subst, arith, All, eqb, eqb-true, ne_eqb, length-append, add-zero}
 use Rattle.std.specs.List.{position}
 use Rattle.std.specs.Option.{option_map_or}
 use Rattle.std.proofs.lemmas.Bool.{cases_eq, lt-ltb, le-ltb}
-use Rattle.std.proofs.lemmas.List.{take_more, take_more_set, map-append, drop-set-lt, get_or-drop, length-set, append-nil, set-get_or}
+use Rattle.std.proofs.lemmas.List.{take_more, take_more_set, map-append, drop-set-lt, get_or-drop, get_or-take, length-take, length-drop, length-set, append-nil, set-get_or}
 use Rattle.std.proofs.lemmas.List.Elements.{All-head, All-tail, All-push, All-nil, All-cons}
 use Rattle.std.proofs.lemmas.List.Quantifiers.{position-Some}
 use Rattle.std.proofs.lemmas.Grind.{drop_more_same}
@@ -11,13 +11,21 @@ use Rattle.hd_terms.specs.declared.IdSize.{IdSize}
 use Rattle.hd_terms.specs.declared.IdSize.TheVariants as sizes
 use Rattle.hd_slots.specs.Table.{null_code, id_at, IsIdWithin}
 use Rattle.hd_slots.specs.Codes.{id_of_code, target_of_code, IsCode, IsLonger}
-use Rattle.hd_slots.specs.Resolving.{mark, found_for, found_code, id_of_found, IsFound}
+use Rattle.hd_slots.specs.Resolving.{mark, found_for, found_code, id_of_found, IsFound, IsUnmarked, AreKeptSoFar}
 use Rattle.hd_slots.proofs.CodeLemmas.{null-nowhere, null-code, absent-code, id-object, codes-longer, ids-longer}
 
 -- what stands at an index, where nothing from it on has changed
-at-rest : (before items : List ℕ) (i : ℕ) → drop i items ≡ drop i before → get_or items i 0 ≡ get_or before i 0
+pub at-rest : (before items : List ℕ) (i : ℕ) → drop i items ≡ drop i before → get_or items i 0 ≡ get_or before i 0
 at-rest before items i rest =
     ap (λ (n : ℕ). get_or items n 0) (sym (add-zero i)) ∙ sym (get_or-drop i items 0 0) ∙ ap (λ (xs : List ℕ). get_or xs 0 0) rest ∙ get_or-drop i before 0 0 ∙ ap (λ (n : ℕ). get_or before n 0) (add-zero i)
+
+-- what holds of all that stood from an earlier index on
+pub still-holds : (P : ℕ → Type 0) (before items : List ℕ) (start i : ℕ) → drop i items ≡ drop i before → start ≤ i → i < length before → All P (drop start before) → P (get_or items i 0)
+still-holds P before items start i rest le lt all =
+    let k : ℕ = i - start in
+    let there : k < length (drop start before) = omega (arith, le, lt, length-drop start before) in
+    let index : start + k ≡ i = omega (arith, le) in
+    subst P (get_or-drop start before k 0 ∙ ap (λ (j : ℕ). get_or before j 0) index ∙ sym (at-rest before items i rest)) (all k 0 there)
 
 module _ (f : ℕ → ℕ) (before : List ℕ) where
   -- the numbers before an index are mapped, those from it on are as they were
@@ -117,14 +125,7 @@ module _ (ids bytes : List ℕ) (size : IdSize) where
         ap (λ (x : ℕ). x ∷ map (id_of_found ids bytes size) (map (found_code ids bytes size) offsets)) here.1 ∙ ap (λ (xs : List ℕ). id_at bytes size p ∷ xs) more.1,
       )
 
-  -- the numbers before an index are done, those from it on are as they were found
-  pub record ArePackedSoFar (before items absent : List ℕ) (i : ℕ) : Type 0 where
-    pub codes : All (IsCode ids absent) (take i items)
-    pub ids_are : map (id_of_code ids absent) (take i items) ≡ map (id_of_found ids bytes size) (take i before)
-    pub rest : drop i items ≡ drop i before
-    pub few : length absent ≤ i
-
-  module _ (before items absent : List ℕ) (i : ℕ) (h : ArePackedSoFar before items absent i) (lt : i < length items) (lt' : i < length before) where
+  module _ (before items absent : List ℕ) (i : ℕ) (h : AreKeptSoFar ids bytes size before items absent i) (lt : i < length items) (lt' : i < length before) where
     -- the number at the index is as it was found
     pub as-found : get_or items i 0 ≡ get_or before i 0
     as-found = at-rest before items i h.rest
@@ -133,7 +134,7 @@ module _ (ids bytes : List ℕ) (size : IdSize) where
     item = get_or items i 0
 
     -- it becomes this number
-    pub becomes : (longer : List ℕ) (code : ℕ) → IsLonger absent longer → IsCode ids longer code → id_of_code ids longer code ≡ id_of_found ids bytes size item → ArePackedSoFar before (set items i code) longer (i + 1)
+    pub becomes : (longer : List ℕ) (code : ℕ) → IsLonger absent longer → IsCode ids longer code → id_of_code ids longer code ≡ id_of_found ids bytes size item → AreKeptSoFar ids bytes size before (set items i code) longer (i + 1)
     becomes longer code grown is stands = record {
       codes = rw (take_more_set items i code lt) (All-push (IsCode ids longer) (take i items) code (subst (λ (xs : List ℕ). All (IsCode ids xs) (take i items)) (sym grown.is) (codes-longer ids absent grown.more (take i items) h.codes)) is);
       ids_are =
@@ -147,13 +148,13 @@ module _ (ids bytes : List ℕ) (size : IdSize) where
     }
 
     -- it stays as it is
-    pub stays : IsCode ids absent item → id_of_code ids absent item ≡ id_of_found ids bytes size item → ArePackedSoFar before items absent (i + 1)
+    pub stays : IsCode ids absent item → id_of_code ids absent item ≡ id_of_found ids bytes size item → AreKeptSoFar ids bytes size before items absent (i + 1)
     stays is stands =
         let same : IsLonger absent absent = record { more = []; is = sym (append-nil absent); one = omega arith } in
-        subst (λ (xs : List ℕ). ArePackedSoFar before xs absent (i + 1)) (set-get_or items i 0) (becomes absent item same is stands)
+        subst (λ (xs : List ℕ). AreKeptSoFar ids bytes size before xs absent (i + 1)) (set-get_or items i 0) (becomes absent item same is stands)
 
   -- a number that isn't marked is a number as it is
-  pub unmarked : (absent : List ℕ) (item : ℕ) → length ids < 2 ^ 31 → All (λ id. 0 < id) ids → IsFound ids bytes size item → ((mark ≤ item) → item ≡ null_code)
+  pub unmarked : (absent : List ℕ) (item : ℕ) → length ids < 2 ^ 31 → All (λ id. 0 < id) ids → IsFound ids bytes size item → IsUnmarked item
       → IsCode ids absent item × (id_of_code ids absent item ≡ id_of_found ids bytes size item)
   unmarked absent item few no_null found plain = elim found.known [
     | inl null ↦ rw null (null-code ids absent (omega arith) no_null, refl)
@@ -162,6 +163,33 @@ module _ (ids bytes : List ℕ) (size : IdSize) where
         (record { target = rw same found.target; known = inr (omega arith) }, same)
     | inr (inr m) ↦ absurd (m.1 (plain m.0))
   ]
+
+  -- those of a block but the last, and the last
+  first-of : (start n : ℕ) (items : List ℕ) → All IsUnmarked (take (suc n) (drop start items)) → All IsUnmarked (take n (drop start items))
+  first-of start n items plain k d k-lt =
+      let shorter : k < n = omega (arith, k-lt, length-take n (drop start items)) in
+      let there : k < length (take (suc n) (drop start items)) = omega (arith, k-lt, length-take n (drop start items), length-take (suc n) (drop start items)) in
+      subst IsUnmarked (get_or-take (suc n) (drop start items) k d (omega (arith, shorter)) ∙ sym (get_or-take n (drop start items) k d shorter)) (plain k d there)
+
+  last-of : (start n : ℕ) (items : List ℕ) → start + suc n ≤ length items → All IsUnmarked (take (suc n) (drop start items)) → IsUnmarked (get_or items (start + n) 0)
+  last-of start n items within plain =
+      let there : n < length (take (suc n) (drop start items)) = omega (arith, within, length-take (suc n) (drop start items), length-drop start items) in
+      subst IsUnmarked (get_or-take (suc n) (drop start items) n 0 (omega arith) ∙ get_or-drop start items n 0) (plain n 0 there)
+
+  -- so are many, one after another
+  pub all-unmarked : (before items absent : List ℕ) (start n : ℕ) → length ids < 2 ^ 31 → All (λ id. 0 < id) ids → All (IsFound ids bytes size) before → length items ≡ length before
+      → start + n ≤ length items → All IsUnmarked (take n (drop start items)) → AreKeptSoFar ids bytes size before items absent start → AreKeptSoFar ids bytes size before items absent (start + n)
+  all-unmarked before items absent start zero few no_null found len within plain h = subst (λ (i : ℕ). AreKeptSoFar ids bytes size before items absent i) (sym (add-zero start)) h
+  all-unmarked before items absent start (suc n) few no_null found len within plain h =
+      let i : ℕ = start + n in
+      let lt : i < length items = omega arith in
+      let lt' : i < length before = omega (arith, len) in
+      let so_far = all-unmarked before items absent start n few no_null found len (omega arith) (λ k d k-lt. first-of start n items plain k d k-lt) h in
+      let same : get_or items i 0 ≡ get_or before i 0 = as-found before items absent i so_far lt lt' in
+      let item : IsFound ids bytes size (get_or items i 0) = subst (IsFound ids bytes size) (sym same) (found i 0 lt') in
+      let code = unmarked absent (get_or items i 0) few no_null item (last-of start n items within plain) in
+      let next : i + 1 ≡ start + suc n = omega arith in
+      subst (λ (j : ℕ). AreKeptSoFar ids bytes size before items absent j) next (stays before items absent i so_far lt lt' code.0 code.1)
 
   -- a marked one gets the number of the next absent ID
   pub marked : (absent : List ℕ) (item : ℕ) → length ids < 2 ^ 31 → length ids + length absent < 2 ^ 32 - 1 → IsFound ids bytes size item → mark ≤ item → item ≢ null_code

@@ -1,5 +1,5 @@
 -- Resolving references: the number of the object whose ID lies at an offset.
-use Rattle.std.specs.Prelude.{◌≡◌, ◌≢◌, ◌⊎◌, ℕ, ◌+◌, ◌-◌, ◌<◌, ◌≤◌, ◌==◌, nat_lt, if◌then◌else◌, List, length, map, position, slice_index, All}
+use Rattle.std.specs.Prelude.{◌≡◌, ◌≢◌, ◌⊎◌, ℕ, ◌+◌, ◌-◌, ◌<◌, ◌≤◌, ◌==◌, nat_lt, if◌then◌else◌, List, length, map, take, drop, position, slice_index, All}
 use Rattle.std.specs.Option.{option_map_or}
 use Rattle.hd_terms.specs.declared.IdSize.{IdSize}
 use Rattle.hd_slots.specs.Table.{null_code, id_at, IsIdWithin}
@@ -12,6 +12,10 @@ mark = 2147483648
 -- what was found is a marked offset
 abbrev pub IsMarked : ℕ → Type 0
 IsMarked item = (mark ≤ item) × (item ≢ null_code)
+
+-- what was found is no marked offset
+abbrev pub IsUnmarked : ℕ → Type 0
+IsUnmarked item = mark ≤ item → item ≡ null_code
 
 -- what is found for an ID that lies at an offset: null, the object's number, or the marked offset
 abbrev pub found_for : List ℕ → ℕ → ℕ → ℕ
@@ -34,3 +38,16 @@ pub record IsFound (ids bytes : List ℕ) (size : IdSize) (item : ℕ) : Type 0 
 pub record AreCodesOf (ids wanted codes absent : List ℕ) : Type 0 where
   pub codes_are : All (IsCode ids absent) codes
   pub ids_are : map (id_of_code ids absent) codes ≡ wanted
+
+-- the numbers before an index stand for their IDs, those from it on are as they were found
+pub record AreKeptSoFar (ids bytes : List ℕ) (size : IdSize) (before items absent : List ℕ) (i : ℕ) : Type 0 where
+  pub codes : All (IsCode ids absent) (take i items)
+  pub ids_are : map (id_of_code ids absent) (take i items) ≡ map (id_of_found ids bytes size) (take i before)
+  pub rest : drop i items ≡ drop i before
+  pub few : length absent ≤ i
+
+-- if the numbers before a block are done, so are then those of the block
+abbrev pub KeepsBlock : List ℕ → List ℕ → IdSize → List ℕ → List ℕ → ℕ → List ℕ → List ℕ → ℕ → Type 0
+KeepsBlock ids bytes size items absent start items' absent' end =
+    (before : List ℕ) → All (IsFound ids bytes size) before → length items ≡ length before
+    → AreKeptSoFar ids bytes size before items absent start → AreKeptSoFar ids bytes size before items' absent' end

@@ -1,8 +1,8 @@
 //! Resolving references: each offset of an ID becomes the number of the object with that ID.
-ghost use Rattle.std.specs.Prelude.{◌≡◌, ◌+◌, ◌<◌, ◌≤◌, ◌-◌, ◌^◌, ◌↔◌, length, map, All, IsTrue, IfOk, OnOk};
+ghost use Rattle.std.specs.Prelude.{◌≡◌, drop, ◌+◌, ◌<◌, ◌≤◌, ◌-◌, ◌^◌, ◌↔◌, length, map, All, IsTrue, IfOk, OnOk};
 ghost use Rattle.hd_slots.specs.Table.{id_at, IsIdWithin};
 ghost use Rattle.hd_slots.specs.Codes.{IsCode, IsLonger, id_of_code};
-ghost use Rattle.hd_slots.specs.Resolving.{found_code, id_of_found, IsFound, IsMarked, AreCodesOf};
+ghost use Rattle.hd_slots.specs.Resolving.{found_code, id_of_found, IsFound, IsMarked, IsUnmarked, KeepsBlock, AreCodesOf};
 
 use crate::slot_table::NULL;
 use hd_ids::{Finder, ObjectIds};
@@ -13,6 +13,9 @@ use std::thread::Threads;
 
 /// Marks the offset of an ID that is no object's. Numbers of objects and offsets into the file are below it.
 const ABSENT: u32 = 0x8000_0000;
+
+/// How many numbers are looked over together for marked offsets, of which most dumps have few.
+const BLOCK: usize = 256;
 
 /// How many IDs one finder finds.
 const PART: usize = 65_536;
@@ -104,6 +107,50 @@ fn number_for(
     Ok(code)
 }
 
+/// Whether none of these is a marked offset. All are looked at, many at once.
+fn none_marked(items: &[u32]) -> bool
+    ensures { IsTrue result → All IsUnmarked items.now }
+{
+    let mut some = false;
+    for i in 0..items.len() {
+        some |= is_marked(items[i]);
+    }
+    !some
+}
+
+/// Keeps the IDs of the block that begins at an index that are no object's, and gives each a number behind those of the objects.
+/// Answers where the next block begins.
+fn keep_block(
+    ids: &[u64],
+    id_size: IdSize,
+    bytes: &[u8],
+    items: &mut [u32],
+    absent: &mut Vec<u64>,
+    start: usize,
+) -> Result<usize, AllocError>
+    requires found { All (IsFound ids.now bytes.now id_size) (drop start items.old) }
+    requires few { length ids.now < 2 ^ 31 }
+    requires no_null { All (λ id. 0 < id) ids.now }
+    requires room { length ids.now + length items.old < 2 ^ 32 }
+    requires start { start < length items.old }
+    requires kept { length absent.old.items ≤ start }
+    ensures keeps { IfOk result (λ end. KeepsBlock ids.now bytes.now id_size items.old absent.old.items start items.new absent.new.items end) }
+    ensures end { IfOk result (λ end. (start < end) × (end ≤ length items.new)) }
+    ensures len { length items.new ≡ length items.old }
+{
+    let end = items.len().min(start + BLOCK);
+    if none_marked(&items[start..end]) {
+        return Ok(end);
+    }
+    for i in start..end {
+        let item = items[i];
+        if is_marked(item) {
+            items[i] = number_for(ids, id_size, bytes, absent, item)?;
+        }
+    }
+    Ok(end)
+}
+
 /// Keeps the IDs that are no object's, and gives each a number behind those of the objects. Of the others nothing is written.
 fn keep_absent(
     alloc: Global,
@@ -119,11 +166,9 @@ fn keep_absent(
     ensures { IfOk result (λ absent. AreCodesOf ids.now (map (id_of_found ids.now bytes.now id_size) items.old) items.new absent.items) }
 {
     let mut absent = Vec::new(alloc);
-    for i in 0..items.len() {
-        let item = items[i];
-        if is_marked(item) {
-            items[i] = number_for(ids, id_size, bytes, &mut absent, item)?;
-        }
+    let mut start = 0;
+    while start < items.len() {
+        start = keep_block(ids, id_size, bytes, items, &mut absent, start)?;
     }
     Ok(absent)
 }

@@ -2,6 +2,7 @@ pub mod Classes
 pub mod EntryLemmas
 pub mod Padding
 pub mod ParsedSubs
+pub mod PackedLemmas
 pub mod Parts
 pub mod Values
 pub mod Heads

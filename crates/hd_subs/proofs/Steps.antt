@@ -1,14 +1,14 @@
 -- Reading sub-records one after another, as a loop does.
-use Rattle.std.proofs.Common.{◌≡◌, ℕ, ◌+◌, ◌-◌, ◌≤◌, ◌<◌, List, [], ◌∷◌, ◌++◌, length, refl, sym, ap, ◌∙◌, append_assoc, add-zero, arith}
+use Rattle.std.proofs.Common.{◌≡◌, ℕ, ◌+◌, ◌-◌, ◌≤◌, ◌<◌, List, [], ◌∷◌, ◌++◌, length, take, drop, refl, sym, ap, subst, ◌∙◌, append_assoc, add-zero, arith}
 use Rattle.std.specs.List.{flat_map, AllByRecursion}
-use Rattle.std.proofs.lemmas.List.{append-nil, length-append}
+use Rattle.std.proofs.lemmas.List.{append-nil, length-append, drop_at, drop-take, drop-drop}
 use Rattle.std.proofs.lemmas.List.Concat.{flat_map-append}
 use Rattle.hd_terms.specs.declared.IdSize.{IdSize}
 use Rattle.hd_terms.specs.declared.errors.Cause.{Cause}
 use Rattle.hd_terms.specs.SubRecords.{SubRecord, RootOf, ClassDump, InstanceDump, ObjectArray, PrimitiveArray, IsSubRecord, sub_record_text, Sub, item_at, subs_at}
 use Rattle.hd_terms.specs.ReadFaults.{fault, IsStuck, IsSegmentFault}
-use Rattle.hd_subs.specs.ParsedSubs.{BeginsWithSub, AppendsSub}
-use Rattle.hd_subs.specs.Reading.{AppendsSegment, HasGrown}
+use Rattle.hd_subs.specs.ParsedSubs.{BeginsWithSub, LiesAt}
+use Rattle.hd_subs.specs.Reading.{Reader, AppendsSub, AppendsSegment, HasGrown}
 
 -- what was read, and what is left
 pub record IsReadSoFar (size : IdSize) (base : ℕ) (body rest : List ℕ) (old list : List Sub) : Type 0 where
@@ -67,14 +67,6 @@ step size base body rest text after old list sub h is f =
           ∙ ap (λ (xs : List Sub). old ++ xs) (sym (subs_at-push size base h.front f.s));
     }
 
--- the same, of a sub-record that is in the list already
-pub step_appended : (size : IdSize) (base : ℕ) (body rest fields after : List ℕ) (tag other : ℕ) (old list new : List Sub) → IsReadSoFar size base body rest old list → rest ≡ tag ∷ fields → tag ≡ other
-    → AppendsSub size (base + (length body - length rest)) (other ∷ fields) list new after → IsReadSoFar size base body after old new
-step_appended size base body rest fields after tag other old list new h is same a =
-    let s : IsReadSoFar size base body after old (list ++ a.sub ∷ []) =
-    step size base body rest (other ∷ fields) after old list a.sub h (is ∙ ap (λ (t : ℕ). t ∷ fields) same) a.begins in
-    record { front = s.front; whole = s.whole; each = s.each; list_is = a.list_is ∙ s.list_is }
-
 text-some : (s : SubRecord) → 0 < length (sub_record_text s)
 text-some (RootOf kind id more) = omega arith
 text-some (ClassDump head constants statics fields) = omega arith
@@ -86,9 +78,6 @@ text-some (PrimitiveArray id serial count element elements) = omega arith
 pub after-lt : (size : IdSize) (at : ℕ) (rest after : List ℕ) (sub : Sub) → BeginsWithSub size at rest sub after → length after < length rest
 after-lt size at rest after sub f =
     omega (arith, ap length f.whole, length-append (sub_record_text f.s) after, text-some f.s)
-
-pub grown : (size : IdSize) (base : ℕ) (body rest : List ℕ) (old list : List Sub) → IsReadSoFar size base body rest old list → HasGrown old list
-grown size base body rest old list h = record { more = subs_at size base h.front; list_is = h.list_is }
 
 -- no sub-record can be read from what is left
 pub is_fault : (size : IdSize) (base : ℕ) (body rest : List ℕ) (old list : List Sub) (cause : Cause) → IsReadSoFar size base body rest old list
@@ -108,4 +97,44 @@ is_whole size base body rest old list h none = record {
   subs = h.front;
   whole = record { whole = h.whole ∙ ap (λ (xs : List ℕ). flat_map sub_record_text h.front ++ xs) none ∙ append-nil (flat_map sub_record_text h.front); each = h.each };
   list_is = h.list_is;
+}
+
+-- what a reader has read of a body, and what is left
+pub record IsReadByNow (base : ℕ) (body rest : List ℕ) (old new : Reader) : Type 0 where
+  pub read : IsReadSoFar old.size base body rest old.subs new.subs
+  pub same : new ≡ record old { subs = new.subs }
+
+pub begin-reading : (base : ℕ) (body : List ℕ) (old : Reader) → IsReadByNow base body body old old
+begin-reading base body old = record { read = begin old.size base body old.subs; same = refl }
+
+-- what is left lies behind what was read
+pub rest-lies : (bytes : List ℕ) (base : ℕ) (body rest : List ℕ) (old new : Reader) → IsReadByNow base body rest old new → LiesAt bytes base body
+    → LiesAt bytes (base + (length body - length rest)) rest
+rest-lies bytes base body rest old new h lies =
+    let front : List ℕ = flat_map sub_record_text h.read.front in
+    let k : ℕ = length front in
+    let sum : length body ≡ k + length rest = ap length h.read.whole ∙ length-append front rest in
+    let at : base + k ≡ base + (length body - length rest) = omega (arith, sum) in
+    sym (drop_at front rest k refl)
+    ∙ ap (λ (xs : List ℕ). drop k xs) (sym h.read.whole ∙ lies ∙ ap (λ (m : ℕ). take m (drop base bytes)) sum)
+    ∙ drop-take k (length rest) (drop base bytes)
+    ∙ ap (λ (xs : List ℕ). take (length rest) xs) (drop-drop k base bytes ∙ ap (λ (j : ℕ). drop j bytes) at)
+
+-- one sub-record more was read
+pub read-next : (base : ℕ) (body rest text after : List ℕ) (old now new : Reader) → IsReadByNow base body rest old now → rest ≡ text
+    → AppendsSub (base + (length body - length rest)) text now new after → IsReadByNow base body after old new
+read-next base body rest text after old now new h is a =
+    let size : now.size ≡ old.size = ap (λ (r : Reader). r.size) h.same in
+    let begins = subst (λ (s : IdSize). BeginsWithSub s (base + (length body - length rest)) text a.sub after) size a.begins in
+    let s : IsReadSoFar old.size base body after old.subs (now.subs ++ a.sub ∷ []) = step old.size base body rest text after old.subs now.subs a.sub h.read is begins in
+    let subs : new.subs ≡ now.subs ++ a.sub ∷ [] = ap (λ (r : Reader). r.subs) a.is in
+    record {
+      read = subst (λ (xs : List Sub). IsReadSoFar old.size base body after old.subs xs) (sym subs) s;
+      same = a.is ∙ ap (λ (r : Reader). let x : Reader = record r { subs = now.subs ++ a.sub ∷ [] } in x) h.same ∙ ap (λ (xs : List Sub). let x : Reader = record old { subs = xs } in x) (sym subs);
+    }
+
+pub grown : (base : ℕ) (body rest : List ℕ) (old new : Reader) → IsReadByNow base body rest old new → HasGrown old new
+grown base body rest old new h = record {
+  more = subs_at old.size base h.read.front;
+  is = h.same ∙ ap (λ (xs : List Sub). let x : Reader = record old { subs = xs } in x) h.read.list_is;
 }

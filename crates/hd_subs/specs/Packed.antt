@@ -40,6 +40,10 @@ packed_item size bytes at =
     else if slice_index bytes at == 0x22 then packed_array size bytes at
     else packed_primitive_array size bytes at
 
+-- the sub-record that is read at an offset
+abbrev pub packed_sub : IdSize → List ℕ → ℕ → Sub
+packed_sub size bytes at = record { offset = at; item = packed_item size bytes at }
+
 -- the numbers from this one on are those of rows; the lesser ones are offsets
 abbrev pub first_row : ℕ
 first_row = 0x8000_0000
@@ -51,7 +55,7 @@ no_sub = record { offset = 0; item = PrimArray 0 0 0 }
 -- the sub-record of a number: read at that offset, or the row
 abbrev pub sub_of_entry : IdSize → List ℕ → List Sub → ℕ → Sub
 sub_of_entry size bytes rows entry =
-    if nat_lt entry first_row then (record { offset = entry; item = packed_item size bytes entry }) else slice_index_or rows (entry - first_row) no_sub
+    if nat_lt entry first_row then packed_sub size bytes entry else slice_index_or rows (entry - first_row) no_sub
 
 -- a number is that of a row, or an offset with bytes enough behind it
 abbrev pub IsEntry : ℕ → ℕ → ℕ → Type 0

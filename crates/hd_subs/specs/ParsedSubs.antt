@@ -1,9 +1,10 @@
 -- The sub-record at the front of some bytes.
-use Rattle.std.specs.Prelude.{◌≡◌, ℕ, List, [], ◌∷◌, ◌++◌}
+use Rattle.std.specs.Prelude.{◌≡◌, ℕ, ◌≤◌, List, ◌∷◌, ◌++◌, length, take, drop}
 use Rattle.hd_terms.specs.declared.IdSize.{IdSize}
 use Rattle.hd_terms.specs.SubRecords.{SubRecord, IsSubRecord, sub_record_text, Sub, item_at}
 use Rattle.hd_terms.specs.declared.errors.ReadFault.{ReadFault}
 use Rattle.hd_terms.specs.ReadFaults.{IsStuck}
+use Rattle.hd_subs.specs.Packed.{packed_sub}
 use Rattle.hd_subs.specs.declared.reading.NoRow.{NoRow}
 use Rattle.hd_subs.specs.declared.reading.NoRow.TheVariants as no_rows
 
@@ -14,11 +15,18 @@ pub record BeginsWithSub (size : IdSize) (at : ℕ) (rest : List ℕ) (sub : Sub
   pub whole : rest ≡ sub_record_text s ++ after
   pub sub_is : sub ≡ record { offset = at; item = item_at size at s }
 
--- a list got the sub-record that the bytes at an offset begin with, and these bytes come after it
-pub record AppendsSub (size : IdSize) (at : ℕ) (rest : List ℕ) (old new : List Sub) (after : List ℕ) : Type 0 where
-  pub sub : Sub
-  pub begins : BeginsWithSub size at rest sub after
-  pub list_is : new ≡ old ++ sub ∷ []
+-- these bytes lie at an offset of the file
+abbrev pub LiesAt : List ℕ → ℕ → List ℕ → Type 0
+LiesAt bytes at text = text ≡ take (length text) (drop at bytes)
+
+-- so many bytes are there, and these come after them
+pub record IsBehind (len : ℕ) (fields after : List ℕ) : Type 0 where
+  pub within : len ≤ length fields
+  pub after_is : after ≡ drop len fields
+
+-- at whatever offset of a file these bytes lie, they begin with the sub-record that is read there, and these bytes come after it
+abbrev pub IsPackedFrom : IdSize → List ℕ → List ℕ → Type 0
+IsPackedFrom size text after = (bytes : List ℕ) (at : ℕ) → LiesAt bytes at text → BeginsWithSub size at text (packed_sub size bytes at) after
 
 -- no sub-record can be read from the bytes at an offset
 pub record IsFaultAt (size : IdSize) (at : ℕ) (rest : List ℕ) (f : ReadFault) : Type 0 where

@@ -1,5 +1,5 @@
 //! Sub-records that are read again from the bytes at their offsets.
-ghost use Rattle.std.specs.Prelude.{◌≡◌, ◌+◌, ◌≤◌, ◌<◌, ◌^◌, length, drop, IsTrue};
+ghost use Rattle.std.specs.Prelude.{◌≡◌, ◌+◌, ◌≤◌, ◌<◌, ◌^◌, length, drop};
 ghost use Rattle.byteorder.specs.Endian.{big_number};
 ghost use Rattle.hd_terms.specs.Records.{id_len};
 ghost use Rattle.hd_subs.specs.Views.{item_view};
@@ -90,42 +90,5 @@ pub(crate) fn read_packed(bytes: &[u8], id_size: IdSize, offset: u32) -> Item<'s
         INSTANCE_DUMP => read_instance(bytes, id_size, offset),
         OBJECT_ARRAY_DUMP => read_array(bytes, id_size, offset),
         _ => read_primitive_array(bytes, id_size, offset),
-    }
-}
-
-/// Whether two sub-records hold the same. Roots and classes aren't compared: they are never taken for the same.
-pub(crate) fn hold_same(one: Item<'_>, other: Item<'_>) -> bool
-    ensures { IsTrue result → item_view one.entry ≡ item_view other.entry }
-{
-    match (one, other) {
-        (
-            Item::Instance { id, class, values },
-            Item::Instance {
-                id: other_id,
-                class: other_class,
-                values: other_values,
-            },
-        ) => id == other_id && class == other_class && values == other_values,
-        (
-            Item::ObjArray {
-                id,
-                class,
-                elements,
-            },
-            Item::ObjArray {
-                id: other_id,
-                class: other_class,
-                elements: other_elements,
-            },
-        ) => id == other_id && class == other_class && elements == other_elements,
-        (
-            Item::PrimArray { id, element, count },
-            Item::PrimArray {
-                id: other_id,
-                element: other_element,
-                count: other_count,
-            },
-        ) => id == other_id && element == other_element && count == other_count,
-        _ => false,
     }
 }

@@ -1,29 +1,28 @@
-//! Reading the sub-records of a segment, one after another.
-ghost use Rattle.std.specs.Prelude.{◌≡◌, ◌≢◌, ◌⊎◌, ◌+◌, ◌≤◌, ◌<◌, ◌^◌, [], ◌∷◌, length, drop, IfSome, IfNone, IfOk, IfErr, OnOk, OnErr, MatchOption};
+//! Reading one sub-record, which is no class.
+ghost use Rattle.std.specs.Prelude.{◌≡◌, ◌≢◌, ◌+◌, ◌≤◌, ◌<◌, ◌^◌, true, [], ◌∷◌, length, drop, slice_index, IfSome, IfNone, IfOk, IfErr, OnOk, MatchOption};
 ghost use Rattle.byteorder.specs.Endian.{big_number};
 ghost use Rattle.hd_terms.specs.declared.RootKind.{RootKind};
-ghost use Rattle.hd_terms.specs.declared.errors.Cause.TheVariants.{ShortSub, OutOfMemory};
+ghost use Rattle.hd_terms.specs.declared.errors.Cause.TheVariants.{ShortSub};
+ghost use Rattle.hd_terms.specs.Records.{id_len};
 ghost use Rattle.hd_terms.specs.SubRecords.{root_tag, root_more};
-ghost use Rattle.hd_terms.specs.ReadFaults.{fault, IsStuck};
+ghost use Rattle.hd_terms.specs.Types.{is_element_type};
+ghost use Rattle.hd_terms.specs.ReadFaults.{IsStuck};
+ghost use Rattle.hd_subs.specs.Layout.{instance_len, array_len, primitive_array_len};
 ghost use Rattle.hd_subs.specs.Rows.{row_view, instance_kind, array_kind};
 ghost use Rattle.hd_subs.specs.declared.row.Kind.TheVariants.{Class};
-ghost use Rattle.hd_subs.specs.ParsedSubs.{BeginsWithSub, AppendsSub, IsFaultAt, IsNoRow};
-ghost use Rattle.hd_subs.specs.Reading.{ReadsSegment, AppendsSegment, HasGrown, IsSegmentFaultOrMemory};
+ghost use Rattle.hd_subs.specs.ParsedSubs.{BeginsWithSub, IsBehind, IsPackedFrom, IsNoRow};
 
-use crate::class_reading::{Stop, read_class};
 use crate::layout::{CLASS_DUMP, INSTANCE_DUMP, OBJECT_ARRAY_DUMP, PRIMITIVE_ARRAY_DUMP};
 use crate::row::{Kind, Row};
-use crate::subs::Subs;
 use crate::types::bytes_of_element;
 use byteorder::{BigEndian, ByteOrder};
-use hd_terms::{Cause, IdSize, ReadFault, RootKind};
-use std::alloc::Global;
+use hd_terms::{Cause, IdSize, RootKind};
 
 /// The sub-record that some bytes begin with, which is no class, and the bytes after it.
 #[derive(Clone, Copy)]
-struct ParsedSub<'a> {
-    row: Row,
-    after: &'a [u8],
+pub(crate) struct ParsedSub<'a> {
+    pub(crate) row: Row,
+    pub(crate) after: &'a [u8],
     ghost no_class: { row.kind ≢ Class },
 }
 
@@ -109,31 +108,84 @@ fn read_count(fields: &[u8], id_len: usize) -> u32
     BigEndian::read_u32(&fields[id_len + 4..id_len + 8])
 }
 
-/// The INSTANCE DUMP whose fields these bytes begin with, unless they run out.
-fn read_instance(fields: &[u8], id_size: IdSize, offset: u64) -> Option<ParsedSub<'_>>
-    requires { offset + 25 < 2 ^ 64 }
-    ensures { MatchOption result (IsStuck id_size (0x21 ∷ fields.now) ShortSub) (λ f. BeginsWithSub id_size offset (0x21 ∷ fields.now) (row_view [] f.row) f.after.now) }
+/// The bytes behind an INSTANCE DUMP whose fields these bytes begin with, unless they run out.
+fn behind_instance(fields: &[u8], id_size: IdSize) -> Option<&[u8]>
+    ensures { MatchOption result (IsStuck id_size (0x21 ∷ fields.now) ShortSub) (λ after. IsBehind (instance_len id_size fields.now) fields.now after.now) }
 {
     let id_len = id_size.bytes();
     if fields.len() < 2 * id_len + 8 {
         return None;
     }
-    let count = read_count(fields, 2 * id_len);
-    let len = 2 * id_len + 8 + count as usize;
+    let len = 2 * id_len + 8 + read_count(fields, 2 * id_len) as usize;
     if fields.len() < len {
         return None;
     }
+    Some(&fields[len..])
+}
+
+/// The bytes behind an OBJECT ARRAY DUMP whose fields these bytes begin with, unless they run out.
+fn behind_array(fields: &[u8], id_size: IdSize) -> Option<&[u8]>
+    ensures { MatchOption result (IsStuck id_size (0x22 ∷ fields.now) ShortSub) (λ after. IsBehind (array_len id_size fields.now) fields.now after.now) }
+{
+    let id_len = id_size.bytes();
+    if fields.len() < 2 * id_len + 8 {
+        return None;
+    }
+    let len = 2 * id_len + 8 + id_len * read_count(fields, id_len) as usize;
+    if fields.len() < len {
+        return None;
+    }
+    Some(&fields[len..])
+}
+
+/// The bytes behind a PRIMITIVE ARRAY DUMP whose fields these bytes begin with, or why there is none.
+fn behind_primitive_array(fields: &[u8], id_size: IdSize) -> Result<&[u8], Cause>
+    ensures ok { IfOk result (λ after. IsBehind (primitive_array_len id_size fields.now) fields.now after.now × (is_element_type (slice_index fields.now (id_len id_size + 8)) ≡ true)) }
+    ensures err { IfErr result (λ cause. IsStuck id_size (0x23 ∷ fields.now) cause) }
+{
+    let id_len = id_size.bytes();
+    if fields.len() < id_len + 9 {
+        return Err(Cause::ShortSub);
+    }
+    let Some(element_bytes) = bytes_of_element(fields[id_len + 8]) else {
+        return Err(Cause::UnknownType);
+    };
+    let len = id_len + 9 + element_bytes * read_count(fields, id_len) as usize;
+    if fields.len() < len {
+        return Err(Cause::ShortSub);
+    }
+    Ok(&fields[len..])
+}
+
+/// The bytes behind an instance or an array of this tag whose fields these bytes begin with, if it is there. It can be read
+/// again at the file offset of its tag.
+#[inline(always)]
+pub(crate) fn behind_packed(tag: u8, fields: &[u8], id_size: IdSize) -> Option<&[u8]>
+    ensures { IfSome result (λ after. IsPackedFrom id_size (tag ∷ fields.now) after.now) }
+{
+    match tag {
+        INSTANCE_DUMP => behind_instance(fields, id_size),
+        OBJECT_ARRAY_DUMP => behind_array(fields, id_size),
+        PRIMITIVE_ARRAY_DUMP => behind_primitive_array(fields, id_size).ok(),
+        _ => None,
+    }
+}
+
+/// The INSTANCE DUMP whose fields these bytes begin with, unless they run out.
+fn read_instance(fields: &[u8], id_size: IdSize, offset: u64) -> Option<ParsedSub<'_>>
+    requires { offset + 25 < 2 ^ 64 }
+    ensures { MatchOption result (IsStuck id_size (0x21 ∷ fields.now) ShortSub) (λ f. BeginsWithSub id_size offset (0x21 ∷ fields.now) (row_view [] f.row) f.after.now) }
+{
+    let after = behind_instance(fields, id_size)?;
+    let id_len = id_size.bytes();
     let row = Row {
         id: id_size.read(fields),
         class: id_size.read(&fields[id_len + 4..]),
         offset,
-        count,
+        count: read_count(fields, 2 * id_len),
         kind: kind_of_instance(id_size),
     };
-    Some(ParsedSub {
-        row,
-        after: &fields[len..],
-    })
+    Some(ParsedSub { row, after })
 }
 
 /// The OBJECT ARRAY DUMP whose fields these bytes begin with, unless they run out.
@@ -141,31 +193,21 @@ fn read_array(fields: &[u8], id_size: IdSize, offset: u64) -> Option<ParsedSub<'
     requires { offset + 25 < 2 ^ 64 }
     ensures { MatchOption result (IsStuck id_size (0x22 ∷ fields.now) ShortSub) (λ f. BeginsWithSub id_size offset (0x22 ∷ fields.now) (row_view [] f.row) f.after.now) }
 {
+    let after = behind_array(fields, id_size)?;
     let id_len = id_size.bytes();
-    if fields.len() < 2 * id_len + 8 {
-        return None;
-    }
-    let count = read_count(fields, id_len);
-    let len = 2 * id_len + 8 + id_len * count as usize;
-    if fields.len() < len {
-        return None;
-    }
     let row = Row {
         id: id_size.read(fields),
         class: id_size.read(&fields[id_len + 8..]),
         offset,
-        count,
+        count: read_count(fields, id_len),
         kind: kind_of_array(id_size),
     };
-    Some(ParsedSub {
-        row,
-        after: &fields[len..],
-    })
+    Some(ParsedSub { row, after })
 }
 
 /// Why no row can be read.
 #[derive(Clone, Copy)]
-enum NoRow {
+pub(crate) enum NoRow {
     /// The tag is that of a class.
     IsClass,
     Fault(Cause),
@@ -177,34 +219,28 @@ fn read_primitive_array(fields: &[u8], id_size: IdSize, offset: u64) -> Result<P
     ensures ok { IfOk result (λ f. BeginsWithSub id_size offset (0x23 ∷ fields.now) (row_view [] f.row) f.after.now) }
     ensures err { IfErr result (λ why. IsNoRow id_size 0x23 fields.now why) }
 {
-    let id_len = id_size.bytes();
-    if fields.len() < id_len + 9 {
-        return Err(NoRow::Fault(Cause::ShortSub));
-    }
-    let element = fields[id_len + 8];
-    let Some(element_bytes) = bytes_of_element(element) else {
-        return Err(NoRow::Fault(Cause::UnknownType));
+    let after = match behind_primitive_array(fields, id_size) {
+        Ok(after) => after,
+        Err(cause) => return Err(NoRow::Fault(cause)),
     };
-    let count = read_count(fields, id_len);
-    let len = id_len + 9 + element_bytes * count as usize;
-    if fields.len() < len {
-        return Err(NoRow::Fault(Cause::ShortSub));
-    }
+    let id_len = id_size.bytes();
     let row = Row {
         id: id_size.read(fields),
         class: 0,
         offset,
-        count,
-        kind: Kind::PrimArray(element),
+        count: read_count(fields, id_len),
+        kind: Kind::PrimArray(fields[id_len + 8]),
     };
-    Ok(ParsedSub {
-        row,
-        after: &fields[len..],
-    })
+    Ok(ParsedSub { row, after })
 }
 
 /// The sub-record of a tag and of the fields that these bytes begin with, or why there is none that is no class.
-fn read_row(tag: u8, fields: &[u8], id_size: IdSize, offset: u64) -> Result<ParsedSub<'_>, NoRow>
+pub(crate) fn read_row(
+    tag: u8,
+    fields: &[u8],
+    id_size: IdSize,
+    offset: u64,
+) -> Result<ParsedSub<'_>, NoRow>
     requires { offset + 25 < 2 ^ 64 }
     ensures ok { IfOk result (λ f. BeginsWithSub id_size offset (tag ∷ fields.now) (row_view [] f.row) f.after.now) }
     ensures err { IfErr result (λ why. IsNoRow id_size tag fields.now why) }
@@ -223,105 +259,4 @@ fn read_row(tag: u8, fields: &[u8], id_size: IdSize, offset: u64) -> Result<Pars
         Some(parsed) => Ok(parsed),
         None => Err(NoRow::Fault(Cause::ShortSub)),
     }
-}
-
-/// Puts the CLASS DUMP whose fields these bytes begin with at the end of a list, and answers the bytes after it.
-fn append_class<'a>(
-    list: &mut Subs<'_>,
-    fields: &'a [u8],
-    id_size: IdSize,
-    offset: u64,
-) -> Result<&'a [u8], ReadFault>
-    requires { offset + length fields.now + 26 < 2 ^ 64 }
-    ensures ok { IfOk result (λ after. AppendsSub id_size offset (0x20 ∷ fields.now) list.old list.new after.now) }
-    ensures err { IfErr result (λ f. (f ≡ fault OutOfMemory 0) ⊎ IsFaultAt id_size offset (0x20 ∷ fields.now) f) }
-    ensures kept { OnErr result (list.new ≡ list.old) }
-{
-    match read_class(list.allocator(), fields, id_size, offset) {
-        Ok((class, after)) => {
-            list.push_class(offset, class)?;
-            Ok(after)
-        }
-        Err(Stop::Short) => Err(ReadFault {
-            cause: Cause::ShortSub,
-            offset,
-        }),
-        Err(Stop::UnknownType) => Err(ReadFault {
-            cause: Cause::UnknownType,
-            offset,
-        }),
-        Err(Stop::NoMemory) => Err(ReadFault::NO_MEMORY),
-    }
-}
-
-/// Puts the sub-records of a segment's body at the end of a list, those before a fault too.
-fn append_subs(
-    list: &mut Subs<'_>,
-    body: &[u8],
-    id_size: IdSize,
-    base: u64,
-) -> Result<(), ReadFault>
-    requires { base ≤ 2147483647 }
-    ensures ok { OnOk result (AppendsSegment id_size base body.now list.old list.new) }
-    ensures err { IfErr result (λ f. IsSegmentFaultOrMemory id_size base body.now f) }
-    ensures kept { HasGrown list.old list.new }
-{
-    let mut rest = body;
-    while let Some((tag, fields)) = rest.split_first() {
-        let offset = base + (body.len() - rest.len()) as u64;
-        match read_row(*tag, fields, id_size, offset) {
-            Ok(parsed) => {
-                list.push(parsed.row)?;
-                rest = parsed.after;
-            }
-            Err(NoRow::IsClass) => rest = append_class(list, fields, id_size, offset)?,
-            Err(NoRow::Fault(cause)) => return Err(ReadFault { cause, offset }),
-        }
-    }
-    Ok(())
-}
-
-/// Puts the sub-records of a segment's body at the end of a list, all of them or, where it answers a fault, none.
-///
-/// `base` is the file offset of the body in bytes. The faults are those of `read_segment`.
-pub fn read_segment_into(
-    list: &mut Subs<'_>,
-    body: &[u8],
-    id_size: IdSize,
-    base: u64,
-) -> Result<(), ReadFault>
-    requires { base ≤ 2147483647 }
-    ensures ok { OnOk result (AppendsSegment id_size base body.now list.old list.new) }
-    ensures err { IfErr result (λ f. IsSegmentFaultOrMemory id_size base body.now f) }
-    ensures unchanged { OnErr result (list.new ≡ list.old) }
-{
-    let before = list.len();
-    if let Err(fault) = append_subs(list, body, id_size, base) {
-        list.truncate(before);
-        return Err(fault);
-    }
-    Ok(())
-}
-
-/// The sub-records of a segment's body, or the first fault from left to right.
-///
-/// `base` is the file offset of the body in bytes, and the offsets of sub-records are counted from it. The
-/// faults are `UnknownSub` at a tag that no sub-record has, `UnknownType` at the tag of a primitive array whose elements have
-/// none of the types 4 to 11 or of a class with a constant, a static or a field of none of the types 1, 2 and 4 to 11,
-/// and `ShortSub` at the tag of a sub-record that runs past the body; the fields of one sub-record are read from left
-/// to right. `OutOfMemory` comes only where the list, or a list of a class, could not grow by something whose bytes are
-/// there.
-pub fn read_segment<'a>(
-    alloc: Global,
-    body: &'a [u8],
-    id_size: IdSize,
-    base: u64,
-) -> Result<Subs<'a>, ReadFault>
-    requires { base ≤ 2147483647 }
-    ensures ok { IfOk result (λ list. ReadsSegment id_size base body.now list) }
-    ensures err { IfErr result (λ f. IsSegmentFaultOrMemory id_size base body.now f) }
-{
-    let mut list = Subs::new(alloc, body, id_size);
-    read_segment_into(&mut list, body, id_size, base)?;
-    Ok(list)
 }

@@ -1,36 +1,31 @@
 //! A list of sub-records, of which most are kept by their file offsets alone.
-ghost use Rattle.std.specs.Prelude.{◌≡◌, ◌↔◌, ◌+◌, ◌-◌, ◌^◌, ◌<◌, ◌≤◌, [], ◌∷◌, ◌++◌, length, take, drop, slice_get, IsTrue, Some, is_some, IfSome, IfOk, OnOk, OnErr};
+ghost use Rattle.std.specs.Prelude.{◌≡◌, ◌↔◌, ◌-◌, ◌<◌, ◌≤◌, [], length, drop, slice_get, IsTrue, Some, is_some};
 ghost use Rattle.std.specs.List.{filter_map};
-ghost use Rattle.hd_terms.specs.SubRecords.{Class, Sub as OneSub};
+ghost use Rattle.hd_terms.specs.SubRecords.{Sub as OneSub};
 ghost use Rattle.hd_terms.specs.Classes.{class_of_item};
-ghost use Rattle.hd_subs.specs.Views.{sub_view, class_view};
-ghost use Rattle.hd_subs.specs.Rows.{row_view, IsRowOver};
-ghost use Rattle.hd_subs.specs.Packed.{first_row, packed_item};
+ghost use Rattle.hd_subs.specs.Views.{sub_view};
 ghost use Rattle.hd_subs.specs.ClassSubs.{class_of_sub, IsClassAt};
 
-use crate::class::ClassDump;
-use crate::packed::{HEAD, hold_same, read_packed};
-use crate::row::Row;
+use crate::packed::read_packed;
 use crate::sub::Sub;
-use crate::sub_rows::{SubRows, sub_of};
+use crate::sub_rows::SubRows;
 use hd_terms::IdSize;
-use std::alloc::{AllocError, Global};
 use std::marker::Model;
 
 /// The numbers from this one on are those of rows; the lesser ones are file offsets.
-const FIRST_ROW: u32 = 0x8000_0000;
+pub(crate) const FIRST_ROW: u32 = 0x8000_0000;
 
 /// Sub-records in file order.
 ///
-/// An instance or an array that can be read again from the bytes at its file offset is kept by that offset, in four bytes. So
-/// most of a dump are. All others, classes and roots among them, are kept as rows.
+/// An instance or an array is kept by the file offset of its tag, in four bytes, and read again from the bytes there. Classes
+/// and roots are kept as rows, and so is what lies in the last bytes of the file.
 #[derive(Debug)]
 pub struct Subs<'a> {
-    bytes: &'a [u8],
-    id_size: IdSize,
+    pub(crate) bytes: &'a [u8],
+    pub(crate) id_size: IdSize,
     /// Of each sub-record its file offset, or the number of its row.
-    entries: Vec<u32>,
-    rows: SubRows,
+    pub(crate) entries: Vec<u32>,
+    pub(crate) rows: SubRows,
 }
 
 impl Drop for Subs<'_> {
@@ -57,56 +52,7 @@ impl<'a> Model for Subs<'a> {
     ghost invariant = { λ s. All (IsEntry (length s.bytes.now) (length s.rows)) s.entries.items };
 }
 
-/// The file offset of a row, where the bytes there say all that the row does.
-fn packed_offset(bytes: &[u8], id_size: IdSize, row: Row) -> Option<u32>
-    requires { IsRowOver 0 row }
-    ensures low { IfSome result (λ offset. offset < first_row) }
-    ensures within { IfSome result (λ offset. offset + 25 ≤ length bytes.now) }
-    ensures same { IfSome result (λ offset. record { offset = offset; item = packed_item id_size bytes.now offset } ≡ row_view [] row) }
-{
-    if bytes.len() < HEAD
-        || row.offset > (bytes.len() - HEAD) as u64
-        || row.offset >= u64::from(FIRST_ROW)
-    {
-        return None;
-    }
-    let offset = row.offset as u32;
-    if hold_same(read_packed(bytes, id_size, offset), sub_of(row, &[]).item) {
-        Some(offset)
-    } else {
-        None
-    }
-}
-
-/// The number of the row that comes next. Out of memory is also answered where there are too many.
-fn next_row(rows: &SubRows) -> Result<u32, AllocError>
-    ensures { IfOk result (λ entry. entry ≡ first_row + length rows.now) }
-{
-    let index = rows.len();
-    if index >= FIRST_ROW as usize {
-        return Err(AllocError);
-    }
-    Ok(FIRST_ROW + index as u32)
-}
-
 impl<'a> Subs<'a> {
-    /// No sub-records yet. These are the bytes of the file from its beginning, or a part of them; their IDs have this size.
-    pub fn new(alloc: Global, bytes: &'a [u8], id_size: IdSize) -> Subs<'a>
-        ensures { result ≡ [] }
-    {
-        Subs {
-            bytes,
-            id_size,
-            entries: Vec::new(alloc),
-            rows: SubRows::new(alloc),
-        }
-    }
-
-    /// Where its memory comes from.
-    pub(crate) fn allocator(&self) -> Global {
-        *self.entries.allocator()
-    }
-
     /// How many there are.
     pub fn len(&self) -> usize
         ensures { result ≡ length self.now }
@@ -165,42 +111,5 @@ impl<'a> Subs<'a> {
             end -= 1;
         }
         0
-    }
-
-    /// One more at the end, which is no class.
-    pub(crate) fn push(&mut self, row: Row) -> Result<(), AllocError>
-        requires { IsRowOver 0 row }
-        ensures ok { OnOk result (self.new ≡ self.old ++ row_view [] row ∷ []) }
-        ensures err { OnErr result (self.new ≡ self.old) }
-    {
-        self.entries.reserve(1)?;
-        if let Some(offset) = packed_offset(self.bytes, self.id_size, row) {
-            self.entries.push_reserved(offset);
-            return Ok(());
-        }
-        let entry = next_row(&self.rows)?;
-        self.rows.push(row)?;
-        self.entries.push_reserved(entry);
-        Ok(())
-    }
-
-    /// A class at the end, whose tag lies at this file offset.
-    pub(crate) fn push_class(&mut self, offset: u64, class: ClassDump) -> Result<(), AllocError>
-        requires { offset + 25 < 2 ^ 64 }
-        ensures ok { OnOk result (self.new ≡ self.old ++ (record { offset = offset; item = Class (class_view class) }) ∷ []) }
-        ensures err { OnErr result (self.new ≡ self.old) }
-    {
-        let entry = next_row(&self.rows)?;
-        self.entries.reserve(1)?;
-        self.rows.push_class(offset, class)?;
-        self.entries.push_reserved(entry);
-        Ok(())
-    }
-
-    /// Only the first ones.
-    pub(crate) fn truncate(&mut self, len: usize)
-        ensures { self.new ≡ take len self.old }
-    {
-        self.entries.truncate(len);
     }
 }

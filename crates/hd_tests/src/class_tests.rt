@@ -5,7 +5,7 @@ ghost use Rattle.hd_classes.specs.Known.{IsTextWithin};
 use hd_classes::{Classes, LayoutField};
 use hd_records::{Texts, read_records};
 use hd_spell::spell;
-use hd_subs::{DumpSubs, Subs, read_segment_into};
+use hd_subs::{DumpSubs, SegmentReader};
 use hd_terms::{EdgeKind, IdSize, ReadFault, Span};
 use std::alloc::Global;
 use std::test::Fail;
@@ -25,12 +25,13 @@ fn lie_within(texts: &Texts, len: usize) -> bool
 
 /// The sub-records of a file whose only segment begins at an offset and is its last record.
 fn subs_of<'a>(alloc: Global, bytes: &'a [u8], start: u64) -> Result<DumpSubs<'a>, ReadFault> {
-    let body = bytes.get(start as usize..).unwrap_or(&[]);
-    let mut part = Subs::new(alloc, bytes, IdSize::Four);
+    let mut reader = SegmentReader::new(alloc, bytes, IdSize::Four);
     let mut list = DumpSubs::new(alloc);
-    if start <= 2_147_483_647 {
-        read_segment_into(&mut part, body, IdSize::Four, start)?;
+    if start <= 2_147_483_647 && start <= bytes.len() as u64 {
+        let len = bytes.len() as u64 - start;
+        reader.read(Span { start, len })?;
     }
+    let part = reader.into_subs();
     if part.len() > 0 {
         list.push(part)?;
     }

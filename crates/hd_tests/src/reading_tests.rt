@@ -1,7 +1,7 @@
 //! Records and sub-records, each with the file offsets that its bytes have.
 use hd_records::{check_size, read_records};
 use hd_spell::spell;
-use hd_subs::{ClassDump, Item, Sub, Subs, read_segment, read_segment_into};
+use hd_subs::{ClassDump, Item, SegmentReader, Sub, Subs};
 use hd_terms::{Cause, IdSize, Load, ReadFault, Span, Text};
 use std::test::Fail;
 
@@ -71,21 +71,25 @@ fn numbers_of(sub: Sub<'_>) -> (u64, u64, u64, u64) {
     (sub.offset, id, first, second)
 }
 
-/// Whether these are the sub-records of a list.
-fn is_list(list: &Subs, wanted: &[(u64, u64, u64, u64)]) -> bool {
+/// Whether these are the first sub-records of a list.
+fn has_first(list: &Subs, wanted: &[(u64, u64, u64, u64)]) -> bool {
     for (i, numbers) in wanted.iter().enumerate() {
         if list.len() <= i || numbers_of(list.get(i)) != *numbers {
             return false;
         }
     }
-    list.len() == wanted.len()
+    true
 }
 
-/// A body with a sub-record of each form.
-const BODY: &str = "root 1\narray 1: 2 0 9\narray 2:\nclass 12 extends 11: 301=boolean\n\
-    instance 20 of 11: 00000009 01\nbytes 23 00000006 00000000 00000002 0a 00000001 00000002\n";
+/// A file whose first 40 bytes nothing is read of, then a body with a sub-record of each form, one with a fault behind a root,
+/// and one with a root.
+const BODIES: &str =
+    "bytes 0000000000000000 0000000000000000 0000000000000000 0000000000000000 0000000000000000\n\
+    root 1\narray 1: 2 0 9\narray 2:\nclass 12 extends 11: 301=boolean\n\
+    instance 20 of 11: 00000009 01\nbytes 23 00000006 00000000 00000002 0a 00000001 00000002\n\
+    bytes ff 00000001 09 ff 00000005\n";
 
-/// What that body holds where it lies at 40.
+/// What the first of these bodies holds.
 const SUBS: [(u64, u64, u64, u64); 6] = [
     (40, 1, 0, 0),
     (45, 1, 62, 12),
@@ -96,28 +100,27 @@ const SUBS: [(u64, u64, u64, u64); 6] = [
 ];
 
 #[test]
-fn sub_records_of_a_segment(rt: HostRuntime) -> Result<(), Fail> {
-    let body = spell(rt.alloc(), BODY)?;
-    let list = read_segment(rt.alloc(), body.as_slice(), IdSize::Four, 40)?;
-    assert!(rt; is_list(&list, &SUBS));
-    Ok(())
-}
-
-#[test]
-fn fault_behind_a_segment(rt: HostRuntime) -> Result<(), Fail> {
-    let body = spell(rt.alloc(), BODY)?;
-    let mut list = read_segment(rt.alloc(), body.as_slice(), IdSize::Four, 40)?;
+fn sub_records_of_segments(rt: HostRuntime) -> Result<(), Fail> {
+    let file = spell(rt.alloc(), BODIES)?;
+    assert_eq!(rt; file.len(), 194);
+    let mut reader = SegmentReader::new(rt.alloc(), file.as_slice(), IdSize::Four);
     let fault = ReadFault {
         cause: Cause::UnknownSub,
-        offset: 205,
+        offset: 188,
     };
-    let ended = read_segment_into(&mut list, b"\xff\0\0\0\x01\x09", IdSize::Four, 200);
-    assert_eq!(rt; ended, Err(fault));
-    assert!(rt; is_list(&list, &SUBS));
-    let ended = read_segment_into(&mut list, b"\xff\0\0\0\x05", IdSize::Four, 300);
-    assert_eq!(rt; ended, Ok(()));
+    assert_eq!(rt;
+        reader.read(Span {
+            start: 40,
+            len: 143
+        }),
+        Ok(())
+    );
+    assert_eq!(rt; reader.read(Span { start: 183, len: 6 }), Err(fault));
+    assert_eq!(rt; reader.read(Span { start: 189, len: 5 }), Ok(()));
+    let list = reader.into_subs();
     assert_eq!(rt; list.len(), 7);
-    assert_eq!(rt; numbers_of(list.get(6)), (300, 5, 0, 0));
+    assert!(rt; has_first(&list, &SUBS));
+    assert_eq!(rt; numbers_of(list.get(6)), (189, 5, 0, 0));
     Ok(())
 }
 
@@ -136,20 +139,23 @@ fn class_in(sub: Sub<'_>) -> Option<&ClassDump> {
 
 #[test]
 fn parts_of_a_class(rt: HostRuntime) -> Result<(), Fail> {
-    let body = spell(rt.alloc(), CLASS)?;
-    let list = read_segment(rt.alloc(), body.as_slice(), IdSize::Four, 40)?;
+    let file = spell(rt.alloc(), CLASS)?;
+    assert_eq!(rt; file.len(), 73);
+    let mut reader = SegmentReader::new(rt.alloc(), file.as_slice(), IdSize::Four);
+    reader.read(Span { start: 0, len: 73 })?;
+    let list = reader.into_subs();
     assert_eq!(rt; list.len(), 1);
     let class = class_in(list.get(0)).ok_or("it is a class")?;
     let value_at = |start| Span { start, len: 4 };
     assert_eq!(rt; (class.signers, class.domain), (0x41, 0x51));
     assert!(rt;
-        matches!(class.constants.as_slice(), [k] if k.code == 2 && k.value == value_at(82))
+        matches!(class.constants.as_slice(), [k] if k.code == 2 && k.value == value_at(42))
     );
     assert!(rt;
-        matches!(class.statics.as_slice(), [a, _] if a.name == 0x201 && a.code == 10 && a.value == value_at(93))
+        matches!(class.statics.as_slice(), [a, _] if a.name == 0x201 && a.code == 10 && a.value == value_at(53))
     );
     assert!(rt;
-        matches!(class.statics.as_slice(), [_, b] if b.name == 0x202 && b.code == 2 && b.value == value_at(102))
+        matches!(class.statics.as_slice(), [_, b] if b.name == 0x202 && b.code == 2 && b.value == value_at(62))
     );
     assert!(rt; matches!(class.fields.as_slice(), [f] if f.name == 0x301 && f.code == 4));
     Ok(())

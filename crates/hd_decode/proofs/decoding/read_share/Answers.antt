@@ -1,12 +1,22 @@
-use Rattle.std.proofs.Common.{arith}
+use Rattle.std.proofs.Common.{◌∙◌, arith}
 use Rattle.std.proofs.lemmas.Result.{err_from_is_err_and}
 use Rattle.hd_decode.proofs.BodyLemmas.{reads-next, fault-here}
 use Rattle.hd_decode.proofs.decoding.read_share.Goals as goal
 
 pub loop-span-preserved : goal.loop-span-preserved
-loop-span-preserved c = reads-next c.args.id_size c.args.bytes.now c.args.share.now c.loop-span.span-index _ c.loop-span.list c.read_body.new.list (omega arith) c.loop-span.invariant c.in_ok-read_body.ensures.ok
+loop-span-preserved c =
+    let i = c.loop-span.invariant in
+    let e = c.in_ok-read.ensures in
+    record {
+      read = reads-next c.args.id_size c.args.bytes.now c.args.share.now c.loop-span.span-index _ c.loop-span.reader.subs c.read.new.self.subs (omega arith) i.read (rw (i.bytes, i.size) at e.ok);
+      bytes = e.same_file.0 ∙ i.bytes;
+      size = e.same_file.1 ∙ i.size;
+    }
 
-pub returns-in_err-read_body : goal.returns-in_err-read_body
-returns-in_err-read_body c =
+pub returns-in_err-read : goal.returns-in_err-read
+returns-in_err-read c =
+    let i = c.loop-span.invariant in
     let p = err_from_is_err_and c.from_residual.result c.from_residual.ensures.1 in
-    rw (p.1, p.2) (fault-here c.args.id_size c.args.bytes.now c.args.share.now c.loop-span.span-index _ c.loop-span.list c.in_err-read_body.field-0.0 (omega arith) c.loop-span.invariant c.in_err-read_body.ensures.err)
+    rw (p.1, p.2)
+    (fault-here c.args.id_size c.args.bytes.now c.args.share.now c.loop-span.span-index _ c.loop-span.reader.subs c.in_err-read.field-0.0 (omega arith) i.read
+    (rw (i.bytes, i.size) at c.in_err-read.ensures.err))

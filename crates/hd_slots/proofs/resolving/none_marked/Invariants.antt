@@ -1,0 +1,7 @@
+use Rattle.std.proofs.Common.{◌≡◌, ℕ, ◌<◌, false, get_or}
+use Rattle.hd_slots.specs.Resolving.{IsUnmarked}
+use Rattle.hd_slots.proofs.resolving.none_marked.Given as goal
+
+-- unless some number is marked, none before the index is
+abbrev pub invariant-loop-i : goal.invariant-loop-i
+invariant-loop-i l = l.some ≡ false → (k : ℕ) → k < l.i → IsUnmarked (get_or l.items k 0)
