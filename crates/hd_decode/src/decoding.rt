@@ -1,5 +1,5 @@
 //! Decoding the segments of a dump on worker threads; the sub-records come in file order.
-ghost use Rattle.std.specs.Prelude.{◌≤◌, ◌<◌, ◌^◌, length, All, IfOk, IfErr, OnOk};
+ghost use Rattle.std.specs.Prelude.{◌≤◌, ◌<◌, ◌^◌, length, All, IfOk, IfErr};
 ghost use Rattle.hd_terms.specs.Workers.{IsWorkers};
 ghost use Rattle.hd_records.specs.Reading.{ReadsRecords};
 ghost use Rattle.hd_decode.specs.Bodies.{ReadsBodies, IsSpanWithin, IsBodiesFaultOrMemory};

@@ -15,7 +15,7 @@ use Rattle.hd_slots.specs.Resolving.{mark, found_for, found_code, id_of_found, I
 use Rattle.hd_slots.proofs.CodeLemmas.{null-nowhere, null-code, absent-code, id-object, codes-longer, ids-longer}
 
 -- what stands at an index, where nothing from it on has changed
-pub at-rest : (before items : List ℕ) (i : ℕ) → drop i items ≡ drop i before → get_or items i 0 ≡ get_or before i 0
+at-rest : (before items : List ℕ) (i : ℕ) → drop i items ≡ drop i before → get_or items i 0 ≡ get_or before i 0
 at-rest before items i rest =
     ap (λ (n : ℕ). get_or items n 0) (sym (add-zero i)) ∙ sym (get_or-drop i items 0 0) ∙ ap (λ (xs : List ℕ). get_or xs 0 0) rest ∙ get_or-drop i before 0 0 ∙ ap (λ (n : ℕ). get_or before n 0) (add-zero i)
 

@@ -46,7 +46,7 @@ pub record AreKeptSoFar (ids bytes : List ℕ) (size : IdSize) (before items abs
   pub rest : drop i items ≡ drop i before
   pub few : length absent ≤ i
 
--- if the numbers before a block are done, so are then those of the block
+-- a block is done, whatever list the numbers were found in: if those before `start` are done, so are then those before `end`
 abbrev pub KeepsBlock : List ℕ → List ℕ → IdSize → List ℕ → List ℕ → ℕ → List ℕ → List ℕ → ℕ → Type 0
 KeepsBlock ids bytes size items absent start items' absent' end =
     (before : List ℕ) → All (IsFound ids bytes size) before → length items ≡ length before

@@ -107,19 +107,18 @@ fn number_for(
     Ok(code)
 }
 
-/// Whether none of these is a marked offset. All are looked at, many at once.
+/// Whether none of these is a marked offset. It doesn't stop at the first, so that the compiler can compare many at once.
 fn none_marked(items: &[u32]) -> bool
-    ensures { IsTrue result → All IsUnmarked items.now }
+    ensures { IsTrue result ↔ All IsUnmarked items.now }
 {
-    let mut some = false;
+    let mut any_marked = false;
     for i in 0..items.len() {
-        some |= is_marked(items[i]);
+        any_marked |= is_marked(items[i]);
     }
-    !some
+    !any_marked
 }
 
-/// Keeps the IDs of the block that begins at an index that are no object's, and gives each a number behind those of the objects.
-/// Answers where the next block begins.
+/// Does for one block what `keep_absent` does for all. The block begins at `start`; the answer is where the next begins.
 fn keep_block(
     ids: &[u64],
     id_size: IdSize,
@@ -133,10 +132,9 @@ fn keep_block(
     requires no_null { All (λ id. 0 < id) ids.now }
     requires room { length ids.now + length items.old < 2 ^ 32 }
     requires start { start < length items.old }
-    requires kept { length absent.old.items ≤ start }
+    requires few_absent { length absent.old.items ≤ start }
     ensures keeps { IfOk result (λ end. KeepsBlock ids.now bytes.now id_size items.old absent.old.items start items.new absent.new.items end) }
     ensures end { IfOk result (λ end. (start < end) × (end ≤ length items.new)) }
-    ensures len { length items.new ≡ length items.old }
 {
     let end = items.len().min(start + BLOCK);
     if none_marked(&items[start..end]) {

@@ -1,5 +1,5 @@
 -- Numbers of sub-records, of which there come more.
-use Rattle.std.proofs.Common.{◌≡◌, ◌∙◌, inl, inr, ℕ, ◌+◌, ◌-◌, ◌<◌, ◌≤◌, List, [], ◌∷◌, ◌++◌, length, map, refl, sym, ap, arith, All}
+use Rattle.std.proofs.Common.{◌≡◌, ◌∙◌, inl, inr, ℕ, ◌+◌, ◌-◌, ◌≤◌, List, [], ◌∷◌, ◌++◌, length, map, refl, sym, ap, arith, All}
 use Rattle.std.specs.List.{slice_index_or}
 use Rattle.std.proofs.Math.Seq.{get_or-append_seam}
 use Rattle.std.proofs.lemmas.Bool.{lt-ltb, le-ltb}
@@ -7,16 +7,9 @@ use Rattle.std.proofs.lemmas.List.{map-append, get_or_append_left}
 use Rattle.std.proofs.lemmas.List.Elements.{All-head, All-tail}
 use Rattle.hd_terms.specs.declared.IdSize.{IdSize}
 use Rattle.hd_terms.specs.SubRecords.{Sub}
-use Rattle.hd_subs.specs.Packed.{first_row, no_sub, packed_item, sub_of_entry, IsEntry}
+use Rattle.hd_subs.specs.Packed.{first_row, no_sub, sub_of_entry, IsEntry}
 
 module _ (size : IdSize) (bytes : List ℕ) where
-  abbrev at_offset : ℕ → Sub
-  at_offset entry = record { offset = entry; item = packed_item size bytes entry }
-
-  -- the sub-record at an offset
-  packed-is : (rows : List Sub) (entry : ℕ) → entry < first_row → sub_of_entry size bytes rows entry ≡ at_offset entry
-  packed-is rows entry low = rw (lt-ltb entry first_row low) refl
-
   -- the row of a number
   row-is : (rows : List Sub) (entry : ℕ) → first_row ≤ entry → sub_of_entry size bytes rows entry ≡ slice_index_or rows (entry - first_row) no_sub
   row-is rows entry high = rw (le-ltb entry first_row high) refl
@@ -51,10 +44,3 @@ module _ (size : IdSize) (bytes : List ℕ) where
         map-append (sub_of_entry size bytes (rows ++ x ∷ [])) entries (entry ∷ [])
         ∙ ap (λ (ss : List Sub). ss ++ sub_of_entry size bytes (rows ++ x ∷ []) entry ∷ []) (entries-kept entries all)
         ∙ ap (λ (s : Sub). map (sub_of_entry size bytes rows) entries ++ s ∷ []) (new-row entry is)
-
-  -- one more sub-record that is kept by its offset
-  pub push-packed : (rows : List Sub) (x : Sub) (entries : List ℕ) (entry : ℕ) → entry < first_row → at_offset entry ≡ x
-      → map (sub_of_entry size bytes rows) (entries ++ entry ∷ []) ≡ map (sub_of_entry size bytes rows) entries ++ x ∷ []
-  push-packed rows x entries entry low same =
-      map-append (sub_of_entry size bytes rows) entries (entry ∷ [])
-      ∙ ap (λ (s : Sub). map (sub_of_entry size bytes rows) entries ++ s ∷ []) (packed-is rows entry low ∙ same)

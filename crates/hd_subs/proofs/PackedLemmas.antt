@@ -1,5 +1,5 @@
 -- Sub-records that are read again where they lie.
-use Rattle.std.proofs.Common.{Option, Some, None, Result, Ok, Err, IfOk, IfSome, MatchOption, ◌≡◌, ◌∙◌, ℕ, suc, ◌+◌, ◌*◌, ◌<◌, ◌≤◌, true, List, [], ◌∷◌, length, get_or, take, drop, refl, sym, ap, subst, add-zero, arith}
+use Rattle.std.proofs.Common.{Option, Some, None, Result, Ok, Err, IfOk, IfErr, MatchOption, ◌≡◌, ◌∙◌, ℕ, suc, ◌+◌, ◌*◌, ◌<◌, ◌≤◌, true, List, [], ◌∷◌, length, get_or, take, drop, refl, sym, ap, subst, add-zero, arith}
 use Rattle.std.specs.Result.{result_ok}
 use Rattle.std.proofs.lemmas.List.{drop-drop, get_or-take, get_or-drop}
 use Rattle.byteorder.specs.Endian.{big_number}
@@ -15,14 +15,14 @@ use Rattle.hd_subs.specs.ParsedSubs.{BeginsWithSub, IsBehind, IsPackedFrom, Lies
 use Rattle.hd_subs.proofs.Padding.{big_number-take}
 use Rattle.hd_subs.proofs.ParsedSubs.{values_in, count_in, begins_instance, begins_array, begins_primitive}
 
--- what holds of a value that is there
-pub of-some : {X : Type 0} (o : Option X) (N : Type 0) (P Q : X → Type 0) → MatchOption o N P → ((x : X) → P x → Q x) → IfSome o Q
-of-some None N P Q h then = tt
-of-some (Some x) N P Q h then = then x h
+-- what follows from what holds of a value, and of its lack
+pub of-some : {X : Type 0} (o : Option X) (N M : Type 0) (P Q : X → Type 0) → MatchOption o N P → (N → M) → ((x : X) → P x → Q x) → MatchOption o M Q
+of-some None N M P Q h none some = none h
+of-some (Some x) N M P Q h none some = some x h
 
-pub of-ok : {X E : Type 0} (r : Result X E) (P Q : X → Type 0) → IfOk r P → ((x : X) → P x → Q x) → IfSome (result_ok r) Q
-of-ok (Ok x) P Q h then = then x h
-of-ok (Err e) P Q h then = tt
+pub of-ok : {X E : Type 0} (r : Result X E) (P Q : X → Type 0) (F : E → Type 0) (M : Type 0) → IfOk r P → IfErr r F → ((e : E) → F e → M) → ((x : X) → P x → Q x) → MatchOption (result_ok r) M Q
+of-ok (Ok x) P Q F M h f err ok = ok x h
+of-ok (Err e) P Q F M h f err ok = err e f
 
 -- the first byte, and those behind it
 first-byte : (tag : ℕ) (fields : List ℕ) (n : ℕ) (xs : List ℕ) → tag ∷ fields ≡ take (suc n) xs → get_or xs 0 0 ≡ tag
@@ -34,21 +34,21 @@ bytes-behind tag fields n [] e = absurd (omega (arith, ap (λ (ys : List ℕ). l
 bytes-behind tag fields n (x ∷ xs) e = ap (λ (ys : List ℕ). drop 1 ys) e
 
 module _ (bytes : List ℕ) (at tag : ℕ) (fields : List ℕ) (here : LiesAt bytes at (tag ∷ fields)) where
-  pub tag-is : get_or bytes at 0 ≡ tag
+  tag-is : get_or bytes at 0 ≡ tag
   tag-is = sym (get_or-drop at bytes 0 0 ∙ ap (λ (i : ℕ). get_or bytes i 0) (add-zero at)) ∙ first-byte tag fields (length fields) (drop at bytes) here
 
   fields-are : fields ≡ take (length fields) (drop (at + 1) bytes)
   fields-are = bytes-behind tag fields (length fields) (drop at bytes) here ∙ ap (λ (xs : List ℕ). take (length fields) xs) (drop-drop 1 at bytes)
 
   -- a number among the fields, where it lies in the file
-  pub number-at : (n k j : ℕ) → k + n ≤ length fields → at + 1 + k ≡ j → big_number n (drop k fields) ≡ big_number n (drop j bytes)
+  number-at : (n k j : ℕ) → k + n ≤ length fields → at + 1 + k ≡ j → big_number n (drop k fields) ≡ big_number n (drop j bytes)
   number-at n k j le is =
       ap (λ (xs : List ℕ). big_number n (drop k xs)) fields-are
       ∙ big_number-take n k (length fields) (drop (at + 1) bytes) le
       ∙ ap (λ (xs : List ℕ). big_number n xs) (drop-drop k (at + 1) bytes ∙ ap (λ (i : ℕ). drop i bytes) is)
 
   -- a byte among the fields
-  pub byte-at : (k j : ℕ) → k < length fields → at + 1 + k ≡ j → get_or fields k 0 ≡ get_or bytes j 0
+  byte-at : (k j : ℕ) → k < length fields → at + 1 + k ≡ j → get_or fields k 0 ≡ get_or bytes j 0
   byte-at k j lt is =
       ap (λ (xs : List ℕ). get_or xs k 0) fields-are
       ∙ get_or-take (length fields) (drop (at + 1) bytes) k 0 lt

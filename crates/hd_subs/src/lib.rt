@@ -1,4 +1,4 @@
-//! The sub-records of a heap dump's segment: what each holds, and the file offset of its tag.
+//! The sub-records of a heap dump's segments: what each holds, and the file offset of its tag.
 #![tactic(auto)]
 
 mod class;

@@ -1,5 +1,5 @@
 //! Sub-records that are read again from the bytes at their offsets.
-ghost use Rattle.std.specs.Prelude.{◌≡◌, ◌+◌, ◌≤◌, ◌<◌, ◌^◌, length, drop};
+ghost use Rattle.std.specs.Prelude.{◌≡◌, ◌+◌, ◌≤◌, length, drop};
 ghost use Rattle.byteorder.specs.Endian.{big_number};
 ghost use Rattle.hd_terms.specs.Records.{id_len};
 ghost use Rattle.hd_subs.specs.Views.{item_view};

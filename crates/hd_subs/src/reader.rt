@@ -66,7 +66,7 @@ fn next_row(rows: &SubRows) -> Result<u32, AllocError>
 }
 
 impl<'a> SegmentReader<'a> {
-    /// Nothing is read yet. These are the bytes of the file from its beginning; their IDs have this size.
+    /// A reader that has read nothing yet. `bytes` is the whole file, `id_size` the size of its IDs.
     pub fn new(alloc: Global, bytes: &'a [u8], id_size: IdSize) -> SegmentReader<'a>
         ensures { result ≡ record { bytes = bytes.now; size = id_size; subs = [] } }
     {
@@ -106,7 +106,7 @@ impl<'a> SegmentReader<'a> {
             && offset < u64::from(FIRST_ROW)
     }
 
-    /// What is read at a file offset, at the end.
+    /// Appends the instance or the array whose tag lies at this file offset.
     #[inline(always)]
     fn push_packed(&mut self, offset: u32) -> Result<(), AllocError>
         requires low { offset < first_row }
@@ -118,7 +118,7 @@ impl<'a> SegmentReader<'a> {
         Ok(())
     }
 
-    /// A row at the end, which is no class.
+    /// Appends a row that is no class's.
     fn push_row(&mut self, row: Row) -> Result<(), AllocError>
         requires { IsRowOver 0 row }
         ensures ok { OnOk result (self.new ≡ record self.old { subs = self.old.subs ++ row_view [] row ∷ [] }) }
@@ -131,7 +131,7 @@ impl<'a> SegmentReader<'a> {
         Ok(())
     }
 
-    /// A class at the end, whose tag lies at this file offset.
+    /// Appends a class whose tag lies at this file offset.
     fn push_class(&mut self, offset: u64, class: ClassDump) -> Result<(), AllocError>
         requires { offset + 25 < 2 ^ 64 }
         ensures ok { OnOk result (self.new ≡ record self.old { subs = self.old.subs ++ (record { offset = offset; item = Class (class_view class) }) ∷ [] }) }
@@ -151,7 +151,7 @@ impl<'a> SegmentReader<'a> {
         self.entries.truncate(len);
     }
 
-    /// Puts the CLASS DUMP whose fields these bytes begin with at the end, and answers the bytes after it.
+    /// Appends the CLASS DUMP whose fields `fields` begins with, and answers the bytes after it.
     fn append_class<'b>(&mut self, fields: &'b [u8], offset: u64) -> Result<&'b [u8], ReadFault>
         requires { offset + length fields.now + 26 < 2 ^ 64 }
         ensures ok { IfOk result (λ after. AppendsSub offset (0x20 ∷ fields.now) self.old self.new after.now) }
@@ -175,8 +175,7 @@ impl<'a> SegmentReader<'a> {
         }
     }
 
-    /// Puts the sub-record of a tag and of the fields that these bytes begin with at the end, where it is kept as a row, and
-    /// answers the bytes after it.
+    /// Appends the sub-record of this tag whose fields `fields` begins with, as a row or a class, and answers the bytes after it.
     fn append_row<'b>(
         &mut self,
         tag: u8,
@@ -198,7 +197,7 @@ impl<'a> SegmentReader<'a> {
         }
     }
 
-    /// Puts the sub-record of a tag and of the fields that these bytes begin with at the end, and answers the bytes after it.
+    /// Appends the sub-record of this tag whose fields `fields` begins with, and answers the bytes after it.
     #[inline(always)]
     fn append<'b>(&mut self, tag: u8, fields: &'b [u8], offset: u64) -> Result<&'b [u8], ReadFault>
         requires low { offset + length fields.now + 26 < 2 ^ 64 }
@@ -216,9 +215,9 @@ impl<'a> SegmentReader<'a> {
         self.append_row(tag, fields, offset)
     }
 
-    /// Puts the sub-records of a segment's body at the end, those before a fault too.
+    /// Appends the sub-records of a segment's body, those before a fault too.
     fn append_body(&mut self, body: &[u8], base: u64) -> Result<(), ReadFault>
-        requires low { base ≤ 2147483647 }
+        requires low { base + length body.now < 2 ^ 63 }
         requires at { LiesAt self.old.bytes base body.now }
         ensures ok { OnOk result (AppendsSegment self.old.size base body.now self.old.subs self.new.subs) }
         ensures err { IfErr result (λ f. IsSegmentFaultOrMemory self.old.size base body.now f) }
@@ -232,28 +231,27 @@ impl<'a> SegmentReader<'a> {
         Ok(())
     }
 
-    /// Reads the segment whose body lies at these file offsets, in bytes: its sub-records come at the end.
+    /// Appends the sub-records of the segment whose body is this span of the file, in bytes.
     ///
     /// # Errors
     ///
-    /// The first fault from left to right, and then none is kept: `UnknownSub` at a tag that no sub-record has, `UnknownType`
+    /// The first fault from left to right, and then the reader is as it was: `UnknownSub` at a tag that no sub-record has, `UnknownType`
     /// at the tag of a primitive array whose elements have none of the types 4 to 11 or of a class with a constant, a static or a
     /// field of none of the types 1, 2 and 4 to 11, and `ShortSub` at the tag of a sub-record that runs past the body; the fields
     /// of one sub-record are read from left to right. `OutOfMemory` comes only where the list, or a list of a class, could not
     /// grow by something whose bytes are there.
     pub fn read(&mut self, body: Span) -> Result<(), ReadFault>
-        requires low { body.start ≤ 2147483647 }
-        requires within { body.start + body.len ≤ length self.old.bytes }
+        requires { body.start + body.len ≤ length self.old.bytes }
         ensures ok { OnOk result (AppendsSegment self.old.size body.start (bytes_of_span self.old.bytes body) self.old.subs self.new.subs) }
         ensures err { IfErr result (λ f. IsSegmentFaultOrMemory self.old.size body.start (bytes_of_span self.old.bytes body) f) }
         ensures unchanged { OnErr result (self.new ≡ self.old) }
-        ensures same_file { (self.new.bytes ≡ self.old.bytes) × (self.new.size ≡ self.old.size) }
+        ensures same_file { self.new ≡ record self.old { subs = self.new.subs } }
     {
         let before = self.entries.len();
         let start = body.start as usize;
         let bytes = self.bytes;
-        let text = &bytes[start..start + body.len as usize];
-        if let Err(fault) = self.append_body(text, body.start) {
+        let body_bytes = &bytes[start..start + body.len as usize];
+        if let Err(fault) = self.append_body(body_bytes, body.start) {
             self.truncate(before);
             return Err(fault);
         }

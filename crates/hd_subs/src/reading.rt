@@ -1,5 +1,5 @@
-//! Reading one sub-record, which is no class.
-ghost use Rattle.std.specs.Prelude.{◌≡◌, ◌≢◌, ◌+◌, ◌≤◌, ◌<◌, ◌^◌, true, [], ◌∷◌, length, drop, slice_index, IfSome, IfNone, IfOk, IfErr, OnOk, MatchOption};
+//! Reading one sub-record that is no class.
+ghost use Rattle.std.specs.Prelude.{◌≡◌, ◌≢◌, ◌+◌, ◌≤◌, ◌<◌, ◌^◌, true, [], ◌∷◌, length, drop, slice_index, IfSome, IfNone, IfOk, IfErr, MatchOption};
 ghost use Rattle.byteorder.specs.Endian.{big_number};
 ghost use Rattle.hd_terms.specs.declared.RootKind.{RootKind};
 ghost use Rattle.hd_terms.specs.declared.errors.Cause.TheVariants.{ShortSub};
@@ -10,7 +10,7 @@ ghost use Rattle.hd_terms.specs.ReadFaults.{IsStuck};
 ghost use Rattle.hd_subs.specs.Layout.{instance_len, array_len, primitive_array_len};
 ghost use Rattle.hd_subs.specs.Rows.{row_view, instance_kind, array_kind};
 ghost use Rattle.hd_subs.specs.declared.row.Kind.TheVariants.{Class};
-ghost use Rattle.hd_subs.specs.ParsedSubs.{BeginsWithSub, IsBehind, IsPackedFrom, IsNoRow};
+ghost use Rattle.hd_subs.specs.ParsedSubs.{BeginsWithSub, IsBehind, IsPackedFrom, IsUnpacked, IsNoRow};
 
 use crate::layout::{CLASS_DUMP, INSTANCE_DUMP, OBJECT_ARRAY_DUMP, PRIMITIVE_ARRAY_DUMP};
 use crate::row::{Kind, Row};
@@ -157,11 +157,11 @@ fn behind_primitive_array(fields: &[u8], id_size: IdSize) -> Result<&[u8], Cause
     Ok(&fields[len..])
 }
 
-/// The bytes behind an instance or an array of this tag whose fields these bytes begin with, if it is there. It can be read
-/// again at the file offset of its tag.
+/// The bytes behind the instance or the array of this tag whose fields `fields` begins with. `None` for another tag, or where it
+/// can't be read.
 #[inline(always)]
 pub(crate) fn behind_packed(tag: u8, fields: &[u8], id_size: IdSize) -> Option<&[u8]>
-    ensures { IfSome result (λ after. IsPackedFrom id_size (tag ∷ fields.now) after.now) }
+    ensures { MatchOption result (IsUnpacked id_size tag fields.now) (λ after. IsPackedFrom id_size (tag ∷ fields.now) after.now) }
 {
     match tag {
         INSTANCE_DUMP => behind_instance(fields, id_size),

@@ -68,7 +68,7 @@ fn array_of(row: Row, start: u64, len: u64) -> Item<'static>
 }
 
 /// What a row says, over the classes of its list.
-pub(crate) fn sub_of(row: Row, classes: &[ClassDump]) -> Sub<'_>
+fn sub_of(row: Row, classes: &[ClassDump]) -> Sub<'_>
     requires { IsRowOver (length classes.now) row }
     ensures { sub_view result ≡ row_view classes.now row }
 {

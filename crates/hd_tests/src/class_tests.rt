@@ -27,7 +27,7 @@ fn lie_within(texts: &Texts, len: usize) -> bool
 fn subs_of<'a>(alloc: Global, bytes: &'a [u8], start: u64) -> Result<DumpSubs<'a>, ReadFault> {
     let mut reader = SegmentReader::new(alloc, bytes, IdSize::Four);
     let mut list = DumpSubs::new(alloc);
-    if start <= 2_147_483_647 && start <= bytes.len() as u64 {
+    if start <= bytes.len() as u64 {
         let len = bytes.len() as u64 - start;
         reader.read(Span { start, len })?;
     }

@@ -81,8 +81,8 @@ fn has_first(list: &Subs, wanted: &[(u64, u64, u64, u64)]) -> bool {
     true
 }
 
-/// A file whose first 40 bytes nothing is read of, then a body with a sub-record of each form, one with a fault behind a root,
-/// and one with a root.
+/// A file: 40 bytes of no segment, a body with a sub-record of each form, a body with a fault behind a root, and a body with a
+/// root.
 const BODIES: &str =
     "bytes 0000000000000000 0000000000000000 0000000000000000 0000000000000000 0000000000000000\n\
     root 1\narray 1: 2 0 9\narray 2:\nclass 12 extends 11: 301=boolean\n\

@@ -1,5 +1,6 @@
-use Rattle.std.proofs.Common.{◌∙◌, arith}
+use Rattle.std.proofs.Common.{◌∙◌, ap, arith}
 use Rattle.std.proofs.lemmas.Result.{err_from_is_err_and}
+use Rattle.hd_subs.specs.Reading.{Reader}
 use Rattle.hd_decode.proofs.BodyLemmas.{reads-next, fault-here}
 use Rattle.hd_decode.proofs.decoding.read_share.Goals as goal
 
@@ -9,8 +10,8 @@ loop-span-preserved c =
     let e = c.in_ok-read.ensures in
     record {
       read = reads-next c.args.id_size c.args.bytes.now c.args.share.now c.loop-span.span-index _ c.loop-span.reader.subs c.read.new.self.subs (omega arith) i.read (rw (i.bytes, i.size) at e.ok);
-      bytes = e.same_file.0 ∙ i.bytes;
-      size = e.same_file.1 ∙ i.size;
+      bytes = ap (λ (r : Reader). r.bytes) e.same_file ∙ i.bytes;
+      size = ap (λ (r : Reader). r.size) e.same_file ∙ i.size;
     }
 
 pub returns-in_err-read : goal.returns-in_err-read

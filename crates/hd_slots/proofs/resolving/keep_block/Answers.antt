@@ -16,7 +16,7 @@ returns-then-none_marked-clause-keeps c = λ before found len so_far.
     let n : ℕ = c.min-end.result - c.args.start in
     let sum : c.args.start + n ≡ c.min-end.result = omega arith in
     subst (λ (j : ℕ). AreKeptSoFar ids c.args.bytes.now c.args.id_size before items absent j) sum
-    (all-unmarked ids c.args.bytes.now c.args.id_size before items absent c.args.start n c.requires.few c.requires.no_null found len (omega arith) (c.if-none_marked.ensures refl) so_far)
+    (all-unmarked ids c.args.bytes.now c.args.id_size before items absent c.args.start n c.requires.few c.requires.no_null found len (omega arith) (c.if-none_marked.ensures.0 refl) so_far)
 
 pub number_for-requires-clause-found : goal.number_for-requires-clause-found
 number_for-requires-clause-found c =
