@@ -2,10 +2,10 @@
 use crate::boards::two_desks;
 use hd_board::{AppendFault, Board, LookFault, append_to};
 use hd_log::Front;
-use hd_terms::{Edit, Event, LogFault, NoMemory, Refusal, What};
+use hd_terms::{Edit, Event, LogFault, Refusal, What};
 use std::alloc::Global;
+use std::process::Abort;
 use std::sync::Wait;
-use std::test::Fail;
 
 fn by(who: u8, what: What) -> Event {
     Event { who, what }
@@ -26,14 +26,14 @@ fn appended(answer: Result<Front, AppendFault>) -> Appended {
 }
 
 /// Appends to a log of two desks, 3 and 4, over a dump of one root, by an analyst who has seen no event.
-fn append_unseen(alloc: Global, log: &mut Front, event: Event) -> Result<Appended, NoMemory> {
-    let none = Front::empty(alloc)?;
-    Ok(appended(append_to(alloc, log, 3, 2, 1, &none, event)))
+fn append_unseen<R: Abort>(rt: &R, alloc: Global, log: &mut Front, event: Event) -> Appended {
+    let none = Front::empty(alloc).expect(rt, "a log is begun");
+    appended(append_to(alloc, log, 3, 2, 1, &none, event))
 }
 
 #[test]
-fn appends_in_order(rt: HostRuntime) -> Result<(), Fail> {
-    let mut log = Front::empty(rt.alloc())?;
+fn appends_in_order(rt: HostRuntime) {
+    let mut log = Front::empty(rt.alloc()).expect(&rt, "a log is begun");
     let not_yours = Refusal::Log(LogFault::NotYours);
     let no_such_event = Refusal::Log(LogFault::NoSuchEvent);
     for (who, what, answer) in [
@@ -46,30 +46,28 @@ fn appends_in_order(rt: HostRuntime) -> Result<(), Fail> {
         (4, What::Do(Edit::Drop(1)), Ok(2)),
         (5, ADD, Err(None)),
     ] {
-        assert!(rt; append_unseen(rt.alloc(), &mut log, by(who, what))? == answer);
+        assert!(rt; append_unseen(&rt, rt.alloc(), &mut log, by(who, what)) == answer);
     }
     assert_eq!(rt; log.len(), 2);
-    Ok(())
 }
 
 /// How many events a look finds, for an analyst who has seen no event; nothing where the log is foreign.
-fn looked<R: Wait>(rt: &R, alloc: Global, board: &Board, who: u8) -> Result<Option<u32>, NoMemory> {
-    let none = Front::empty(alloc)?;
+fn looked<R: Abort + Wait>(rt: &R, alloc: Global, board: &Board, who: u8) -> Option<u32> {
+    let none = Front::empty(alloc).expect(rt, "a log is begun");
     match board.look(rt, &none, who) {
-        Ok(log) => Ok(Some(log.len())),
-        Err(LookFault::Foreign(_)) => Ok(None),
-        Err(LookFault::OutOfMemory) => Err(NoMemory),
+        Ok(log) => Some(log.len()),
+        Err(LookFault::Foreign(_)) => None,
+        Err(LookFault::OutOfMemory) => panic!(rt; "memory ran out"),
     }
 }
 
 #[test]
-fn looks_after_an_append(rt: HostRuntime) -> Result<(), Fail> {
-    let (board, _desks) = two_desks(&rt, rt.alloc()).ok_or("the board opens")?;
-    let none = Front::empty(rt.alloc())?;
+fn looks_after_an_append(rt: HostRuntime) {
+    let (board, _desks) = two_desks(&rt, rt.alloc());
+    let none = Front::empty(rt.alloc()).expect(&rt, "a log is begun");
     let answer = appended(board.append(&rt, rt.alloc(), &none, by(0, ADD)));
     assert!(rt; answer == Ok(1));
-    assert!(rt; looked(&rt, rt.alloc(), &board, 1)? == Some(1));
-    assert!(rt; looked(&rt, rt.alloc(), &board, 0)?.is_none());
-    assert!(rt; looked(&rt, rt.alloc(), &board, 2)?.is_none());
-    Ok(())
+    assert!(rt; looked(&rt, rt.alloc(), &board, 1) == Some(1));
+    assert!(rt; looked(&rt, rt.alloc(), &board, 0).is_none());
+    assert!(rt; looked(&rt, rt.alloc(), &board, 2).is_none());
 }

@@ -3,6 +3,7 @@ use hd_board::{AppendFault, Board, CloseFault, Desk, EditFault, UndoFault, open}
 use hd_state_tests::dumps::{TWO_ARRAYS, graph_of};
 use hd_terms::{Edit, Refusal, Slot, Strength};
 use std::alloc::Global;
+use std::process::Abort;
 use std::random::RandomSource;
 use std::sync::Wait;
 use std::thread::Threads;
@@ -15,12 +16,12 @@ pub const CUT: Edit = Edit::Cut(1, Slot::Element(0));
 pub type Answer = Option<Result<(u32, u64, u64), Refusal>>;
 
 /// A board of two desks over the two arrays.
-pub fn two_desks<R: RandomSource + Threads + Sync>(
+pub fn two_desks<R: Abort + RandomSource + Threads + Sync>(
     rt: &R,
     alloc: Global,
-) -> Option<(Board, Vec<Desk>)> {
-    let graph = graph_of(rt, alloc, TWO_ARRAYS)?;
-    open(rt, alloc, graph, 2).ok()
+) -> (Board, Vec<Desk>) {
+    let graph = graph_of(rt, alloc, TWO_ARRAYS).expect(rt, "the dump opens");
+    open(rt, alloc, graph, 2).expect(rt, "the board opens")
 }
 
 /// What a desk answers to an edit.
@@ -31,6 +32,14 @@ pub fn edit<R: Wait>(rt: &R, alloc: Global, board: &Board, desk: &mut Desk, edit
         Err(EditFault::Append(AppendFault::Refused(refusal, _))) => Some(Err(refusal)),
         Err(_) => None,
     }
+}
+
+/// Does the cut by a desk.
+pub fn cut<R: Abort + Wait>(rt: &R, alloc: Global, board: &Board, desk: &mut Desk) {
+    let answer = edit(rt, alloc, board, desk, CUT);
+    answer
+        .expect(rt, "the cut is answered")
+        .expect(rt, "the cut is taken");
 }
 
 /// What a desk answers to the undo of an event, or without a number of its last live edit.

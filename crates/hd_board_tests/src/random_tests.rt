@@ -10,9 +10,9 @@ use hd_strength::from_scratch;
 use hd_supports::Strengths;
 use hd_terms::{Edit, Slot};
 use std::alloc::Global;
+use std::process::Abort;
 use std::sync::atomic::{AtomicU64, Ordering};
 use std::sync::{Arc, Wait};
-use std::test::Fail;
 use std::thread;
 use std::thread::Threads;
 
@@ -79,45 +79,48 @@ fn agrees<R: Wait>(
 }
 
 /// How many desks agree with a search from scratch under a log.
-fn agreeing<R: Wait>(
+fn agreeing<R: Abort + Wait>(
     rt: &R,
     alloc: Global,
     board: &Board,
     desks: &mut [Desk],
     graph: &Graph,
     log: &Front,
-) -> Option<u32> {
-    let strengths = from_scratch(alloc, graph, log).ok()?;
+) -> u32 {
+    let strengths = from_scratch(alloc, graph, log).expect(rt, "the search comes to its end");
     let mut count = 0u32;
     for desk in desks {
         if agrees(rt, alloc, board, desk, log, &strengths) {
             count = count.saturating_add(1);
         }
     }
-    Some(count)
+    count
 }
 
 /// The log that the first desk sees at last.
-fn last_log<R: Wait>(rt: &R, alloc: Global, board: &Board, desks: &mut [Desk]) -> Option<Front> {
-    let desk = desks.first_mut()?;
-    desk.refresh(rt, alloc, board).ok()?;
-    desk.seen().share().ok()
+fn last_log<R: Abort + Wait>(rt: &R, alloc: Global, board: &Board, desks: &mut [Desk]) -> Front {
+    let desk = desks.first_mut().expect(rt, "there is a first desk");
+    desk.refresh(rt, alloc, board)
+        .ok()
+        .expect(rt, "the first desk is refreshed");
+    desk.seen().share().expect(rt, "the log is shared")
 }
 
 /// A board of sixteen desks over the dense dump.
-fn sixteen_desks<R: Threads + Sync>(
+fn sixteen_desks<R: Abort + Threads + Sync>(
     rt: &R,
     alloc: Global,
     graph: &Arc<Graph>,
-) -> Option<(Board, Vec<Desk>)> {
-    open(rt, alloc, Arc::try_clone(graph).ok()?, 16).ok()
+) -> (Board, Vec<Desk>) {
+    let graph = Arc::try_clone(graph).expect(rt, "the graph is shared");
+    open(rt, alloc, graph, 16).expect(rt, "the board opens")
 }
 
 #[test]
-fn sixteen_threads(rt: HostRuntime) -> Result<(), Fail> {
+fn sixteen_threads(rt: HostRuntime) {
     let alloc = rt.alloc();
-    let graph = graph_of(&rt, alloc, DENSE).ok_or("the dump opens")?;
-    let (board, mut desks) = sixteen_desks(&rt, alloc, &graph).ok_or("the board opens")?;
+    let graph = graph_of(&rt, alloc, DENSE).expect(&rt, "the dump opens");
+    let (board, mut desks) = sixteen_desks(&rt, alloc, &graph);
     let wrong = AtomicU64::new(0);
     thread::for_each_mut(
         &rt,
@@ -126,16 +129,13 @@ fn sixteen_threads(rt: HostRuntime) -> Result<(), Fail> {
         &|_, desk| { hundred_calls(&rt, alloc, &board, desk, &wrong) },
     );
     assert_eq!(rt; wrong.load(Ordering::SeqCst), 0);
-    let log = last_log(&rt, alloc, &board, desks.as_mut_slice()).ok_or("the log is seen")?;
-    let agreeing = agreeing(&rt, alloc, &board, desks.as_mut_slice(), &graph, &log).ok_or(
-        "memory",
-    )?;
+    let log = last_log(&rt, alloc, &board, desks.as_mut_slice());
+    let agreeing = agreeing(&rt, alloc, &board, desks.as_mut_slice(), &graph, &log);
     assert_eq!(rt; agreeing, 16);
     let closed = board
         .close(desks.as_slice())
         .ok()
-        .ok_or("the board closes")?;
+        .expect(&rt, "the board closes");
     assert!(rt; closed.begins_with(&log) && log.begins_with(&closed));
     assert!(rt; closed.len() > 800);
-    Ok(())
 }

@@ -5,10 +5,10 @@ use hd_log::Front;
 use hd_state_tests::dumps::{TWO_ARRAYS, graph_of};
 use hd_terms::{Edit, Strength};
 use std::alloc::Global;
+use std::process::Abort;
 use std::random::RandomSource;
 use std::sync::Wait;
 use std::sync::atomic::{AtomicU64, Ordering};
-use std::test::Fail;
 use std::thread;
 use std::thread::Threads;
 
@@ -59,8 +59,8 @@ fn beginnings(log: &Front, desks: &[Desk]) -> u32 {
 }
 
 #[test]
-fn two_threads_cut_and_undo(rt: HostRuntime) -> Result<(), Fail> {
-    let (board, mut desks) = two_desks(&rt, rt.alloc()).ok_or("the board opens")?;
+fn two_threads_cut_and_undo(rt: HostRuntime) {
+    let (board, mut desks) = two_desks(&rt, rt.alloc());
     let done = AtomicU64::new(0);
     let alloc = rt.alloc();
     thread::for_each_mut(
@@ -77,21 +77,20 @@ fn two_threads_cut_and_undo(rt: HostRuntime) -> Result<(), Fail> {
     let log = board
         .close(desks.as_slice())
         .ok()
-        .ok_or("the board closes")?;
+        .expect(&rt, "the board closes");
     assert_eq!(rt; log.len(), 200);
     assert_eq!(rt; events_of(&log, 0), 100);
     assert_eq!(rt; events_of(&log, 1), 100);
     assert_eq!(rt; beginnings(&log, desks.as_slice()), 2);
-    Ok(())
 }
 
 /// A board of four desks over the two arrays.
-fn four_desks<R: RandomSource + Threads + Sync>(
+fn four_desks<R: Abort + RandomSource + Threads + Sync>(
     rt: &R,
     alloc: Global,
-) -> Option<(Board, Vec<Desk>)> {
-    let graph = graph_of(rt, alloc, TWO_ARRAYS)?;
-    open(rt, alloc, graph, 4).ok()
+) -> (Board, Vec<Desk>) {
+    let graph = graph_of(rt, alloc, TWO_ARRAYS).expect(rt, "the dump opens");
+    open(rt, alloc, graph, 4).expect(rt, "the board opens")
 }
 
 /// Ten added roots by one desk. Those that are done are counted.
@@ -104,8 +103,8 @@ fn add_ten<R: Wait>(rt: &R, alloc: Global, board: &Board, desk: &mut Desk, done:
 }
 
 #[test]
-fn four_desks_add(rt: HostRuntime) -> Result<(), Fail> {
-    let (board, mut desks) = four_desks(&rt, rt.alloc()).ok_or("the board opens")?;
+fn four_desks_add(rt: HostRuntime) {
+    let (board, mut desks) = four_desks(&rt, rt.alloc());
     let done = AtomicU64::new(0);
     let alloc = rt.alloc();
     thread::for_each_mut(
@@ -118,10 +117,9 @@ fn four_desks_add(rt: HostRuntime) -> Result<(), Fail> {
     let log = board
         .close(desks.as_slice())
         .ok()
-        .ok_or("the board closes")?;
+        .expect(&rt, "the board closes");
     assert_eq!(rt; log.len(), 40);
     for who in 0..4u8 {
         assert_eq!(rt; events_of(&log, who), 10);
     }
-    Ok(())
 }
