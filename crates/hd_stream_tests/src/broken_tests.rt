@@ -2,9 +2,9 @@
 use crate::serving::{Served, board_of};
 use crate::streams::{FailingReader, FailingWriter};
 use hd_protocol::{ServeFault, serve};
+use std::process::Abort;
 use std::random::RandomSource;
 use std::sync::Wait;
-use std::test::Fail;
 use std::thread::Threads;
 
 /// The lines of a session.
@@ -70,26 +70,26 @@ fn len_of_first(texts: &[&str], count: usize) -> usize {
 }
 
 /// What a session over a reader that fails after some bytes comes to, and how many events the desk has seen then.
-fn read_some<R: AllocGlobal + RandomSource + Threads + Wait + Sync>(
+fn read_some<R: Abort + AllocGlobal + RandomSource + Threads + Wait + Sync>(
     rt: &R,
     input: &[u8],
-) -> Option<(Served, u32)> {
-    let (board, mut desks) = board_of(rt, 1)?;
-    let mut desk = desks.pop()?;
+) -> (Served, u32) {
+    let (board, mut desks) = board_of(rt, 1);
+    let mut desk = desks.pop().expect(rt, "there is a desk");
     let mut reader = FailingReader { rest: input };
     let mut written = Vec::new(rt.alloc());
     let ended = serve(rt, rt.alloc(), &mut reader, &mut written, &board, &mut desk);
-    Some((Served { written, ended }, desk.seen().len()))
+    (Served { written, ended }, desk.seen().len())
 }
 
 /// The same over a writer that fails after so many bytes.
-fn write_some<R: AllocGlobal + RandomSource + Threads + Wait + Sync>(
+fn write_some<R: Abort + AllocGlobal + RandomSource + Threads + Wait + Sync>(
     rt: &R,
     input: &[u8],
     room: usize,
-) -> Option<(Served, u32)> {
-    let (board, mut desks) = board_of(rt, 1)?;
-    let mut desk = desks.pop()?;
+) -> (Served, u32) {
+    let (board, mut desks) = board_of(rt, 1);
+    let mut desk = desks.pop().expect(rt, "there is a desk");
     let mut reader = input;
     let mut writer = FailingWriter {
         taken: Vec::new(rt.alloc()),
@@ -98,49 +98,51 @@ fn write_some<R: AllocGlobal + RandomSource + Threads + Wait + Sync>(
     };
     let ended = serve(rt, rt.alloc(), &mut reader, &mut writer, &board, &mut desk);
     let written = writer.taken;
-    Some((Served { written, ended }, desk.seen().len()))
+    (Served { written, ended }, desk.seen().len())
 }
 
 #[test]
-fn reader_breaks_at_each_byte(rt: HostRuntime) -> Result<(), Fail> {
-    let input = LINES.concat(rt.alloc())?;
-    let replies = REPLIES.concat(rt.alloc())?;
+fn reader_breaks_at_each_byte(rt: HostRuntime) {
+    let input = LINES
+        .concat(rt.alloc())
+        .expect(&rt, "the lines are put together");
+    let replies = REPLIES
+        .concat(rt.alloc())
+        .expect(&rt, "the replies are put together");
     for k in 0..input.len() {
-        let read = read_some(&rt, first(input.as_bytes(), k));
-        let (served, events) = read.ok_or("the board opens")?;
+        let (served, events) = read_some(&rt, first(input.as_bytes(), k));
         let lines = whole_within(&LINES, k);
         let wanted = first(replies.as_bytes(), len_of_first(&REPLIES, lines));
         assert_eq!(rt; served.ended, Err(ServeFault::Read));
         assert_eq!(rt; served.written.as_slice(), wanted);
         assert_eq!(rt; Some(&events), EVENTS.get(lines));
     }
-    Ok(())
 }
 
 #[test]
-fn writer_breaks_at_each_byte(rt: HostRuntime) -> Result<(), Fail> {
-    let input = LINES.concat(rt.alloc())?;
-    let replies = REPLIES.concat(rt.alloc())?;
+fn writer_breaks_at_each_byte(rt: HostRuntime) {
+    let input = LINES
+        .concat(rt.alloc())
+        .expect(&rt, "the lines are put together");
+    let replies = REPLIES
+        .concat(rt.alloc())
+        .expect(&rt, "the replies are put together");
     for k in 0..replies.len() {
-        let wrote = write_some(&rt, input.as_bytes(), k);
-        let (served, events) = wrote.ok_or("the board opens")?;
+        let (served, events) = write_some(&rt, input.as_bytes(), k);
         let lines = whole_within(&REPLIES, k).saturating_add(1);
         assert_eq!(rt; served.ended, Err(ServeFault::Write));
         assert_eq!(rt; served.written.as_slice(), first(replies.as_bytes(), k));
         assert_eq!(rt; Some(&events), EVENTS.get(lines));
     }
-    Ok(())
 }
 
 /// A line that is too long is answered once it has ended, so a reader that fails before leaves no reply.
 #[test]
-fn reader_breaks_in_a_line_too_long(rt: HostRuntime) -> Result<(), Fail> {
+fn reader_breaks_in_a_line_too_long(rt: HostRuntime) {
     let mut line = Vec::new(rt.alloc());
-    line.resize(4_097, b'x')?;
-    let read = read_some(&rt, line.as_slice());
-    let (served, events) = read.ok_or("the board opens")?;
+    line.resize(4_097, b'x').expect(&rt, "the line is made");
+    let (served, events) = read_some(&rt, line.as_slice());
     assert_eq!(rt; served.ended, Err(ServeFault::Read));
     assert_eq!(rt; served.written.len(), 0);
     assert_eq!(rt; events, 0);
-    Ok(())
 }

@@ -1,12 +1,11 @@
 //! Desks that are served over one board: what they see of one another, where they end, and a desk of another board.
 use crate::serving::{board_of, serve_text};
-use std::test::Fail;
 
 #[test]
-fn desk_sees_what_another_did(rt: HostRuntime) -> Result<(), Fail> {
-    let (board, mut desks) = board_of(&rt, 2).ok_or("the board opens")?;
-    let mut second_desk = desks.pop().ok_or("the second desk")?;
-    let mut first_desk = desks.pop().ok_or("the first desk")?;
+fn desk_sees_what_another_did(rt: HostRuntime) {
+    let (board, mut desks) = board_of(&rt, 2);
+    let mut second_desk = desks.pop().expect(&rt, "there is a second desk");
+    let mut first_desk = desks.pop().expect(&rt, "there is a first desk");
     let alloc = rt.alloc();
     let first = serve_text(&rt, alloc, &board, &mut first_desk, b"cut 0x1 e0\n");
     assert_eq!(rt; first.ended, Ok(()));
@@ -22,13 +21,12 @@ fn desk_sees_what_another_did(rt: HostRuntime) -> Result<(), Fail> {
         b"ok 1\nUNREACHABLE\nno NotYours\nok 0\n".as_slice()
     );
     assert!(rt; board.close(&[first_desk, second_desk]).is_ok());
-    Ok(())
 }
 
 #[test]
-fn session_ends_in_a_private_part(rt: HostRuntime) -> Result<(), Fail> {
-    let (board, mut desks) = board_of(&rt, 1).ok_or("the board opens")?;
-    let mut desk = desks.pop().ok_or("the desk")?;
+fn session_ends_in_a_private_part(rt: HostRuntime) {
+    let (board, mut desks) = board_of(&rt, 1);
+    let mut desk = desks.pop().expect(&rt, "there is a desk");
     let alloc = rt.alloc();
     let input: &[u8] = b"add 0x2\nprivate\ncut 0x1 e0\nundo 0\n";
     let served = serve_text(&rt, alloc, &board, &mut desk, input);
@@ -38,16 +36,15 @@ fn session_ends_in_a_private_part(rt: HostRuntime) -> Result<(), Fail> {
         b"ok 1\nevent 0 fell 0 back 0\nok 1\nprivate 1\nok 1\nevent 1 fell 0 back 0\nok 1\nevent 2 fell 1 back 0\n".as_slice()
     );
     assert_eq!(rt; desk.seen().len(), 1);
-    let log = board.close(&[desk]).ok().ok_or("the board closes")?;
+    let log = board.close(&[desk]).ok().expect(&rt, "the board closes");
     assert_eq!(rt; log.len(), 1);
-    Ok(())
 }
 
 #[test]
-fn desk_of_another_board(rt: HostRuntime) -> Result<(), Fail> {
-    let (board, mut desks) = board_of(&rt, 1).ok_or("the board opens")?;
-    let mut desk = desks.pop().ok_or("the desk")?;
-    let (other, _desks) = board_of(&rt, 1).ok_or("the other board opens")?;
+fn desk_of_another_board(rt: HostRuntime) {
+    let (board, mut desks) = board_of(&rt, 1);
+    let mut desk = desks.pop().expect(&rt, "there is a desk");
+    let (other, _desks) = board_of(&rt, 1);
     let alloc = rt.alloc();
     let first = serve_text(&rt, alloc, &board, &mut desk, b"cut 0x1 e0\n");
     assert_eq!(rt; first.ended, Ok(()));
@@ -58,18 +55,16 @@ fn desk_of_another_board(rt: HostRuntime) -> Result<(), Fail> {
         second.written.as_slice(),
         b"no Foreign\nno Foreign\nno Foreign\nno BadArgument\nok 0\n".as_slice()
     );
-    Ok(())
 }
 
 #[test]
-fn mark_of_a_late_desk(rt: HostRuntime) -> Result<(), Fail> {
-    let (board, mut desks) = board_of(&rt, 2).ok_or("the board opens")?;
-    let mut second_desk = desks.pop().ok_or("the second desk")?;
-    let mut first_desk = desks.pop().ok_or("the first desk")?;
+fn mark_of_a_late_desk(rt: HostRuntime) {
+    let (board, mut desks) = board_of(&rt, 2);
+    let mut second_desk = desks.pop().expect(&rt, "there is a second desk");
+    let mut first_desk = desks.pop().expect(&rt, "there is a first desk");
     let alloc = rt.alloc();
     let first = serve_text(&rt, alloc, &board, &mut first_desk, b"cut 0x1 e0\n");
     assert_eq!(rt; first.ended, Ok(()));
     let second = serve_text(&rt, alloc, &board, &mut second_desk, b"fell 0\n");
     assert_eq!(rt; second.written.as_slice(), b"ok 1\n0x2\n".as_slice());
-    Ok(())
 }

@@ -7,37 +7,33 @@ use hd_analyst::reply_text;
 use hd_board::Desk;
 use hd_terms::Command;
 use std::alloc::Global;
-use std::test::Fail;
+use std::process::Abort;
 
 /// The reply to a query at a desk, with one mark, of the desk's state.
-fn text_at(alloc: Global, desk: &Desk, query: Command) -> Option<Vec<u8>>
+fn text_at<R: Abort>(rt: &R, alloc: Global, desk: &Desk, query: Command) -> Vec<u8>
     requires { is_query query ≡ true }
 {
     let state = desk.state();
-    let marks = [state.mark().ok()?];
-    reply_text(alloc, state, &marks, &query).ok()
+    let marks = [state.mark().expect(rt, "the state is marked")];
+    reply_text(alloc, state, &marks, &query).expect(rt, "the query is answered")
 }
 
-/// Whether a text was answered, and is this one.
-fn is_text(answered: Option<Vec<u8>>, text: &str) -> bool {
-    match answered {
-        Some(bytes) => bytes.as_slice() == text.as_bytes(),
-        None => false,
-    }
+/// Whether the text that was answered is this one.
+fn is_text(answered: Vec<u8>, text: &str) -> bool {
+    answered.as_slice() == text.as_bytes()
 }
 
 #[test]
-fn texts_of_queries(rt: HostRuntime) -> Result<(), Fail> {
-    let (_board, mut desks) = board_of(&rt, 1).ok_or("the board opens")?;
-    let desk = desks.pop().ok_or("the desk")?;
+fn texts_of_queries(rt: HostRuntime) {
+    let (_board, mut desks) = board_of(&rt, 1);
+    let desk = desks.pop().expect(&rt, "there is a desk");
     let alloc = rt.alloc();
-    let strength = text_at(alloc, &desk, Command::Strength(2));
+    let strength = text_at(&rt, alloc, &desk, Command::Strength(2));
     assert!(rt; is_text(strength, "ok 1\nSTRONG\n"));
-    let into = text_at(alloc, &desk, Command::Into(2));
+    let into = text_at(&rt, alloc, &desk, Command::Into(2));
     assert!(rt; is_text(into, "ok 1\n0x1 e0 strong stands\n"));
-    let fell = text_at(alloc, &desk, Command::Fell(0));
+    let fell = text_at(&rt, alloc, &desk, Command::Fell(0));
     assert!(rt; is_text(fell, "ok 0\n"));
-    let none = text_at(alloc, &desk, Command::Fell(1));
+    let none = text_at(&rt, alloc, &desk, Command::Fell(1));
     assert!(rt; is_text(none, "no NoSuchMark\n"));
-    Ok(())
 }

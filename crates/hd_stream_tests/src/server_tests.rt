@@ -2,27 +2,28 @@
 use crate::clients::{ask, connect, listen, serve_two};
 use std::alloc::Global;
 use std::net::{Net, SocketAddr, TcpListener, TcpStream};
-use std::{io, thread};
+use std::process::Abort;
+use std::thread;
 
 /// The first client cuts; then the second connects and asks. What both hear is answered, in the order in which they ask.
-fn cut_and_look<R: Net<Listener = TcpListener, Stream = TcpStream>>(
+fn cut_and_look<R: Abort + Net<Listener = TcpListener, Stream = TcpStream>>(
     rt: &R,
     alloc: Global,
     address: SocketAddr,
-) -> io::Result<String> {
+) -> String {
     let mut heard = String::new(alloc);
-    let mut first = connect(rt, alloc, address)?;
-    ask(&mut first, "cut 0x1 e0\n", 2, &mut heard)?;
-    let mut second = connect(rt, alloc, address)?;
-    ask(&mut second, "strength 0x2\n", 2, &mut heard)?;
-    ask(&mut first, "quit\n", 1, &mut heard)?;
-    ask(&mut second, "quit\n", 1, &mut heard)?;
-    Ok(heard)
+    let mut first = connect(rt, alloc, address);
+    ask(rt, &mut first, "cut 0x1 e0\n", 2, &mut heard);
+    let mut second = connect(rt, alloc, address);
+    ask(rt, &mut second, "strength 0x2\n", 2, &mut heard);
+    ask(rt, &mut first, "quit\n", 1, &mut heard);
+    ask(rt, &mut second, "quit\n", 1, &mut heard);
+    heard
 }
 
 #[test]
-fn server_on_loopback(rt: HostRuntime) -> io::Result<()> {
-    let (listener, address) = listen(&rt)?;
+fn server_on_loopback(rt: HostRuntime) {
+    let (listener, address) = listen(&rt);
     let alloc = rt.alloc();
     let (served, heard) = thread::join(
         &rt,
@@ -30,32 +31,31 @@ fn server_on_loopback(rt: HostRuntime) -> io::Result<()> {
         || cut_and_look(&rt, alloc, address),
     );
     assert_eq!(rt;
-        heard?.as_str(),
+        heard.as_str(),
         "ok 1\nevent 0 fell 1 back 0\nok 1\nUNREACHABLE\nok 0\nok 0\n"
     );
-    let printed = served.expect(&rt, "the dump opens").ok();
+    let printed = served.ok();
     assert!(rt; printed.is_some_and(|text| text.as_slice() == b"0 0 cut 0x1 e0 live\n".as_slice()));
-    Ok(())
 }
 
 /// Two clients connect. The first cuts, and then closes its connection in the middle of a line; the second asks.
-fn break_off_and_look<R: Net<Listener = TcpListener, Stream = TcpStream>>(
+fn break_off_and_look<R: Abort + Net<Listener = TcpListener, Stream = TcpStream>>(
     rt: &R,
     alloc: Global,
     address: SocketAddr,
-) -> io::Result<String> {
+) -> String {
     let mut heard = String::new(alloc);
-    let mut first = connect(rt, alloc, address)?;
-    let mut second = connect(rt, alloc, address)?;
-    ask(&mut first, "cut 0x1 e0\nstre", 2, &mut heard)?;
+    let mut first = connect(rt, alloc, address);
+    let mut second = connect(rt, alloc, address);
+    ask(rt, &mut first, "cut 0x1 e0\nstre", 2, &mut heard);
     drop(first);
-    ask(&mut second, "strength 0x2\nquit\n", 3, &mut heard)?;
-    Ok(heard)
+    ask(rt, &mut second, "strength 0x2\nquit\n", 3, &mut heard);
+    heard
 }
 
 #[test]
-fn client_breaks_off(rt: HostRuntime) -> io::Result<()> {
-    let (listener, address) = listen(&rt)?;
+fn client_breaks_off(rt: HostRuntime) {
+    let (listener, address) = listen(&rt);
     let alloc = rt.alloc();
     let (served, heard) = thread::join(
         &rt,
@@ -63,10 +63,9 @@ fn client_breaks_off(rt: HostRuntime) -> io::Result<()> {
         || break_off_and_look(&rt, alloc, address),
     );
     assert_eq!(rt;
-        heard?.as_str(),
+        heard.as_str(),
         "ok 1\nevent 0 fell 1 back 0\nok 1\nUNREACHABLE\nok 0\n"
     );
-    let printed = served.expect(&rt, "the dump opens").ok();
+    let printed = served.ok();
     assert!(rt; printed.is_some_and(|text| text.as_slice() == b"0 0 cut 0x1 e0 live\n".as_slice()));
-    Ok(())
 }

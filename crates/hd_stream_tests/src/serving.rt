@@ -3,6 +3,7 @@ use hd_board::{Board, Desk, open};
 use hd_protocol::{SAMPLE, ServeFault, open_bytes, serve};
 use hd_terms::Mode;
 use std::alloc::Global;
+use std::process::Abort;
 use std::random::RandomSource;
 use std::sync::Wait;
 use std::thread::Threads;
@@ -14,13 +15,13 @@ pub struct Served {
     pub ended: Result<(), ServeFault>,
 }
 
-/// A board of so many desks over the two arrays, 1 to 16, if it opens.
-pub fn board_of<R: AllocGlobal + RandomSource + Threads + Sync>(
+/// A board of so many desks over the two arrays, 1 to 16.
+pub fn board_of<R: Abort + AllocGlobal + RandomSource + Threads + Sync>(
     rt: &R,
     n: u8,
-) -> Option<(Board, Vec<Desk>)> {
-    let graph = open_bytes(rt, &SAMPLE, 1, Mode::Direct).ok()?;
-    open(rt, rt.alloc(), graph, n.clamp(1, 16)).ok()
+) -> (Board, Vec<Desk>) {
+    let graph = open_bytes(rt, &SAMPLE, 1, Mode::Direct).expect(rt, "the dump opens");
+    open(rt, rt.alloc(), graph, n.clamp(1, 16)).expect(rt, "the board opens")
 }
 
 /// Serves the lines of a text to a desk.

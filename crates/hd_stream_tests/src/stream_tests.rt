@@ -3,7 +3,6 @@ use crate::streams::{FailingReader, FailingWriter};
 use hd_protocol::{RunFault, SAMPLE, ServeFault, run_bytes, stat_bytes};
 use hd_terms::{Cause, Mode, ReadFault};
 use std::io::{self, BufRead, Read, Write};
-use std::test::Fail;
 
 #[test]
 fn reader_that_fails(rt: HostRuntime) {
@@ -81,17 +80,16 @@ fn writer_that_fails(rt: HostRuntime) {
 }
 
 #[test]
-fn stat_that_cannot_be_written(rt: HostRuntime) -> Result<(), Fail> {
+fn stat_that_cannot_be_written(rt: HostRuntime) {
     let mut output = FailingWriter {
         taken: Vec::new(rt.alloc()),
         room: 14,
         fails: true,
     };
-    let bytes = Vec::from_array(rt.alloc(), SAMPLE)?;
+    let bytes = Vec::from_array(rt.alloc(), SAMPLE).expect(&rt, "the dump is copied");
     let ended = stat_bytes(&rt, bytes, 1, Mode::Direct, &mut output);
     assert_eq!(rt; ended, Err(RunFault::Serve(ServeFault::Write)));
     assert_eq!(rt; output.taken.as_slice(), b"objects 2\nroot".as_slice());
-    Ok(())
 }
 
 /// A writer that hands on what it has taken when it is flushed, and can be flushed so many times.
@@ -140,7 +138,7 @@ fn writer_that_holds(rt: HostRuntime) {
 }
 
 #[test]
-fn texts_of_faults(rt: HostRuntime) -> Result<(), Fail> {
+fn texts_of_faults(rt: HostRuntime) {
     let truncated = RunFault::Dump(ReadFault {
         cause: Cause::Truncated,
         offset: 31,
@@ -157,7 +155,9 @@ fn texts_of_faults(rt: HostRuntime) -> Result<(), Fail> {
         (RunFault::Close, "cannot close"),
     ];
     for (fault, text) in rows {
-        assert_eq!(rt; fault.to_string(rt.alloc())?.as_str(), text);
+        let said = fault
+            .to_string(rt.alloc())
+            .expect(&rt, "the fault has a text");
+        assert_eq!(rt; said.as_str(), text);
     }
-    Ok(())
 }

@@ -1,24 +1,26 @@
 //! A prompt stands before each line that a person types, and nowhere else.
 use hd_terminal::Prompting;
 use std::alloc::Global;
-use std::io::{self, BufRead};
-use std::test::Fail;
+use std::io::BufRead;
+use std::process::Abort;
 
 /// How many prompts are written while two lines are read.
-fn prompts_of(alloc: Global, is_terminal: bool) -> io::Result<usize> {
+fn prompts_of<R: Abort>(rt: &R, alloc: Global, is_terminal: bool) -> usize {
     let lines: &[u8] = b"strength 0x2\nquit\n";
     let mut prompts = Vec::new(alloc);
-    let mut reader = Prompting::new(alloc, lines, &mut prompts, is_terminal)?;
+    let made = Prompting::new(alloc, lines, &mut prompts, is_terminal);
+    let mut reader = made.expect(rt, "the reader is made");
     let mut line = String::new(alloc);
-    reader.read_line(&mut line)?;
-    reader.read_line(&mut line)?;
+    reader.read_line(&mut line).expect(rt, "a line is read");
+    reader
+        .read_line(&mut line)
+        .expect(rt, "a second line is read");
     drop(reader);
-    Ok(prompts.len())
+    prompts.len()
 }
 
 #[test]
-fn prompts(rt: HostRuntime) -> Result<(), Fail> {
-    assert_eq!(rt; prompts_of(rt.alloc(), true).ok(), Some(7));
-    assert_eq!(rt; prompts_of(rt.alloc(), false).ok(), Some(0));
-    Ok(())
+fn prompts(rt: HostRuntime) {
+    assert_eq!(rt; prompts_of(&rt, rt.alloc(), true), 7);
+    assert_eq!(rt; prompts_of(&rt, rt.alloc(), false), 0);
 }

@@ -6,7 +6,6 @@ use std::alloc::Global;
 use std::io::{self, Write};
 use std::sync::Wait;
 use std::sync::atomic::{AtomicU64, Ordering};
-use std::test::Fail;
 use std::thread;
 
 /// The most times that a writer looks for the other.
@@ -79,12 +78,12 @@ fn serve_meeting<R: Wait>(
 }
 
 #[test]
-fn two_writers_at_once(rt: HostRuntime) -> Result<(), Fail> {
-    let (board, mut desks) = board_of(&rt, 2).ok_or("the board opens")?;
+fn two_writers_at_once(rt: HostRuntime) {
+    let (board, mut desks) = board_of(&rt, 2);
     let begun = AtomicU64::new(0);
     let alloc = rt.alloc();
-    let mut second = desks.pop().ok_or("the second desk")?;
-    let mut first = desks.pop().ok_or("the first desk")?;
+    let mut second = desks.pop().expect(&rt, "there is a second desk");
+    let mut first = desks.pop().expect(&rt, "there is a first desk");
     let (one, two) = thread::join(
         &rt,
         || serve_meeting(&rt, alloc, &board, &mut first, &begun),
@@ -95,5 +94,4 @@ fn two_writers_at_once(rt: HostRuntime) -> Result<(), Fail> {
         assert_eq!(rt; meeting.ended, Ok(()));
         assert_eq!(rt; meeting.written.as_slice(), b"ok 1\nSTRONG\n".as_slice());
     }
-    Ok(())
 }
