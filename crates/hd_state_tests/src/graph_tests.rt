@@ -3,11 +3,10 @@ use crate::dumps::{CYCLE, TWO_ARRAYS, WEAK_AND_FINAL, graph_of};
 use hd_log::Front;
 use hd_strength::from_scratch;
 use hd_terms::{EdgeKind, Group, RefKind, RootKind, Slot, Strength, Support};
-use std::test::Fail;
 
 #[test]
-fn objects_and_roots(rt: HostRuntime) -> Result<(), Fail> {
-    let graph = graph_of(&rt, rt.alloc(), TWO_ARRAYS).ok_or("the dump opens")?;
+fn objects_and_roots(rt: HostRuntime) {
+    let graph = graph_of(&rt, rt.alloc(), TWO_ARRAYS).expect(&rt, "the dump opens");
     assert_eq!(rt; graph.objects(), 2);
     assert_eq!(rt; graph.id_of(0), 1);
     assert_eq!(rt; graph.id_of(1), 2);
@@ -17,12 +16,11 @@ fn objects_and_roots(rt: HostRuntime) -> Result<(), Fail> {
     assert_eq!(rt; graph.roots_len(), 1);
     let root = graph.roots(0);
     assert!(rt; root.kind == RootKind::Unknown && root.id == 1 && root.object == Some(0));
-    Ok(())
 }
 
 #[test]
-fn slots(rt: HostRuntime) -> Result<(), Fail> {
-    let graph = graph_of(&rt, rt.alloc(), TWO_ARRAYS).ok_or("the dump opens")?;
+fn slots(rt: HostRuntime) {
+    let graph = graph_of(&rt, rt.alloc(), TWO_ARRAYS).expect(&rt, "the dump opens");
     assert_eq!(rt; graph.objects(), 2);
     assert_eq!(rt; graph.slots_len(0), 4);
     assert_eq!(rt; graph.slots_len(1), 1);
@@ -42,7 +40,6 @@ fn slots(rt: HostRuntime) -> Result<(), Fail> {
         assert_eq!(rt; graph.slot_index(0, slot), Some(i));
     }
     assert_eq!(rt; graph.slot_index(0, Slot::Element(3)), None);
-    Ok(())
 }
 
 /// A root of each kind, on the IDs 1 to 9.
@@ -52,7 +49,7 @@ const ROOTS: &str = "ids 4\nsegment\nbytes ff 00000001\nbytes 01 00000002 000000
     bytes 07 00000008\nbytes 08 00000009 00000077 00000077\narray 3:\n";
 
 #[test]
-fn kinds_of_roots(rt: HostRuntime) -> Result<(), Fail> {
+fn kinds_of_roots(rt: HostRuntime) {
     let kinds = [
         RootKind::Unknown,
         RootKind::JniGlobal,
@@ -64,7 +61,7 @@ fn kinds_of_roots(rt: HostRuntime) -> Result<(), Fail> {
         RootKind::MonitorUsed,
         RootKind::Thread,
     ];
-    let graph = graph_of(&rt, rt.alloc(), ROOTS).ok_or("the dump opens")?;
+    let graph = graph_of(&rt, rt.alloc(), ROOTS).expect(&rt, "the dump opens");
     assert_eq!(rt; graph.roots_len(), 9);
     for r in 0..9u32 {
         let root = graph.roots(r);
@@ -73,7 +70,6 @@ fn kinds_of_roots(rt: HostRuntime) -> Result<(), Fail> {
         assert_eq!(rt; root.id, u64::from(r) + 1);
         assert_eq!(rt; root.object, object);
     }
-    Ok(())
 }
 
 /// A class with an int as its static, an instance of it, an object array of it, and two ints in an array.
@@ -84,8 +80,8 @@ const GROUPS: &str = "ids 4\nsegment\n\
     bytes 23 00000006 00000000 00000002 0a 00000001 00000002\n";
 
 #[test]
-fn groups_and_bytes(rt: HostRuntime) -> Result<(), Fail> {
-    let graph = graph_of(&rt, rt.alloc(), GROUPS).ok_or("the dump opens")?;
+fn groups_and_bytes(rt: HostRuntime) {
+    let graph = graph_of(&rt, rt.alloc(), GROUPS).expect(&rt, "the dump opens");
     assert_eq!(rt; graph.objects(), 4);
     let rows = [
         (Group::Classes, 4, 4),
@@ -101,22 +97,20 @@ fn groups_and_bytes(rt: HostRuntime) -> Result<(), Fail> {
         assert_eq!(rt; graph.referent_of(o), None);
     }
     assert_eq!(rt; graph.counts().unresolved, 2);
-    Ok(())
 }
 
 #[test]
-fn referent(rt: HostRuntime) -> Result<(), Fail> {
+fn referent(rt: HostRuntime) {
     let text = "ids 4\nreference-names\nsegment\nreference 21 of 13: 5\nreference-classes\n";
-    let graph = graph_of(&rt, rt.alloc(), text).ok_or("the dump opens")?;
+    let graph = graph_of(&rt, rt.alloc(), text).expect(&rt, "the dump opens");
     assert_eq!(rt; graph.objects(), 7);
     assert_eq!(rt; graph.referent_of(0), Some(Slot::Field(0)));
     assert_eq!(rt; graph.referent_of(1), None);
-    Ok(())
 }
 
 #[test]
-fn edges_of_kinds(rt: HostRuntime) -> Result<(), Fail> {
-    let graph = graph_of(&rt, rt.alloc(), WEAK_AND_FINAL).ok_or("the dump opens")?;
+fn edges_of_kinds(rt: HostRuntime) {
+    let graph = graph_of(&rt, rt.alloc(), WEAK_AND_FINAL).expect(&rt, "the dump opens");
     assert_eq!(rt; graph.objects(), 10);
     assert_eq!(rt; graph.kind_len(RefKind::Soft), 0);
     assert_eq!(rt; graph.kind_len(RefKind::Phantom), 0);
@@ -124,7 +118,6 @@ fn edges_of_kinds(rt: HostRuntime) -> Result<(), Fail> {
     assert!(rt; graph.kind_edge(RefKind::Weak, 0) == (7, Slot::Field(0)));
     assert_eq!(rt; graph.kind_len(RefKind::Final), 1);
     assert!(rt; graph.kind_edge(RefKind::Final, 0) == (8, Slot::Field(0)));
-    Ok(())
 }
 
 /// The supports of five arrays in a row, of which the third leads to the fourth by its element 1.
@@ -143,15 +136,14 @@ fn support_in_a_row(o: u32) -> Support {
 }
 
 #[test]
-fn supports_of_a_cycle(rt: HostRuntime) -> Result<(), Fail> {
-    let graph = graph_of(&rt, rt.alloc(), CYCLE).ok_or("the dump opens")?;
-    let front = Front::empty(rt.alloc())?;
-    let strengths = from_scratch(rt.alloc(), &graph, &front)?;
+fn supports_of_a_cycle(rt: HostRuntime) {
+    let graph = graph_of(&rt, rt.alloc(), CYCLE).expect(&rt, "the dump opens");
+    let front = Front::empty(rt.alloc()).expect(&rt, "a log is made");
+    let strengths = from_scratch(rt.alloc(), &graph, &front).expect(&rt, "the search ends");
     assert_eq!(rt; strengths.len(), 5);
     for o in 0..5u32 {
         assert!(rt; strengths.strength(o) == Strength::Strong);
         assert!(rt; strengths.support(o) == support_in_a_row(o));
         assert!(rt; o == 0 || strengths.stamp(o - 1) < strengths.stamp(o));
     }
-    Ok(())
 }

@@ -2,7 +2,7 @@
 use hd_log::Front;
 use hd_terms::{Edit, Event, LogFault, Refusal, Slot, What};
 use std::alloc::Global;
-use std::test::Fail;
+use std::process::Abort;
 
 /// An edit of one slot.
 const CUT: What = What::Do(Edit::Cut(1, Slot::Element(0)));
@@ -12,30 +12,34 @@ fn by(who: u8, what: What) -> Event {
 }
 
 /// Two cuts of one slot, by two analysts, and an undo of the first.
-fn two_cuts(alloc: Global) -> Result<Front, LogFault> {
-    let empty = Front::empty(alloc).map_err(|_| LogFault::OutOfMemory)?;
-    let one = empty.extend(alloc, by(0, CUT))?;
-    let two = one.extend(alloc, by(1, CUT))?;
+fn two_cuts<R: Abort>(rt: &R, alloc: Global) -> Front {
+    let empty = Front::empty(alloc).expect(rt, "a log is made");
+    let one = empty
+        .extend(alloc, by(0, CUT))
+        .expect(rt, "the first cut is taken");
+    let two = one
+        .extend(alloc, by(1, CUT))
+        .expect(rt, "the second cut is taken");
     two.extend(alloc, by(0, What::Undo(0)))
+        .expect(rt, "the undo is taken")
 }
 
 #[test]
-fn live_events(rt: HostRuntime) -> Result<(), Fail> {
-    let front = two_cuts(rt.alloc())?;
+fn live_events(rt: HostRuntime) {
+    let front = two_cuts(&rt, rt.alloc());
     assert_eq!(rt; front.len(), 3);
     assert_eq!(rt; front.event(1), by(1, CUT));
     assert_eq!(rt; front.event(2), by(0, What::Undo(0)));
-    let live = front.live(rt.alloc())?;
+    let live = front.live(rt.alloc()).expect(&rt, "live events are listed");
     assert_eq!(rt; live.as_slice(), [false, true, false].as_slice());
     for (who, last) in [(0, None), (1, Some(1)), (2, None)] {
         assert_eq!(rt; front.last_live(who), last, "of {who}");
     }
-    Ok(())
 }
 
 #[test]
-fn refused_events(rt: HostRuntime) -> Result<(), Fail> {
-    let front = two_cuts(rt.alloc())?;
+fn refused_events(rt: HostRuntime) {
+    let front = two_cuts(&rt, rt.alloc());
     for (who, what, fault) in [
         (2, CUT, None),
         (1, What::Undo(1), None),
@@ -47,12 +51,11 @@ fn refused_events(rt: HostRuntime) -> Result<(), Fail> {
         assert_eq!(rt; front.next_fault(&by(who, what)), fault);
         assert_eq!(rt; front.extend(rt.alloc(), by(who, what)).err(), fault);
     }
-    Ok(())
 }
 
 #[test]
-fn refused_appends(rt: HostRuntime) -> Result<(), Fail> {
-    let front = two_cuts(rt.alloc())?;
+fn refused_appends(rt: HostRuntime) {
+    let front = two_cuts(&rt, rt.alloc());
     for (what, refusal) in [
         (CUT, None),
         (What::Undo(1), Some(Refusal::Log(LogFault::NotYours))),
@@ -61,18 +64,16 @@ fn refused_appends(rt: HostRuntime) -> Result<(), Fail> {
     ] {
         assert_eq!(rt; front.append_refusal(1, &by(0, what)), refusal);
     }
-    Ok(())
 }
 
 #[test]
-fn shared_logs(rt: HostRuntime) -> Result<(), Fail> {
-    let front = two_cuts(rt.alloc())?;
-    let shared = front.share()?;
-    let empty = Front::empty(rt.alloc())?;
+fn shared_logs(rt: HostRuntime) {
+    let front = two_cuts(&rt, rt.alloc());
+    let shared = front.share().expect(&rt, "the log is shared");
+    let empty = Front::empty(rt.alloc()).expect(&rt, "a log is made");
     assert!(rt; shared.begins_with(&front));
     assert!(rt; !empty.begins_with(&front));
     assert!(rt; shared.same_own(&front, 1));
     assert!(rt; !shared.same_own(&empty, 1));
     assert!(rt; shared.same_own(&empty, 2));
-    Ok(())
 }
