@@ -6,9 +6,9 @@ use hd_classes::{Classes, LayoutField};
 use hd_records::{Texts, read_records};
 use hd_spell::spell;
 use hd_subs::{DumpSubs, SegmentReader};
-use hd_terms::{EdgeKind, IdSize, ReadFault, Span};
+use hd_terms::{EdgeKind, IdSize, Span};
 use std::alloc::Global;
-use std::test::Fail;
+use std::process::Abort;
 
 /// Whether texts lie within so many bytes.
 fn lie_within(texts: &Texts, len: usize) -> bool
@@ -24,38 +24,41 @@ fn lie_within(texts: &Texts, len: usize) -> bool
 }
 
 /// The sub-records of a file whose only segment begins at an offset and is its last record.
-fn subs_of<'a>(alloc: Global, bytes: &'a [u8], start: u64) -> Result<DumpSubs<'a>, ReadFault> {
+fn subs_of<'a, R: Abort>(rt: &R, alloc: Global, bytes: &'a [u8], start: u64) -> DumpSubs<'a> {
     let mut reader = SegmentReader::new(alloc, bytes, IdSize::Four);
     let mut list = DumpSubs::new(alloc);
     if start <= bytes.len() as u64 {
         let len = bytes.len() as u64 - start;
-        reader.read(Span { start, len })?;
+        reader
+            .read(Span { start, len })
+            .expect(rt, "the segment is read");
     }
     let part = reader.into_subs();
     if part.len() > 0 {
-        list.push(part)?;
+        list.push(part).expect(rt, "the list grows");
     }
-    Ok(list)
+    list
 }
 
 /// The classes of a file with 4-byte IDs and one segment, which is its last record.
-fn classes_of(alloc: Global, bytes: &[u8]) -> Result<Classes, ReadFault> {
-    let records = read_records(alloc, bytes)?;
+fn classes_of<R: Abort>(rt: &R, alloc: Global, bytes: &[u8]) -> Classes {
+    let records = read_records(alloc, bytes).expect(rt, "the records are read");
     let span = match records.segments.as_slice() {
         [span] => *span,
-        _ => return Err(ReadFault::NO_MEMORY),
+        _ => panic!(rt; "the file has one segment"),
     };
-    let list = subs_of(alloc, bytes, span.start)?;
-    if !lie_within(&records.strings, bytes.len()) {
-        return Err(ReadFault::NO_MEMORY);
-    }
-    Classes::build(alloc, bytes, &records, &list, 1)
+    let list = subs_of(rt, alloc, bytes, span.start);
+    assert!(rt;
+        lie_within(&records.strings, bytes.len()),
+        "texts lie within the file"
+    );
+    Classes::build(alloc, bytes, &records, &list, 1).expect(rt, "the classes are found")
 }
 
 /// The classes of the file that a text spells, which is as above.
-fn classes_in(alloc: Global, text: &str) -> Option<Classes> {
-    let bytes = spell(alloc, text).ok()?;
-    classes_of(alloc, bytes.as_slice()).ok()
+fn classes_in<R: Abort>(rt: &R, alloc: Global, text: &str) -> Classes {
+    let bytes = spell(alloc, text).expect(rt, "the file is spelled");
+    classes_of(rt, alloc, bytes.as_slice())
 }
 
 /// Whether the chain of a class is whole and has these IDs.
@@ -101,10 +104,10 @@ fn field(owner: u64, name: u64, code: u8) -> LayoutField {
 }
 
 #[test]
-fn chains_and_layouts(rt: HostRuntime) -> Result<(), Fail> {
+fn chains_and_layouts(rt: HostRuntime) {
     let text = "ids 4\nsegment\nclass 11: 107=object\nclass 12 extends 11: 108=object 109=boolean\n\
         class 13 extends 99:\n";
-    let classes = classes_in(rt.alloc(), text).ok_or("the file has classes")?;
+    let classes = classes_in(&rt, rt.alloc(), text);
     let layout = [
         field(0x12, 0x108, 2),
         field(0x12, 0x109, 4),
@@ -116,26 +119,24 @@ fn chains_and_layouts(rt: HostRuntime) -> Result<(), Fail> {
     assert!(rt; has_layout(&classes, 0x12, &layout));
     assert!(rt; classes.chain(0x13).is_none());
     assert!(rt; classes.layout(0).is_none());
-    Ok(())
 }
 
 #[test]
-fn class_without_fields_in_a_chain(rt: HostRuntime) -> Result<(), Fail> {
+fn class_without_fields_in_a_chain(rt: HostRuntime) {
     let text =
         "ids 4\nsegment\nclass 13 extends 12: 108=int\nclass 12 extends 11:\nclass 11: 107=object\n";
-    let classes = classes_in(rt.alloc(), text).ok_or("the file has classes")?;
+    let classes = classes_in(&rt, rt.alloc(), text);
     let layout = [field(0x13, 0x108, 10), field(0x11, 0x107, 2)];
     assert_eq!(rt; classes.len(), 3);
     assert!(rt; has_chain(&classes, 0x13, &[0x13, 0x12, 0x11]));
     assert!(rt; has_layout(&classes, 0x13, &layout));
-    Ok(())
 }
 
 #[test]
-fn kinds_of_references(rt: HostRuntime) -> Result<(), Fail> {
+fn kinds_of_references(rt: HostRuntime) {
     let text =
         "ids 4\nreference-names\nsegment\nreference-classes\nclass 17 extends 13: 107=object\n";
-    let classes = classes_in(rt.alloc(), text).ok_or("the file has classes")?;
+    let classes = classes_in(&rt, rt.alloc(), text);
     for (id, kind, referent) in [
         (0x11, EdgeKind::Strong, Some(0)),
         (0x12, EdgeKind::Soft, Some(0)),
@@ -149,17 +150,15 @@ fn kinds_of_references(rt: HostRuntime) -> Result<(), Fail> {
         assert_eq!(rt; classes.kind_of(id), kind, "of {id}");
         assert_eq!(rt; classes.referent(id), referent, "of {id}");
     }
-    Ok(())
 }
 
 #[test]
-fn first_names(rt: HostRuntime) -> Result<(), Fail> {
+fn first_names(rt: HostRuntime) {
     let text =
         "ids 4\ntext 101 a/B\ntext 101 c\ntext 102 d\nload 11 101\nload 11 102\nload 12 109\n\
         segment\nclass 11:\nclass 12:\n";
-    let classes = classes_in(rt.alloc(), text).ok_or("the file has classes")?;
+    let classes = classes_in(&rt, rt.alloc(), text);
     assert_eq!(rt; classes.name(0x11), Some(Span { start: 44, len: 3 }));
     assert_eq!(rt; classes.name(0x12), None);
     assert_eq!(rt; classes.name(0x101), None);
-    Ok(())
 }

@@ -1,15 +1,14 @@
 //! Lists in pages: what is written in one version is read there, and in no other.
 use hd_pages::Pages;
 use hd_supports::{PackedReached, Strengths, Supports};
-use hd_terms::{NoMemory, Slot, Strength, Support};
-use std::test::Fail;
+use hd_terms::{Slot, Strength, Support};
+use std::process::Abort;
 
 /// Puts an item at a place, where the list has it.
-fn put(pages: &mut Pages<u64>, i: u32, item: u64) -> Result<(), NoMemory> {
+fn put<R: Abort>(rt: &R, pages: &mut Pages<u64>, i: u32, item: u64) {
     if i < pages.len() {
-        pages.with(i, item)?;
+        pages.with(i, item).expect(rt, "the item is put");
     }
-    Ok(())
 }
 
 /// The item at a place, if there is one.
@@ -31,17 +30,17 @@ fn kept(supports: &Supports, o: u32) -> Option<(Strength, Support, u64)> {
 }
 
 #[test]
-fn versions_of_a_list(rt: HostRuntime) -> Result<(), Fail> {
-    let items = vec![in rt.alloc(); 9u64; 300_000]?;
-    let mut first = Pages::of_vec(rt.alloc(), items)?;
-    let mut second = first.share(rt.alloc())?;
-    put(&mut first, 0, 1)?;
-    put(&mut first, 262_144, 2)?;
-    put(&mut first, 299_999, 3)?;
-    put(&mut second, 0, 4)?;
-    put(&mut second, 1024, 5)?;
-    let third = second.share(rt.alloc())?;
-    put(&mut second, 1024, 6)?;
+fn versions_of_a_list(rt: HostRuntime) {
+    let items = vec![in rt.alloc(); 9u64; 300_000].expect(&rt, "the items are made");
+    let mut first = Pages::of_vec(rt.alloc(), items).expect(&rt, "the list is made");
+    let mut second = first.share(rt.alloc()).expect(&rt, "the list is shared");
+    put(&rt, &mut first, 0, 1);
+    put(&rt, &mut first, 262_144, 2);
+    put(&rt, &mut first, 299_999, 3);
+    put(&rt, &mut second, 0, 4);
+    put(&rt, &mut second, 1024, 5);
+    let third = second.share(rt.alloc()).expect(&rt, "the list is shared");
+    put(&rt, &mut second, 1024, 6);
     assert_eq!(rt; first.len(), 300_000);
     let ends = [0, 1, 1024, 262_143, 262_144, 299_999].map(|i| at(&first, i));
     assert_eq!(rt;
@@ -51,41 +50,43 @@ fn versions_of_a_list(rt: HostRuntime) -> Result<(), Fail> {
     let ends = [0, 1024, 299_999].map(|i| at(&second, i));
     assert_eq!(rt; ends, [Some(4), Some(6), Some(9)]);
     assert_eq!(rt; (at(&third, 0), at(&third, 1024)), (Some(4), Some(5)));
-    Ok(())
 }
 
 #[test]
-fn versions_share_pages(rt: HostRuntime) -> Result<(), Fail> {
-    let items = vec![in rt.alloc(); 7u64; 2049]?;
-    let first = Pages::of_vec(rt.alloc(), items)?;
-    let mut second = first.share(rt.alloc())?;
-    put(&mut second, 2048, 8)?;
+fn versions_share_pages(rt: HostRuntime) {
+    let items = vec![in rt.alloc(); 7u64; 2049].expect(&rt, "the items are made");
+    let first = Pages::of_vec(rt.alloc(), items).expect(&rt, "the list is made");
+    let mut second = first.share(rt.alloc()).expect(&rt, "the list is shared");
+    put(&rt, &mut second, 2048, 8);
     assert_eq!(rt; (first.len(), second.len()), (2049, 2049));
     assert_eq!(rt; (at(&first, 2048), at(&second, 2048)), (Some(7), Some(8)));
     assert_eq!(rt; (at(&first, 2047), at(&second, 2047)), (Some(7), Some(7)));
     assert_eq!(rt; (at(&first, 0), at(&second, 0)), (Some(7), Some(7)));
     assert_eq!(rt; at(&second, 2049), None);
-    Ok(())
 }
 
 #[test]
-fn list_without_items(rt: HostRuntime) -> Result<(), Fail> {
-    let list: Pages<u64> = Pages::of_vec(rt.alloc(), Vec::new(rt.alloc()))?;
-    assert_eq!(rt; list.share(rt.alloc())?.len(), 0);
-    Ok(())
+fn list_without_items(rt: HostRuntime) {
+    let items: Vec<u64> = Vec::new(rt.alloc());
+    let list = Pages::of_vec(rt.alloc(), items).expect(&rt, "the list is made");
+    let shared = list.share(rt.alloc()).expect(&rt, "the list is shared");
+    assert_eq!(rt; shared.len(), 0);
 }
 
 #[test]
-fn versions_of_supports(rt: HostRuntime) -> Result<(), Fail> {
-    let found = vec![in rt.alloc(); PackedReached::by_root(2); 1025]?;
-    let mut first = Supports::of(rt.alloc(), Strengths::of(found))?;
-    let second = first.share(rt.alloc())?;
+fn versions_of_supports(rt: HostRuntime) {
+    let items = vec![in rt.alloc(); PackedReached::by_root(2); 1025];
+    let found = items.expect(&rt, "the items are made");
+    let mut first = Supports::of(rt.alloc(), Strengths::of(found)).expect(&rt, "the list is made");
+    let second = first.share(rt.alloc()).expect(&rt, "the list is shared");
     let edge = Support::Edge {
         source: 7,
         slot: Slot::Element(3),
     };
     if first.len() > 1024 {
-        first.put(1024, Strength::Weak, edge, 5)?;
+        first
+            .put(1024, Strength::Weak, edge, 5)
+            .expect(&rt, "the support is put");
     }
     assert_eq!(rt; kept(&first, 1024), Some((Strength::Weak, edge, 5)));
     assert_eq!(rt;
@@ -97,5 +98,4 @@ fn versions_of_supports(rt: HostRuntime) -> Result<(), Fail> {
         Some((Strength::Strong, Support::Root(2), 0))
     );
     assert_eq!(rt; kept(&second, 1025), None);
-    Ok(())
 }

@@ -3,7 +3,6 @@ use hd_records::{check_size, read_records};
 use hd_spell::spell;
 use hd_subs::{ClassDump, Item, SegmentReader, Sub, Subs};
 use hd_terms::{Cause, IdSize, Load, ReadFault, Span, Text};
-use std::test::Fail;
 
 #[test]
 fn sizes_of_files(rt: HostRuntime) {
@@ -22,10 +21,10 @@ fn sizes_of_files(rt: HostRuntime) {
 }
 
 #[test]
-fn records_of_a_file(rt: HostRuntime) -> Result<(), Fail> {
+fn records_of_a_file(rt: HostRuntime) {
     let text = "ids 4\ntext 101 A\ntext 101 B\nload 11 101\nsegment\nroot 1\nrecord 0c\n";
-    let file = spell(rt.alloc(), text)?;
-    let records = read_records(rt.alloc(), file.as_slice())?;
+    let file = spell(rt.alloc(), text).expect(&rt, "the file is spelled");
+    let records = read_records(rt.alloc(), file.as_slice()).expect(&rt, "the records are read");
     let text_at = |start| Text {
         id: 0x101,
         text: Span { start, len: 1 },
@@ -42,19 +41,17 @@ fn records_of_a_file(rt: HostRuntime) -> Result<(), Fail> {
     );
     assert_eq!(rt; records.loads.as_slice(), [load].as_slice());
     assert_eq!(rt; records.segments.as_slice(), segments.as_slice());
-    Ok(())
 }
 
 #[test]
-fn fault_of_a_header(rt: HostRuntime) -> Result<(), Fail> {
-    let file = spell(rt.alloc(), "ids 4\n")?;
-    let cut = file.as_slice().get(..30).ok_or("a header is longer")?;
+fn fault_of_a_header(rt: HostRuntime) {
+    let file = spell(rt.alloc(), "ids 4\n").expect(&rt, "the file is spelled");
+    let cut = file.as_slice().get(..30).expect(&rt, "a header is longer");
     let fault = ReadFault {
         cause: Cause::Truncated,
         offset: 0,
     };
     assert_eq!(rt; read_records(rt.alloc(), cut).err(), Some(fault));
-    Ok(())
 }
 
 /// What a sub-record holds: the offset of its tag, its ID, and two numbers more. Those are of an instance or an object
@@ -100,8 +97,8 @@ const SUBS: [(u64, u64, u64, u64); 6] = [
 ];
 
 #[test]
-fn sub_records_of_segments(rt: HostRuntime) -> Result<(), Fail> {
-    let file = spell(rt.alloc(), BODIES)?;
+fn sub_records_of_segments(rt: HostRuntime) {
+    let file = spell(rt.alloc(), BODIES).expect(&rt, "the file is spelled");
     assert_eq!(rt; file.len(), 194);
     let mut reader = SegmentReader::new(rt.alloc(), file.as_slice(), IdSize::Four);
     let fault = ReadFault {
@@ -121,7 +118,6 @@ fn sub_records_of_segments(rt: HostRuntime) -> Result<(), Fail> {
     assert_eq!(rt; list.len(), 7);
     assert!(rt; has_first(&list, &SUBS));
     assert_eq!(rt; numbers_of(list.get(6)), (189, 5, 0, 0));
-    Ok(())
 }
 
 /// A class with a constant, two statics and a field.
@@ -138,14 +134,16 @@ fn class_in(sub: Sub<'_>) -> Option<&ClassDump> {
 }
 
 #[test]
-fn parts_of_a_class(rt: HostRuntime) -> Result<(), Fail> {
-    let file = spell(rt.alloc(), CLASS)?;
+fn parts_of_a_class(rt: HostRuntime) {
+    let file = spell(rt.alloc(), CLASS).expect(&rt, "the file is spelled");
     assert_eq!(rt; file.len(), 73);
     let mut reader = SegmentReader::new(rt.alloc(), file.as_slice(), IdSize::Four);
-    reader.read(Span { start: 0, len: 73 })?;
+    reader
+        .read(Span { start: 0, len: 73 })
+        .expect(&rt, "the sub-record is read");
     let list = reader.into_subs();
     assert_eq!(rt; list.len(), 1);
-    let class = class_in(list.get(0)).ok_or("it is a class")?;
+    let class = class_in(list.get(0)).expect(&rt, "it is a class");
     let value_at = |start| Span { start, len: 4 };
     assert_eq!(rt; (class.signers, class.domain), (0x41, 0x51));
     assert!(rt;
@@ -158,5 +156,4 @@ fn parts_of_a_class(rt: HostRuntime) -> Result<(), Fail> {
         matches!(class.statics.as_slice(), [_, b] if b.name == 0x202 && b.code == 2 && b.value == value_at(62))
     );
     assert!(rt; matches!(class.fields.as_slice(), [f] if f.name == 0x301 && f.code == 4));
-    Ok(())
 }

@@ -5,18 +5,18 @@ use hd_records::read_records;
 use hd_spell::spell;
 use hd_terms::{Mode, Span};
 use std::sync::atomic::{AtomicBool, AtomicU64, Ordering};
-use std::test::Fail;
 use std::thread;
 
 /// Two object arrays and a root on the first, in three segments.
 const THREE_SEGMENTS: &str = "ids 4\nsegment\nroot 1\nsegment\narray 1: 2 0 9\nsegment\narray 2:\n";
 
 #[test]
-fn sub_records_in_file_order(rt: HostRuntime) -> Result<(), Fail> {
-    let file = spell(rt.alloc(), THREE_SEGMENTS)?;
-    let records = read_records(rt.alloc(), file.as_slice())?;
+fn sub_records_in_file_order(rt: HostRuntime) {
+    let file = spell(rt.alloc(), THREE_SEGMENTS).expect(&rt, "the file is spelled");
+    let records = read_records(rt.alloc(), file.as_slice()).expect(&rt, "the records are read");
     for workers in 1..17u32 {
-        let list = decode(&rt, rt.alloc(), file.as_slice(), &records, workers, &NoGate)?;
+        let decoded = decode(&rt, rt.alloc(), file.as_slice(), &records, workers, &NoGate);
+        let list = decoded.expect(&rt, "the segments are read");
         assert_eq!(rt; list.len(), 3);
         for (i, offset) in [40, 54, 92].into_iter().enumerate() {
             if i < list.len() {
@@ -24,7 +24,6 @@ fn sub_records_in_file_order(rt: HostRuntime) -> Result<(), Fail> {
             }
         }
     }
-    Ok(())
 }
 
 /// A large segment among small ones: their lengths are 10, 1000, 10 and 10.
@@ -45,20 +44,19 @@ const ONE_LARGE: [Span; 4] = [
 ];
 
 #[test]
-fn one_large_segment(rt: HostRuntime) -> Result<(), Fail> {
+fn one_large_segment(rt: HostRuntime) {
     // of 1030 bytes each of two workers has 515; the middle of the large segment is at 510
-    let shares = shares_of(rt.alloc(), &ONE_LARGE, 2)?;
+    let shares = shares_of(rt.alloc(), &ONE_LARGE, 2).expect(&rt, "the shares are made");
     assert_eq!(rt; shares.len(), 2);
     for (share, segments) in shares.iter().zip([2, 2]) {
         assert_eq!(rt; share.len(), segments);
     }
     // of 1030 bytes the first of four workers has 257, the second 340 of the 1020 that are left, and the third 510 of them
-    let shares = shares_of(rt.alloc(), &ONE_LARGE, 4)?;
+    let shares = shares_of(rt.alloc(), &ONE_LARGE, 4).expect(&rt, "the shares are made");
     assert_eq!(rt; shares.len(), 4);
     for (share, segments) in shares.iter().zip([1, 0, 1, 2]) {
         assert_eq!(rt; share.len(), segments);
     }
-    Ok(())
 }
 
 /// A gate that adds up what each worker that comes counts for: 1 for worker 0, 16 for worker 1, 256 for worker 2, and so on.
@@ -75,16 +73,16 @@ impl Gate for Counter {
 }
 
 #[test]
-fn each_worker_comes_once(rt: HostRuntime) -> Result<(), Fail> {
-    let file = spell(rt.alloc(), "ids 4\n")?;
+fn each_worker_comes_once(rt: HostRuntime) {
+    let file = spell(rt.alloc(), "ids 4\n").expect(&rt, "the file is spelled");
     let counter = Counter {
         came: AtomicU64::new(0),
     };
-    let records = read_records(rt.alloc(), file.as_slice())?;
-    let list = decode(&rt, rt.alloc(), file.as_slice(), &records, 16, &counter)?;
+    let records = read_records(rt.alloc(), file.as_slice()).expect(&rt, "the records are read");
+    let decoded = decode(&rt, rt.alloc(), file.as_slice(), &records, 16, &counter);
+    let list = decoded.expect(&rt, "the segments are read");
     assert!(rt; list.is_empty());
     assert_eq!(rt; counter.came.load(Ordering::SeqCst), 0x1111_1111_1111_1111);
-    Ok(())
 }
 
 /// A gate in which each of two workers waits for the other.
@@ -109,8 +107,8 @@ impl Gate for Meeting {
 }
 
 #[test]
-fn workers_run_at_once(rt: HostRuntime) -> Result<(), Fail> {
-    let file = spell(rt.alloc(), THREE_SEGMENTS)?;
+fn workers_run_at_once(rt: HostRuntime) {
+    let file = spell(rt.alloc(), THREE_SEGMENTS).expect(&rt, "the file is spelled");
     let meeting = Meeting {
         came: [AtomicBool::new(false), AtomicBool::new(false)],
         met: [AtomicBool::new(false), AtomicBool::new(false)],
@@ -119,5 +117,4 @@ fn workers_run_at_once(rt: HostRuntime) -> Result<(), Fail> {
     assert!(rt; opened.is_ok());
     assert!(rt; meeting.met[0].load(Ordering::SeqCst));
     assert!(rt; meeting.met[1].load(Ordering::SeqCst));
-    Ok(())
 }
