@@ -3,14 +3,14 @@ use hd_arguments::{Opening, Serving, Task, read_arguments};
 use hd_program::{BAD_DUMP, DONE, FAILED, USAGE, program};
 use hd_protocol::SAMPLE;
 use hd_terms::Mode;
-use std::alloc::{AllocError, Global};
+use std::alloc::Global;
 use std::fs::{self, File};
 use std::io::{self, BufRead, Read};
 use std::net::{Ipv4Addr, Net, SocketAddr, TcpListener, TcpStream};
+use std::process::Abort;
 use std::random::RandomSource;
 use std::rt::Files;
 use std::sync::Wait;
-use std::test::Fail;
 use std::thread::Threads;
 use std::time::Clock;
 
@@ -19,24 +19,20 @@ const SAMPLE_STAT: &str = "objects 2\nroots 1\nedges 1\nunresolved 1\nrepeated 0
     STRONG 2 12\nSOFT 0 0\nWEAK 0 0\nFINAL 0 0\nPHANTOM 0 0\nUNREACHABLE 0 0\n";
 
 /// The words as the program takes them.
-fn owned(alloc: Global, words: &[&str]) -> Result<Vec<String>, AllocError> {
+fn owned<R: Abort>(rt: &R, alloc: Global, words: &[&str]) -> Vec<String> {
     let mut list = Vec::new(alloc);
     for word in words {
-        list.push(String::from_str(alloc, word)?)?;
+        let copy = String::from_str(alloc, word).expect(rt, "the word is copied");
+        list.push(copy).expect(rt, "the list grows");
     }
-    Ok(list)
+    list
 }
 
 /// Whether the program ends so over these words and lines: its status, what it writes, and what it reports.
-fn ends<R>(
-    rt: &R,
-    words: &[&str],
-    status: u8,
-    written: &[u8],
-    reported: &[u8],
-) -> Result<bool, AllocError>
+fn ends<R>(rt: &R, words: &[&str], status: u8, written: &[u8], reported: &[u8]) -> bool
 where
-    R: AllocGlobal
+    R: Abort
+        + AllocGlobal
         + Clock
         + Files<File = File>
         + Net<Listener = TcpListener, Stream = TcpStream>
@@ -45,7 +41,7 @@ where
         + Wait
         + Sync,
 {
-    let words = owned(rt.alloc(), words)?;
+    let words = owned(rt, rt.alloc(), words);
     let mut input: &[u8] = b"strength 0x2\nquit\n";
     let mut output = Vec::new(rt.alloc());
     let mut faults = Vec::new(rt.alloc());
@@ -57,13 +53,14 @@ where
         &mut output,
         &mut faults,
     );
-    Ok(ended == status && output.as_slice() == written && faults.as_slice() == reported)
+    ended == status && output.as_slice() == written && faults.as_slice() == reported
 }
 
 /// What the program reports of words that it doesn't take; nothing where it takes them, or reads or writes.
-fn usage_of<R>(rt: &R, words: &[&str]) -> Result<Vec<u8>, AllocError>
+fn usage_of<R>(rt: &R, words: &[&str]) -> Vec<u8>
 where
-    R: AllocGlobal
+    R: Abort
+        + AllocGlobal
         + Clock
         + Files<File = File>
         + Net<Listener = TcpListener, Stream = TcpStream>
@@ -72,7 +69,7 @@ where
         + Wait
         + Sync,
 {
-    let words = owned(rt.alloc(), words)?;
+    let words = owned(rt, rt.alloc(), words);
     let mut input: &[u8] = b"quit\n";
     let mut output = Vec::new(rt.alloc());
     let mut faults = Vec::new(rt.alloc());
@@ -87,11 +84,11 @@ where
     if ended != USAGE || !output.is_empty() || input.len() != 5 {
         faults.clear();
     }
-    Ok(faults)
+    faults
 }
 
 #[test]
-fn tasks(rt: HostRuntime) -> Result<(), Fail> {
+fn tasks(rt: HostRuntime) {
     let rows: [(&[&str], u32, Mode); 3] = [
         (&["run", "x"], 4, Mode::Direct),
         (
@@ -102,7 +99,7 @@ fn tasks(rt: HostRuntime) -> Result<(), Fail> {
         (&["run", "--phantom", "direct", "x"], 4, Mode::Direct),
     ];
     for (words, workers, mode) in rows {
-        let words = owned(rt.alloc(), words)?;
+        let words = owned(&rt, rt.alloc(), words);
         let wanted = Opening {
             file: "x",
             workers,
@@ -111,11 +108,10 @@ fn tasks(rt: HostRuntime) -> Result<(), Fail> {
         let read = read_arguments(rt.alloc(), words.as_slice()).ok();
         assert_eq!(rt; read, Some(Some(Task::Run(wanted))));
     }
-    Ok(())
 }
 
 #[test]
-fn serve_tasks(rt: HostRuntime) -> Result<(), Fail> {
+fn serve_tasks(rt: HostRuntime) {
     let rows: [(&[&str], u16, u8); 3] = [
         (&["serve", "x", "--port", "0", "--analysts", "1"], 0, 1),
         (
@@ -126,7 +122,7 @@ fn serve_tasks(rt: HostRuntime) -> Result<(), Fail> {
         (&["serve", "x", "--port=7070", "--analysts=2"], 7_070, 2),
     ];
     for (words, port, analysts) in rows {
-        let words = owned(rt.alloc(), words)?;
+        let words = owned(&rt, rt.alloc(), words);
         let opening = Opening {
             file: "x",
             workers: 4,
@@ -140,11 +136,10 @@ fn serve_tasks(rt: HostRuntime) -> Result<(), Fail> {
         let read = read_arguments(rt.alloc(), words.as_slice()).ok();
         assert_eq!(rt; read, Some(Some(Task::Serve(wanted))));
     }
-    Ok(())
 }
 
 #[test]
-fn serve_usage_faults(rt: HostRuntime) -> Result<(), Fail> {
+fn serve_usage_faults(rt: HostRuntime) {
     let rows: [&[&str]; 9] = [
         &["serve"],
         &["serve", "x"],
@@ -157,13 +152,12 @@ fn serve_usage_faults(rt: HostRuntime) -> Result<(), Fail> {
         &["run", "x", "--port", "0"],
     ];
     for words in rows {
-        assert!(rt; !usage_of(&rt, words)?.is_empty());
+        assert!(rt; !usage_of(&rt, words).is_empty());
     }
-    Ok(())
 }
 
 #[test]
-fn usage_faults(rt: HostRuntime) -> Result<(), Fail> {
+fn usage_faults(rt: HostRuntime) {
     let rows: [&[&str]; 11] = [
         &["--help"],
         &["nothing"],
@@ -178,15 +172,14 @@ fn usage_faults(rt: HostRuntime) -> Result<(), Fail> {
         &["run", "x", "--phantom"],
     ];
     for words in rows {
-        assert!(rt; !usage_of(&rt, words)?.is_empty());
+        assert!(rt; !usage_of(&rt, words).is_empty());
     }
-    let help = usage_of(&rt, &["--help"])?;
+    let help = usage_of(&rt, &["--help"]);
     assert!(rt; help.as_slice().starts_with(b"A verified workbench"));
-    Ok(())
 }
 
 #[test]
-fn unreadable_files(rt: HostRuntime) -> Result<(), Fail> {
+fn unreadable_files(rt: HostRuntime) {
     assert!(rt;
         ends(
             &rt,
@@ -194,7 +187,7 @@ fn unreadable_files(rt: HostRuntime) -> Result<(), Fail> {
             FAILED,
             b"",
             b"hdesk: cannot read /no/such/file\n"
-        )?
+        )
     );
     assert!(rt;
         ends(
@@ -203,7 +196,7 @@ fn unreadable_files(rt: HostRuntime) -> Result<(), Fail> {
             FAILED,
             b"",
             b"hdesk: cannot read /no/such/file\n"
-        )?
+        )
     );
     assert!(rt;
         ends(
@@ -212,9 +205,9 @@ fn unreadable_files(rt: HostRuntime) -> Result<(), Fail> {
             FAILED,
             b"",
             b"hdesk: cannot read /no/such/file\n"
-        )?
+        )
     );
-    assert!(rt; ends(&rt, &["run", "/"], FAILED, b"", b"hdesk: cannot read /\n")?);
+    assert!(rt; ends(&rt, &["run", "/"], FAILED, b"", b"hdesk: cannot read /\n"));
     assert!(rt;
         ends(
             &rt,
@@ -222,9 +215,8 @@ fn unreadable_files(rt: HostRuntime) -> Result<(), Fail> {
             FAILED,
             b"",
             b"hdesk: cannot read /dev/null\n"
-        )?
+        )
     );
-    Ok(())
 }
 
 /// Writes a file of these bytes, and checks how `run` and `stat` end over it.
@@ -234,9 +226,10 @@ fn over<R>(
     bytes: &[u8],
     run: (u8, &[u8], &[u8]),
     stat: (u8, &[u8], &[u8]),
-) -> io::Result<bool>
+) -> bool
 where
-    R: AllocGlobal
+    R: Abort
+        + AllocGlobal
         + Clock
         + Files<File = File>
         + Net<Listener = TcpListener, Stream = TcpStream>
@@ -245,44 +238,44 @@ where
         + Wait
         + Sync,
 {
-    fs::write(rt, path, bytes)?;
-    let ran = ends(rt, &["run", path, "--workers", "16"], run.0, run.1, run.2)?;
-    let counted = ends(rt, &["stat", path], stat.0, stat.1, stat.2)?;
-    fs::remove_file(rt, path)?;
-    Ok(ran && counted)
+    fs::write(rt, path, bytes).expect(rt, "the file is written");
+    let ran = ends(rt, &["run", path, "--workers", "16"], run.0, run.1, run.2);
+    let counted = ends(rt, &["stat", path], stat.0, stat.1, stat.2);
+    fs::remove_file(rt, path).expect(rt, "the file is removed");
+    ran && counted
 }
 
 #[test]
-fn programs_over_files(rt: HostRuntime) -> io::Result<()> {
+fn programs_over_files(rt: HostRuntime) {
     let path = "program-test.hprof";
     let run: (u8, &[u8], &[u8]) = (DONE, b"ok 1\nSTRONG\nok 0\n", b"");
     let stat: (u8, &[u8], &[u8]) = (DONE, SAMPLE_STAT.as_bytes(), b"");
-    assert!(rt; over(&rt, path, &SAMPLE, run, stat)?);
+    assert!(rt; over(&rt, path, &SAMPLE, run, stat));
     let cut: (u8, &[u8], &[u8]) = (BAD_DUMP, b"", b"hdesk: Truncated at 0\n");
-    assert!(rt; over(&rt, path, &SAMPLE[..30], cut, cut)?);
-    assert!(rt; over(&rt, path, b"", cut, cut)?);
+    assert!(rt; over(&rt, path, &SAMPLE[..30], cut, cut));
+    assert!(rt; over(&rt, path, b"", cut, cut));
     let cut: (u8, &[u8], &[u8]) = (BAD_DUMP, b"", b"hdesk: Truncated at 31\n");
-    assert!(rt; over(&rt, path, &SAMPLE[..90], cut, cut)?);
-    Ok(())
+    assert!(rt; over(&rt, path, &SAMPLE[..90], cut, cut));
 }
 
 #[test]
-fn file_too_large(rt: HostRuntime) -> io::Result<()> {
+fn file_too_large(rt: HostRuntime) {
     let path = "too-large-test.hprof";
-    let file = fs::create(&rt, path)?;
-    file.set_len(2_147_483_648)?;
+    let file = fs::create(&rt, path).expect(&rt, "the file is made");
+    file.set_len(2_147_483_648)
+        .expect(&rt, "the file gets its length");
     drop(file);
     let large: &[u8] = b"hdesk: TooLarge at 0\n";
-    assert!(rt; ends(&rt, &["stat", path], BAD_DUMP, b"", large)?);
-    assert!(rt; ends(&rt, &["run", path], BAD_DUMP, b"", large)?);
-    fs::remove_file(&rt, path)?;
-    Ok(())
+    assert!(rt; ends(&rt, &["stat", path], BAD_DUMP, b"", large));
+    assert!(rt; ends(&rt, &["run", path], BAD_DUMP, b"", large));
+    fs::remove_file(&rt, path).expect(&rt, "the file is removed");
 }
 
 /// Whether serving a file at a port ends because the port can't be listened on.
-fn cannot_listen<R>(rt: &R, path: &str, port: &str) -> Result<bool, AllocError>
+fn cannot_listen<R>(rt: &R, path: &str, port: &str) -> bool
 where
-    R: AllocGlobal
+    R: Abort
+        + AllocGlobal
         + Clock
         + Files<File = File>
         + Net<Listener = TcpListener, Stream = TcpStream>
@@ -296,15 +289,16 @@ where
 }
 
 #[test]
-fn port_in_use(rt: HostRuntime) -> io::Result<()> {
+fn port_in_use(rt: HostRuntime) {
     let path = "port-test.hprof";
-    fs::write(&rt, path, &SAMPLE)?;
-    let listener = TcpListener::bind(&rt, SocketAddr::from((Ipv4Addr::LOCALHOST, 0)))?;
-    let port = format!(in rt.alloc(); "{}", listener.local_addr()?.port())?;
-    let ended = cannot_listen(&rt, path, port.as_str())?;
-    fs::remove_file(&rt, path)?;
+    fs::write(&rt, path, &SAMPLE).expect(&rt, "the file is written");
+    let bound = TcpListener::bind(&rt, SocketAddr::from((Ipv4Addr::LOCALHOST, 0)));
+    let listener = bound.expect(&rt, "a port is free");
+    let address = listener.local_addr().expect(&rt, "the port is known");
+    let port = format!(in rt.alloc(); "{}", address.port()).expect(&rt, "the port is written");
+    let ended = cannot_listen(&rt, path, port.as_str());
+    fs::remove_file(&rt, path).expect(&rt, "the file is removed");
     assert!(rt; ended);
-    Ok(())
 }
 
 /// A reader that fails at once.

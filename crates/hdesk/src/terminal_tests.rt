@@ -1,10 +1,9 @@
 //! What is shown at a terminal, and that it doesn't show on standard output.
 use hd_program::{BAD_DUMP, DONE, program};
 use hd_protocol::SAMPLE;
-use std::alloc::AllocError;
 use std::fs::{self, File};
-use std::io;
 use std::net::{Net, TcpListener, TcpStream};
+use std::process::Abort;
 use std::random::RandomSource;
 use std::rt::Files;
 use std::sync::Wait;
@@ -12,9 +11,10 @@ use std::thread::Threads;
 use std::time::Clock;
 
 /// How `run` over a file ends at a terminal: its status, what it writes, and what is shown.
-fn shown<R>(rt: &R, path: &str) -> Result<(u8, Vec<u8>, Vec<u8>), AllocError>
+fn shown<R>(rt: &R, path: &str) -> (u8, Vec<u8>, Vec<u8>)
 where
-    R: AllocGlobal
+    R: Abort
+        + AllocGlobal
         + Clock
         + Files<File = File>
         + Net<Listener = TcpListener, Stream = TcpStream>
@@ -24,8 +24,10 @@ where
         + Sync,
 {
     let mut words = Vec::new(rt.alloc());
-    words.push(String::from_str(rt.alloc(), "run")?)?;
-    words.push(String::from_str(rt.alloc(), path)?)?;
+    for word in ["run", path] {
+        let copy = String::from_str(rt.alloc(), word).expect(rt, "the word is copied");
+        words.push(copy).expect(rt, "the list grows");
+    }
     let mut input: &[u8] = b"quit\n";
     let mut output = Vec::new(rt.alloc());
     let mut faults = Vec::new(rt.alloc());
@@ -37,15 +39,15 @@ where
         &mut output,
         &mut faults,
     );
-    Ok((ended, output, faults))
+    (ended, output, faults)
 }
 
 #[test]
-fn file_at_a_terminal(rt: HostRuntime) -> io::Result<()> {
+fn file_at_a_terminal(rt: HostRuntime) {
     let path = "terminal-test.hprof";
-    fs::write(&rt, path, &SAMPLE)?;
-    let (ended, written, seen) = shown(&rt, path)?;
-    fs::remove_file(&rt, path)?;
+    fs::write(&rt, path, &SAMPLE).expect(&rt, "the file is written");
+    let (ended, written, seen) = shown(&rt, path);
+    fs::remove_file(&rt, path).expect(&rt, "the file is removed");
     assert_eq!(rt; ended, DONE);
     assert_eq!(rt; written.as_slice(), b"ok 0\n".as_slice());
     assert!(rt;
@@ -54,20 +56,18 @@ fn file_at_a_terminal(rt: HostRuntime) -> io::Result<()> {
         )
     );
     assert!(rt; seen.as_slice().ends_with(b" s\n"));
-    Ok(())
 }
 
 #[test]
-fn damaged_file_at_a_terminal(rt: HostRuntime) -> io::Result<()> {
+fn damaged_file_at_a_terminal(rt: HostRuntime) {
     let path = "terminal-fault-test.hprof";
-    fs::write(&rt, path, &SAMPLE[..90])?;
-    let (ended, written, seen) = shown(&rt, path)?;
-    fs::remove_file(&rt, path)?;
+    fs::write(&rt, path, &SAMPLE[..90]).expect(&rt, "the file is written");
+    let (ended, written, seen) = shown(&rt, path);
+    fs::remove_file(&rt, path).expect(&rt, "the file is removed");
     assert_eq!(rt; ended, BAD_DUMP);
     assert!(rt; written.is_empty());
     assert!(rt;
         seen.as_slice()
             .ends_with(b"\r\x1b[Khdesk: Truncated at 31\n")
     );
-    Ok(())
 }
