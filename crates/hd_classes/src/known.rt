@@ -4,7 +4,7 @@ use crate::layout::Layout;
 use hd_terms::EdgeKind;
 
 /// An instance field in a layout.
-#[derive(Clone, Copy, Debug, PartialEq, Eq)]
+#[derive(Clone, Copy, PartialEq, Eq)]
 pub struct LayoutField {
     /// The ID of the class that declares it.
     pub owner: u64,

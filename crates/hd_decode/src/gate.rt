@@ -8,7 +8,7 @@ pub trait Gate: Sync {
 }
 
 /// A gate that holds nobody up.
-#[derive(Clone, Copy, Debug)]
+#[derive(Clone, Copy)]
 pub struct NoGate;
 
 impl Gate for NoGate {

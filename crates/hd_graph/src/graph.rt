@@ -59,7 +59,7 @@ pub(crate) struct StoredRoot {
 }
 
 /// A slot of an object.
-#[derive(Clone, Copy, Debug, PartialEq, Eq)]
+#[derive(Clone, Copy)]
 pub struct SlotRead {
     pub slot: Slot,
     /// What a reference in the slot goes through.
@@ -71,14 +71,14 @@ pub struct SlotRead {
 }
 
 /// What a slot of an object is called, and what a reference in it goes through.
-#[derive(Clone, Copy, Debug, PartialEq, Eq)]
+#[derive(Clone, Copy)]
 pub struct SlotName {
     pub slot: Slot,
     pub kind: EdgeKind,
 }
 
 /// A root of the dump.
-#[derive(Clone, Copy, Debug, PartialEq, Eq)]
+#[derive(Clone, Copy, PartialEq, Eq)]
 pub struct RootRead {
     pub kind: RootKind,
     /// The ID of the object that the root holds.

@@ -14,7 +14,7 @@ use hd_terms::{EdgeKind, NoMemory, Slot, Strength, Support, settled_supports_giv
 use std::alloc::Global;
 
 /// A reference of a chain.
-#[derive(Clone, Copy, Debug, PartialEq, Eq)]
+#[derive(Clone, Copy)]
 pub struct Link {
     /// The slot that it is in.
     pub slot: Slot,

@@ -5,7 +5,7 @@ use hd_terms::{Load, Span, Text};
 use std::marker::Model;
 
 /// What the records of one kind say, in file order.
-#[derive(Debug, Drop)]
+#[derive(Drop)]
 pub struct RecordList<T> {
     items: Vec<T>,
 }

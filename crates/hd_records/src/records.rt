@@ -32,7 +32,6 @@ const HEAP_DUMP_SEGMENT: u8 = 0x1c;
 const SERIAL_LEN: usize = 4;
 
 /// What the records of a file say.
-#[derive(Debug)]
 pub struct Records {
     /// What identifiers measure.
     pub id_size: IdSize,

@@ -6,7 +6,7 @@ use hd_terms::NoMemory;
 use std::marker::Model;
 
 /// A number, and the number of the object that it belongs to.
-#[derive(Clone, Copy, Debug, PartialEq, Eq)]
+#[derive(Clone, Copy)]
 pub struct NumberOn {
     pub object: u32,
     pub number: u32,

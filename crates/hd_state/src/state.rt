@@ -74,7 +74,7 @@ impl Drop for State {
 }
 
 /// What an event did.
-#[derive(Clone, Copy, Debug, PartialEq, Eq)]
+#[derive(Clone, Copy)]
 pub struct Done {
     /// The event's number in the log, from 0.
     pub event: u32,

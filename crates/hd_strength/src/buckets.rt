@@ -9,7 +9,7 @@ use std::alloc::Global;
 use std::collections::VecDeque;
 
 /// What the reference in a slot of an object would give its target: the object's number, and the slot's index.
-#[derive(Clone, Copy, Debug)]
+#[derive(Clone, Copy)]
 pub struct Offer {
     pub source: u32,
     pub index: u32,

@@ -100,7 +100,7 @@ pub fn root_target(
 }
 
 /// A reference that stands: what it goes through, and the object that it leads to.
-#[derive(Clone, Copy, Debug)]
+#[derive(Clone, Copy)]
 pub(crate) struct StandingRead {
     pub(crate) kind: EdgeKind,
     pub(crate) target: u32,

@@ -46,7 +46,7 @@ struct Search {
 }
 
 /// What an object that nothing reaches gains by a reference: the object, and the strength.
-#[derive(Clone, Copy, Debug)]
+#[derive(Clone, Copy)]
 struct Gain {
     target: u32,
     strength: Strength,

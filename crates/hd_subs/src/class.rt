@@ -2,7 +2,7 @@
 use hd_terms::Span;
 
 /// A constant of a class's constant pool.
-#[derive(Clone, Copy, Debug, PartialEq, Eq)]
+#[derive(Clone, Copy)]
 pub struct Constant {
     /// Its type, as HPROF numbers the basic types: 1 or 2 for an ID, or 4 to 11.
     pub code: u8,
@@ -11,7 +11,7 @@ pub struct Constant {
 }
 
 /// A static of a class.
-#[derive(Clone, Copy, Debug, PartialEq, Eq)]
+#[derive(Clone, Copy)]
 pub struct Static {
     /// The ID of the text that is its name.
     pub name: u64,
@@ -22,7 +22,7 @@ pub struct Static {
 }
 
 /// An instance field that a class declares.
-#[derive(Clone, Copy, Debug, PartialEq, Eq)]
+#[derive(Clone, Copy)]
 pub struct Field {
     /// The ID of the text that is its name.
     pub name: u64,
@@ -31,7 +31,6 @@ pub struct Field {
 }
 
 /// A class object. Its lists are in the order of the file.
-#[derive(Debug)]
 pub struct ClassDump {
     pub id: u64,
     /// The ID of the super class, 0 where there is none.

@@ -10,7 +10,7 @@ use std::alloc::{AllocError, Global};
 use std::marker::Model;
 
 /// The sub-records of a dump in file order, in parts that stay the lists they were read into.
-#[derive(Debug, Drop)]
+#[derive(Drop)]
 pub struct DumpSubs<'a> {
     parts: Vec<Subs<'a>>,
     len: usize,

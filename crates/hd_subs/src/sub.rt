@@ -7,7 +7,7 @@ use crate::class::ClassDump;
 use hd_terms::{RootKind, Span};
 
 /// What a sub-record holds.
-#[derive(Clone, Copy, Debug)]
+#[derive(Clone, Copy)]
 pub enum Item<'a> {
     /// A root of that kind, and the ID that it holds.
     Root(RootKind, u64),
@@ -23,7 +23,7 @@ pub enum Item<'a> {
 }
 
 /// A sub-record, and the file offset of its tag in bytes.
-#[derive(Clone, Copy, Debug)]
+#[derive(Clone, Copy)]
 pub struct Sub<'a> {
     pub offset: u64,
     pub item: Item<'a>,

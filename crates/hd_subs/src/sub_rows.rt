@@ -15,7 +15,6 @@ use std::alloc::{AllocError, Global};
 use std::marker::Model;
 
 /// Sub-records as rows, in the order in which they were added.
-#[derive(Debug)]
 pub(crate) struct SubRows {
     rows: Vec<Row>,
     classes: Vec<ClassDump>,

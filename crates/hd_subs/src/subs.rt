@@ -19,7 +19,6 @@ pub(crate) const FIRST_ROW: u32 = 0x8000_0000;
 ///
 /// An instance or an array is kept by the file offset of its tag, in four bytes, and read again from the bytes there. Classes
 /// and roots are kept as rows, and so is what has fewer than 25 bytes from its tag to the end of the file.
-#[derive(Debug)]
 pub struct Subs<'a> {
     pub(crate) bytes: &'a [u8],
     pub(crate) id_size: IdSize,

@@ -2,7 +2,7 @@
 use crate::{Edit, Group, Strength};
 
 /// A command, as a line spells it.
-#[derive(Clone, Copy, Debug, PartialEq, Eq)]
+#[derive(Clone, Copy)]
 pub enum Command {
     /// The strength of the object of an ID.
     Strength(u64),

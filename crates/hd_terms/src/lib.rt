@@ -189,7 +189,7 @@ pub enum Slot {
 }
 
 /// How a slot of an object is shown under a log.
-#[derive(Clone, Copy, Debug, PartialEq, Eq)]
+#[derive(Clone, Copy, PartialEq, Eq)]
 pub enum SlotMode {
     /// Its reference stands.
     Stands,
@@ -202,7 +202,7 @@ pub enum SlotMode {
 }
 
 /// A slot of an object as it is shown under a log.
-#[derive(Clone, Copy, Debug, PartialEq, Eq)]
+#[derive(Clone, Copy, PartialEq, Eq)]
 pub struct SlotRow {
     pub slot: Slot,
     /// What a reference in the slot goes through.
@@ -213,7 +213,7 @@ pub struct SlotRow {
 }
 
 /// A reference to an object as it is shown under a log.
-#[derive(Clone, Copy, Debug, PartialEq, Eq)]
+#[derive(Clone, Copy)]
 pub struct IntoRow {
     /// The ID of the object that the reference is from.
     pub source: u64,
@@ -240,7 +240,7 @@ pub enum Edit {
 }
 
 /// How a root is shown under a log.
-#[derive(Clone, Copy, Debug, PartialEq, Eq)]
+#[derive(Clone, Copy, PartialEq, Eq)]
 pub enum RootMode {
     /// It stands, and holds its object.
     Stands,
@@ -251,7 +251,7 @@ pub enum RootMode {
 }
 
 /// A root as it is shown under a log: one of the dump's, or one that a live edit adds.
-#[derive(Clone, Copy, Debug, PartialEq, Eq)]
+#[derive(Clone, Copy, PartialEq, Eq)]
 pub struct RootRow {
     /// The dump's roots have the numbers from 0, in file order; behind these, event k adds the root k.
     pub number: u64,
@@ -287,7 +287,7 @@ pub enum Group {
 }
 
 /// The objects of a group that have a strength: how many there are, and their recorded bytes.
-#[derive(Clone, Copy, Debug, PartialEq, Eq)]
+#[derive(Clone, Copy, PartialEq, Eq)]
 pub struct ClassRow {
     pub group: Group,
     pub count: u64,
@@ -295,7 +295,7 @@ pub struct ClassRow {
 }
 
 /// What an object owes its strength to.
-#[derive(Clone, Copy, Debug, PartialEq, Eq)]
+#[derive(Clone, Copy, PartialEq, Eq)]
 pub enum Support {
     Nothing,
     /// The root of that number.
@@ -343,7 +343,7 @@ pub struct Load {
 }
 
 /// How many of what a dump has.
-#[derive(Clone, Copy, Debug, PartialEq, Eq)]
+#[derive(Clone, Copy)]
 pub struct Counts {
     pub objects: u64,
     pub roots: u64,

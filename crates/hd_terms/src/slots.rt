@@ -5,7 +5,7 @@ ghost use Rattle.hd_terms.specs.SlotKinds.{slot_of, slot_parts};
 use crate::Slot;
 
 /// What a slot is, without its number.
-#[derive(Clone, Copy, Debug, PartialEq, Eq)]
+#[derive(Clone, Copy, PartialEq, Eq)]
 pub enum SlotKind {
     Field,
     Element,

@@ -88,14 +88,9 @@ fn versions_of_supports(rt: HostRuntime) {
             .put(1024, Strength::Weak, edge, 5)
             .expect(&rt, "the support is put");
     }
-    assert_eq!(rt; kept(&first, 1024), Some((Strength::Weak, edge, 5)));
-    assert_eq!(rt;
-        kept(&first, 0),
-        Some((Strength::Strong, Support::Root(2), 0))
-    );
-    assert_eq!(rt;
-        kept(&second, 1024),
-        Some((Strength::Strong, Support::Root(2), 0))
-    );
-    assert_eq!(rt; kept(&second, 1025), None);
+    let root = Some((Strength::Strong, Support::Root(2), 0));
+    assert!(rt; kept(&first, 1024) == Some((Strength::Weak, edge, 5)));
+    assert!(rt; kept(&first, 0) == root);
+    assert!(rt; kept(&second, 1024) == root);
+    assert!(rt; kept(&second, 1025).is_none());
 }

@@ -6,14 +6,14 @@ ghost use Rattle.hd_totals.specs.Totals.{no_total, no_totals, total_for, plus_ob
 use hd_terms::Strength;
 
 /// How many objects, and their recorded bytes.
-#[derive(Clone, Copy, Debug, PartialEq, Eq)]
+#[derive(Clone, Copy)]
 pub struct Total {
     pub count: u64,
     pub bytes: u64,
 }
 
 /// The total of each strength.
-#[derive(Clone, Copy, Debug, PartialEq, Eq)]
+#[derive(Clone, Copy)]
 pub struct StrengthTotals {
     pub strong: Total,
     pub soft: Total,

@@ -6,7 +6,7 @@ ghost use Rattle.hd_view.specs.Finding.{edge_count, start_from, IsCursor, IsEdge
 use hd_graph::Graph;
 
 /// How many edges an object has before one of its slots, cut or not: the object's number, how many, and the slot's index.
-#[derive(Clone, Copy, Debug)]
+#[derive(Clone, Copy)]
 pub(crate) struct Cursor {
     pub(crate) object: u32,
     pub(crate) edges: u32,

@@ -80,7 +80,7 @@ impl LineFormat for RootLines {
 }
 
 /// An event with its number, and whether it is live.
-#[derive(Clone, Copy, Debug)]
+#[derive(Clone, Copy)]
 pub struct EventRow {
     pub number: u32,
     pub event: Event,

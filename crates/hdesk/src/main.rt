@@ -20,7 +20,7 @@ use std::thread::Threads;
 use std::time::Clock;
 
 /// What the standard streams are.
-#[derive(Clone, Copy, Debug, PartialEq, Eq)]
+#[derive(Clone, Copy)]
 struct Terminals {
     /// Standard error is a terminal.
     shows: bool,
