@@ -1,8 +1,8 @@
 -- How many elements have the key of an earlier one.
-use Rattle.std.proofs.Common.{◌≡◌, ◌∙◌, ℕ, ◌+◌, ◌<◌, ◌≤◌, List, [], ◌∷◌, ◌++◌, length, get_or, map, take, Bool, true, false, ◌||◌, cond, eqb, eqb-true, refl, sym, ap, arith, append_assoc, length-append}
+use Rattle.std.proofs.Common.{◌≡◌, ◌∙◌, ℕ, ◌+◌, ◌≤◌, List, [], ◌∷◌, ◌++◌, length, map, Bool, true, false, ◌||◌, cond, eqb, eqb-true, refl, sym, ap, arith, append_assoc, length-append}
 use Rattle.std.specs.Prelude.{count_by}
 use Rattle.std.specs.List.{list_any, enumerate_from}
-use Rattle.std.proofs.lemmas.List.{append-nil, map-append, take_more, take_all, length-take}
+use Rattle.std.proofs.lemmas.List.{append-nil, map-append}
 use Rattle.std.proofs.lemmas.List.Folds.{list_any-append}
 use Rattle.std.proofs.lemmas.List.FromFn.{length-enumerate_from}
 use Rattle.std.proofs.lemmas.List.Sums.{sum_by-cons, count_by-le-length}
@@ -81,16 +81,3 @@ noted-push key xs x ids repeated ids' repeated' h more = record {
       ∙ ap (λ (b : Bool). repeats key xs + cond b 1 0) (h.known (key x))
       ∙ sym (repeats-push key xs x);
 }
-
--- the element at an index is the one after those before it
-pub noted-next : {X : Type 0} (key : X → ℕ) (xs : List X) (i : ℕ) (d : X) (ids : List ℕ) (repeated : ℕ) (ids' : List ℕ) (repeated' : ℕ) → i < length xs
-    → AreNoted key (take i xs) ids repeated → NotesId (key (get_or xs i d)) ids repeated ids' repeated' → AreNoted key (take (i + 1) xs) ids' repeated'
-noted-next key xs i d ids repeated ids' repeated' lt h more = rw (take_more xs i d lt) (noted-push key (take i xs) (get_or xs i d) ids repeated ids' repeated' h more)
-
--- no more are repeated than there are
-pub noted-le : {X : Type 0} (key : X → ℕ) (xs : List X) (i : ℕ) (ids : List ℕ) (repeated : ℕ) → AreNoted key (take i xs) ids repeated → repeated ≤ i
-noted-le key xs i ids repeated h = omega (arith, h.count, repeats-le key (take i xs), length-take i xs)
-
--- all of them
-pub noted-all : {X : Type 0} (key : X → ℕ) (xs : List X) (i : ℕ) (ids : List ℕ) (repeated : ℕ) → length xs ≤ i → AreNoted key (take i xs) ids repeated → repeated ≡ repeats key xs
-noted-all key xs i ids repeated all h = h.count ∙ ap (repeats key) (take_all i xs all)

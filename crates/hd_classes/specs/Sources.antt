@@ -1,6 +1,6 @@
 -- What classes are resolved from: the file, and its texts and classes by their IDs.
-use Rattle.std.specs.Prelude.{◌≡◌, ℕ, ◌==◌, List, length, All}
-use Rattle.std.specs.Option.{option_map}
+use Rattle.std.specs.Prelude.{◌≡◌, ℕ, ◌==◌, if◌then◌else◌, List, length, Option, Some, None, All}
+use Rattle.std.specs.Option.{option_map, option_or}
 use Rattle.std.specs.List.{find}
 use Rattle.std.specs.Map.{lookup}
 use Rattle.hd_terms.specs.declared.Span.{Span}
@@ -10,8 +10,12 @@ use Rattle.hd_terms.specs.SubRecords.{Sub}
 use Rattle.hd_terms.specs.Classes.{ClassTable, class_table}
 use Rattle.hd_records.specs.declared.records.Records.{Records}
 use Rattle.hd_classes.specs.declared.source.Source.{Source}
-use Rattle.hd_classes.specs.Known.{IsTextWithin}
+use Rattle.hd_classes.specs.Known.{IsTextWithin, repeated_records}
 use Rattle.hd_classes.specs.FirstClass.{HasFirstClasses}
+
+-- a value is kept by an ID, unless one was kept by it already
+abbrev pub KeepsFirst : {V : Type 0} → ℕ → V → (before after : List (ℕ × V)) → Type 0
+KeepsFirst id value before after = (k : ℕ) → lookup (λ (x : ℕ). k == x) after ≡ option_or (lookup (λ (x : ℕ). k == x) before) (if k == id then Some value else None)
 
 -- the first text of each ID is kept by the ID
 abbrev pub HasFirstTexts : List Text → List (ℕ × Span) → Type 0
@@ -25,12 +29,13 @@ HasFirstNames loads entries = (id : ℕ) → lookup (λ (x : ℕ). id == x) entr
 abbrev pub table_of : Source → ClassTable
 table_of s = class_table s.bytes.now s.records.now.strings s.records.now.loads s.list.now
 
--- texts and classes are kept by their IDs, and texts lie within the file
+-- texts and classes are kept by their IDs, texts lie within the file, and it is known how many records are repeated
 pub record IsSource (s : Source) : Type 0 where
   pub texts : HasFirstTexts s.records.now.strings s.texts.entries
   pub names : HasFirstNames s.records.now.loads s.names.entries
   pub within : All (IsTextWithin (length s.bytes.now)) s.records.now.strings
   pub classes : HasFirstClasses s.list.now s.classes.entries
+  pub repeated : s.repeated ≡ repeated_records (table_of s)
 
 -- and they are those of this file
 pub record IsSourceOf (bytes : List ℕ) (records : Records) (list : List Sub) (s : Source) : Type 0 where

@@ -129,7 +129,8 @@ impl Classes {
         let source = source_of(alloc, bytes, records, list, hasher)?;
         let known = resolved_classes(alloc, &source, hasher)?;
         let guesses = Guesses::at(alloc, &known)?;
+        let repeated = source.repeated;
         let (texts, names) = source.into_names();
-        Ok(Classes::new(texts, names, known, guesses))
+        Ok(Classes::new(texts, names, known, guesses, repeated))
     }
 }

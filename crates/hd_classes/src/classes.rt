@@ -8,12 +8,14 @@ use crate::guesses::Guesses;
 use crate::known::ResolvedClass;
 use crate::layout::Layout;
 use crate::linked::{LinkedClass, first_declaring};
+use crate::repeats::RepeatedRecords;
 use hd_ids::IdHasher;
 use hd_terms::{EdgeKind, Span};
 use indexmap::IndexMap;
+use std::alloc::Global;
 use std::marker::Model;
 
-/// The names of classes, and the classes whose chains are whole, numbered from 0.
+/// The names of classes, the classes whose chains are whole, numbered from 0, and how many records are repeated.
 pub struct Classes {
     /// Where the first text of each ID lies.
     texts: IndexMap<u64, Span, IdHasher>,
@@ -21,6 +23,8 @@ pub struct Classes {
     names: IndexMap<u64, u64, IdHasher>,
     known: IndexMap<u64, LinkedClass, IdHasher>,
     guesses: Guesses,
+    /// How many texts and loaded classes have the ID of an earlier one.
+    repeated: RepeatedRecords,
 }
 
 impl Drop for Classes {
@@ -31,6 +35,7 @@ impl Drop for Classes {
             names,
             known,
             guesses,
+            repeated: _,
         } = self;
     }
 }
@@ -54,16 +59,48 @@ impl Classes {
         names: IndexMap<u64, u64, IdHasher>,
         known: IndexMap<u64, LinkedClass, IdHasher>,
         guesses: Guesses,
+        repeated: RepeatedRecords,
     ) -> Classes
         requires { IsLinked known.entries }
-        ensures { result ≡ record { texts = texts.entries; names = names.entries; classes = views known.entries } }
+        ensures { result ≡ record { texts = texts.entries; names = names.entries; classes = views known.entries; repeated = repeated } }
     {
         Classes {
             texts,
             names,
             known,
             guesses,
+            repeated,
         }
+    }
+
+    /// The same classes without any name. That gives up what is kept of the texts of a file.
+    pub fn without_names(self, alloc: Global) -> Classes
+        ensures { result ≡ record self { texts = []; names = [] } }
+    {
+        let Self {
+            texts,
+            names,
+            known,
+            guesses,
+            repeated,
+        } = self;
+        drop(texts);
+        drop(names);
+        let hasher = *known.hasher();
+        Classes {
+            texts: IndexMap::with_hasher(alloc, hasher),
+            names: IndexMap::with_hasher(alloc, hasher),
+            known,
+            guesses,
+            repeated,
+        }
+    }
+
+    /// How many texts and loaded classes have the ID of an earlier one.
+    pub fn repeated(&self) -> RepeatedRecords
+        ensures { result ≡ self.now.repeated }
+    {
+        self.repeated
     }
 
     /// How many classes have a whole chain.

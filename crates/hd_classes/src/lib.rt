@@ -26,4 +26,4 @@ pub use fit::{Fit, LayoutBytes};
 pub use known::{LayoutField, ResolvedClass};
 pub use layout::Layout;
 pub use names::bytes_of;
-pub use repeats::{note_id, repeated_loads, repeated_strings};
+pub use repeats::{RepeatedRecords, note_id};

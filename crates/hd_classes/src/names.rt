@@ -1,8 +1,12 @@
 //! The texts of a file by their IDs, and the names of its classes.
-ghost use Rattle.std.specs.Prelude.{◌≡◌, ◌==◌, ℕ, ◌+◌, ◌≤◌, length, map, IfOk};
+ghost use Rattle.std.specs.Prelude.{◌≡◌, ◌==◌, ℕ, ◌+◌, ◌≤◌, is_some, length, map, IfOk, OnOk};
+ghost use Rattle.std.specs.Map.{lookup};
 ghost use Rattle.std.specs.Str.{bytes_eq};
+ghost use Rattle.hd_terms.specs.declared.Load.{Load};
+ghost use Rattle.hd_terms.specs.declared.Text.{Text};
+ghost use Rattle.hd_terms.specs.FirstRecords.{repeats};
 ghost use Rattle.hd_terms.specs.Classes.{bytes_of_span, slashed};
-ghost use Rattle.hd_classes.specs.Sources.{HasFirstTexts, HasFirstNames};
+ghost use Rattle.hd_classes.specs.Sources.{HasFirstTexts, HasFirstNames, KeepsFirst};
 
 use hd_ids::IdHasher;
 use hd_records::{Loads, Texts};
@@ -10,38 +14,59 @@ use hd_terms::Span;
 use indexmap::IndexMap;
 use std::alloc::{AllocError, Global};
 
-/// Where the first text of each ID lies.
+/// Keeps a value by an ID, unless one is kept by it already. Answers whether one was.
+fn keep_first<V: Copy>(
+    kept: &mut IndexMap<u64, V, IdHasher>,
+    id: u64,
+    value: V,
+) -> Result<bool, AllocError>
+    ensures known { IfOk result (λ known. known ≡ is_some (lookup (λ (x : ℕ). id == x) kept.old.entries)) }
+    ensures first { OnOk result (KeepsFirst id value kept.old.entries kept.new.entries) }
+{
+    let Some(first) = kept.insert(id, value)? else {
+        return Ok(false);
+    };
+    kept.insert(id, first)?;
+    Ok(true)
+}
+
+/// Where the first text of each ID lies, and how many texts have the ID of an earlier one.
 pub(crate) fn first_texts(
     alloc: Global,
     strings: &Texts,
     hasher: IdHasher,
-) -> Result<IndexMap<u64, Span, IdHasher>, AllocError>
-    ensures { IfOk result (λ m. HasFirstTexts strings.now m.entries) }
+) -> Result<(IndexMap<u64, Span, IdHasher>, u64), AllocError>
+    ensures texts { IfOk result (λ r. HasFirstTexts strings.now r.0.entries) }
+    ensures repeated { IfOk result (λ r. r.1 ≡ repeats (λ (t : Text). t.id) strings.now) }
 {
     let mut texts = IndexMap::with_capacity_and_hasher(alloc, strings.len(), hasher)?;
+    let mut repeated = 0;
     for text in strings.as_slice() {
-        if !texts.contains_key(&text.id) {
-            texts.insert(text.id, text.text)?;
+        if keep_first(&mut texts, text.id, text.text)? {
+            repeated += 1;
         }
     }
-    Ok(texts)
+    Ok((texts, repeated))
 }
 
-/// The ID of the text that names each class: the first LOAD CLASS of the class says it.
+/// The ID of the text that names each class, as the first LOAD CLASS of the class says it, and how many LOAD CLASS load a class
+/// that was loaded before.
 pub(crate) fn first_names(
     alloc: Global,
     loads: &Loads,
     hasher: IdHasher,
-) -> Result<IndexMap<u64, u64, IdHasher>, AllocError>
-    ensures { IfOk result (λ m. HasFirstNames loads.now m.entries) }
+) -> Result<(IndexMap<u64, u64, IdHasher>, u64), AllocError>
+    ensures names { IfOk result (λ r. HasFirstNames loads.now r.0.entries) }
+    ensures repeated { IfOk result (λ r. r.1 ≡ repeats (λ (l : Load). l.class) loads.now) }
 {
     let mut names = IndexMap::with_capacity_and_hasher(alloc, loads.len(), hasher)?;
+    let mut repeated = 0;
     for load in loads.as_slice() {
-        if !names.contains_key(&load.class) {
-            names.insert(load.class, load.name)?;
+        if keep_first(&mut names, load.class, load.name)? {
+            repeated += 1;
         }
     }
-    Ok(names)
+    Ok((names, repeated))
 }
 
 /// The bytes of a span of a file.

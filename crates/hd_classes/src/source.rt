@@ -8,6 +8,7 @@ ghost use Rattle.hd_classes.specs.Sources.{IsSourceOf, IsSource, table_of};
 
 use crate::first_class::{FirstClass, first_classes};
 use crate::names::{bytes_of, first_names, first_texts};
+use crate::repeats::RepeatedRecords;
 use hd_ids::IdHasher;
 use hd_records::Records;
 use hd_subs::{ClassDump, DumpSubs};
@@ -24,6 +25,8 @@ pub(crate) struct Source<'a> {
     pub(crate) texts: IndexMap<u64, Span, IdHasher>,
     /// The ID of the text that is a class's name, by the class's ID.
     pub(crate) names: IndexMap<u64, u64, IdHasher>,
+    /// How many texts and loaded classes have the ID of an earlier one.
+    pub(crate) repeated: RepeatedRecords,
     /// The class objects, in file order.
     pub(crate) classes: IndexMap<u64, FirstClass<'a>, IdHasher>,
 }
@@ -37,6 +40,7 @@ impl Drop for Source<'_> {
             list: _,
             texts,
             names,
+            repeated: _,
             classes,
         } = self;
     }
@@ -53,15 +57,20 @@ pub(crate) fn source_of<'a>(
     requires { All (IsTextWithin (length bytes.now)) records.now.strings }
     ensures { IfOk result (λ s. IsSourceOf bytes.now records.now list.now s) }
 {
-    let texts = first_texts(alloc, &records.strings, hasher)?;
-    let names = first_names(alloc, &records.loads, hasher)?;
+    let (texts, repeated_texts) = first_texts(alloc, &records.strings, hasher)?;
+    let (names, repeated_loads) = first_names(alloc, &records.loads, hasher)?;
     let classes = first_classes(alloc, list, hasher)?;
+    let repeated = RepeatedRecords {
+        texts: repeated_texts,
+        loads: repeated_loads,
+    };
     Ok(Source {
         bytes,
         records,
         list,
         texts,
         names,
+        repeated,
         classes,
     })
 }
@@ -78,6 +87,7 @@ impl<'a> Source<'a> {
             list: _,
             texts,
             names,
+            repeated: _,
             classes,
         } = self;
         drop(classes);

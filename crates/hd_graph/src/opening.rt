@@ -17,7 +17,7 @@ use crate::graph::{Graph, Repeats};
 use crate::kinds::kinds_of;
 use crate::number::{Numbered, number};
 use crate::shape::Shapes;
-use hd_classes::{Classes, names_of, repeated_loads, repeated_strings};
+use hd_classes::{Classes, RepeatedRecords, names_of};
 use hd_decode::{Gate, decode};
 use hd_ids::secret;
 use hd_records::{Records, read_records};
@@ -100,7 +100,7 @@ fn numbers_and_rows<'a, R: Threads + Sync>(
 
 impl Graph {
     /// The graph of a file, of which these are the records, the sub-records and the classes, and this is how phantom references
-    /// are followed.
+    /// are followed. What is kept of records, texts and names is given up before the rows of objects are made.
     ///
     /// # Errors
     ///
@@ -110,31 +110,34 @@ impl Graph {
         rt: &R,
         alloc: Global,
         bytes: &[u8],
-        records: &Records,
+        records: Records,
         list: &DumpSubs<'_>,
-        classes: &Classes,
+        classes: Classes,
         mode: Mode,
     ) -> Result<Graph, ReadFault>
-        requires records { ReadsRecords bytes.now records.now.id_size records.now.strings records.now.loads records.now.segments }
-        requires list { ReadsBodies records.now.id_size bytes.now records.now.segments list.now }
-        requires classes { AreClassesOf (class_table bytes.now records.now.strings records.now.loads list.now) classes.now }
-        requires no_cycle { class_faults (class_table bytes.now records.now.strings records.now.loads list.now) list.now ≡ [] }
+        requires records { ReadsRecords bytes.now records.id_size records.strings records.loads records.segments }
+        requires list { ReadsBodies records.id_size bytes.now records.segments list.now }
+        requires classes { AreClassesOf (class_table bytes.now records.strings records.loads list.now) classes }
+        requires no_cycle { class_faults (class_table bytes.now records.strings records.loads list.now) list.now ≡ [] }
         ensures ok { IfOk result (λ graph. IsDumpOf mode bytes.now graph) }
         ensures err { IfErr result (λ f. IsReadFaultOrMemory bytes.now f) }
     {
         let id_size = records.id_size;
         let secret = secret(rt);
-        let strings = repeated_strings(alloc, &records.strings, secret)?;
-        let loads = repeated_loads(alloc, &records.loads, secret)?;
-        let names = names_of(alloc, bytes, &records.loads, classes, secret)?;
-        let (numbered, rows) = numbers_and_rows(rt, alloc, bytes, list, classes, id_size, secret)?;
+        let names = names_of(alloc, bytes, &records.loads, &classes, secret)?;
+        drop(records);
+        let RepeatedRecords { texts, loads } = classes.repeated();
+        let classes = classes.without_names(alloc);
+        let (numbered, rows) = numbers_and_rows(rt, alloc, bytes, list, &classes, id_size, secret)?;
         let Numbered { ids, roots, tally } = numbered;
-        let Rows { slot_table, shapes } = rows_of(alloc, ids, rows, classes, id_size, bytes, list)?;
+        let Rows { slot_table, shapes } = rows_of(
+            alloc, ids, rows, &classes, id_size, bytes, list,
+        )?;
         let slot_table = slot_table.resolve(rt, alloc)?;
         let kinds = kinds_of(rt, alloc, &slot_table, &shapes)?;
         let repeats = Repeats {
             objects: tally.repeated,
-            strings,
+            strings: texts,
             loads,
         };
         Ok(Graph::new(
@@ -173,7 +176,7 @@ pub fn open_dump<R: RandomSource + Threads + Sync, G: Gate>(
     let records = read_records(alloc, bytes)?;
     let list = decode(rt, alloc, bytes, &records, workers, gate)?;
     let classes = Classes::build(alloc, bytes, &records, &list, secret(rt))?;
-    let graph = Graph::build(rt, alloc, bytes, &records, &list, &classes, mode)?;
+    let graph = Graph::build(rt, alloc, bytes, records, &list, classes, mode)?;
     let graph = Arc::new(alloc, graph)?;
     Ok(graph)
 }

@@ -155,10 +155,16 @@ fn kinds_of_references(rt: HostRuntime) {
 #[test]
 fn first_names(rt: HostRuntime) {
     let text =
-        "ids 4\ntext 101 a/B\ntext 101 c\ntext 102 d\nload 11 101\nload 11 102\nload 12 109\n\
+        "ids 4\ntext 101 a/B\ntext 101 c\ntext 102 d\ntext 101 e\nload 11 101\nload 11 102\nload 12 109\n\
         segment\nclass 11:\nclass 12:\n";
     let classes = classes_in(&rt, rt.alloc(), text);
     assert_eq!(rt; classes.name(0x11), Some(Span { start: 44, len: 3 }));
     assert_eq!(rt; classes.name(0x12), None);
     assert_eq!(rt; classes.name(0x101), None);
+    let repeated = classes.repeated();
+    assert_eq!(rt; (repeated.texts, repeated.loads), (2, 1));
+    let classes = classes.without_names(rt.alloc());
+    assert_eq!(rt; classes.name(0x11), None);
+    assert_eq!(rt; classes.len(), 2);
+    assert_eq!(rt; classes.repeated().texts, 2);
 }
