@@ -90,16 +90,18 @@ pub(crate) fn kept_and_reverse<R: Threads + Sync>(
     ensures kept { IfOk result (λ r. IsKeptOf graph.now log.now.front r.0) }
     ensures reverse { IfOk result (λ r. IsReverseOf graph.now r.1) }
 {
-    let (kept, reverse) = join(
+    // What is kept is made by this thread: it goes into many small pages, and the first thread of a program gets memory for
+    // these in larger steps than others.
+    let (reverse, kept) = join(
         rt,
+        || -> Result<ReverseRows, NoMemory>
+            ensures { IfOk result (λ rows. IsReverseOf graph.entry.now rows) }
+        { ReverseRows::of(alloc, graph) },
         || -> Result<KeptParts, NoMemory>
             requires empty { log.now.front ≡ [] }
             requires removed { IsRemovedBy graph.now log.now.front (arc_value log.now.removed) }
             ensures { IfOk result (IsKeptOf graph.entry.now log.entry.now.front) }
         { KeptParts::from_scratch(alloc, graph, log) },
-        || -> Result<ReverseRows, NoMemory>
-            ensures { IfOk result (λ rows. IsReverseOf graph.entry.now rows) }
-        { ReverseRows::of(alloc, graph) },
     );
     Ok((kept?, reverse?))
 }
