@@ -24,6 +24,13 @@ pub fn two_desks<R: Abort + RandomSource + Threads + Sync>(
     open(rt, alloc, graph, 2).expect(rt, "the board opens")
 }
 
+/// The first two of these desks.
+pub fn first_two<'a, R: Abort>(rt: &R, desks: &'a mut [Desk]) -> (&'a mut Desk, &'a mut Desk) {
+    let (first, others) = desks.split_first_mut().expect(rt, "there is a first desk");
+    let second = others.first_mut().expect(rt, "there is a second desk");
+    (first, second)
+}
+
 /// What a desk answers to an edit.
 pub fn edit<R: Wait>(rt: &R, alloc: Global, board: &Board, desk: &mut Desk, edit: Edit) -> Answer {
     match desk.edit(rt, alloc, board, edit) {

@@ -1,5 +1,5 @@
 //! Two desks in one thread: whose edits they may take back, what they learn of one another, and how a board is closed.
-use crate::boards::{Answer, CUT, closed, cut, edit, strength_at, two_desks, undo};
+use crate::boards::{Answer, CUT, closed, cut, edit, first_two, strength_at, two_desks, undo};
 use hd_board::{Board, Desk, LearnFault, RefreshFault, open};
 use hd_state_tests::dumps::{graph_of, wide_array};
 use hd_terms::{Edit, LogFault, Refusal, Slot, Strength};
@@ -60,11 +60,7 @@ fn two_wide_desks<R: Abort + RandomSource + Threads + Sync>(
 #[test]
 fn desks_share_pages(rt: HostRuntime) {
     let (board, mut desks) = two_wide_desks(&rt, rt.alloc());
-    let (first, second) = desks
-        .as_mut_slice()
-        .split_first_mut()
-        .expect(&rt, "there is a first desk");
-    let second = second.first_mut().expect(&rt, "there is a second desk");
+    let (first, second) = first_two(&rt, desks.as_mut_slice());
     let cut = Edit::Cut(1, Slot::Element(2999));
     assert!(rt; edit(&rt, rt.alloc(), &board, first, cut) == Some(Ok((0, 1, 0))));
     assert!(rt; strength_at(first, 3001) == Some(Strength::Unreachable));
@@ -78,11 +74,7 @@ type Learned = (Option<Strength>, bool, Option<Strength>);
 /// The first desk cuts, and the second learns what the first has seen.
 fn learn_from<R: Abort + RandomSource + Threads + Wait + Sync>(rt: &R, alloc: Global) -> Learned {
     let (board, mut desks) = two_desks(rt, alloc);
-    let (first, second) = desks
-        .as_mut_slice()
-        .split_first_mut()
-        .expect(rt, "there is a first desk");
-    let second = second.first_mut().expect(rt, "there is a second desk");
+    let (first, second) = first_two(rt, desks.as_mut_slice());
     cut(rt, alloc, &board, first);
     second
         .learn(first.seen())
@@ -101,11 +93,7 @@ fn refreshed_after_cut<R: Abort + RandomSource + Threads + Wait + Sync>(
     alloc: Global,
 ) -> Learned {
     let (board, mut desks) = two_desks(rt, alloc);
-    let (first, second) = desks
-        .as_mut_slice()
-        .split_first_mut()
-        .expect(rt, "there is a first desk");
-    let second = second.first_mut().expect(rt, "there is a second desk");
+    let (first, second) = first_two(rt, desks.as_mut_slice());
     cut(rt, alloc, &board, first);
     let before = strength_at(second, 2);
     second

@@ -1,5 +1,5 @@
 //! A private board: it begins at the log of a desk's state, and leaves that desk and its board as they are.
-use crate::boards::{Answer, CUT, closed, cut, edit, strength_at, two_desks, undo};
+use crate::boards::{Answer, CUT, closed, cut, edit, first_two, strength_at, two_desks, undo};
 use hd_board::{Board, Desk};
 use hd_terms::{Edit, LogFault, Refusal, Strength};
 use std::alloc::Global;
@@ -14,12 +14,8 @@ fn cut_and_refreshed<R: Abort + RandomSource + Threads + Wait + Sync>(
     alloc: Global,
 ) -> (Board, Vec<Desk>) {
     let (board, mut desks) = two_desks(rt, alloc);
-    let (first, second) = desks
-        .as_mut_slice()
-        .split_first_mut()
-        .expect(rt, "there is a first desk");
+    let (first, second) = first_two(rt, desks.as_mut_slice());
     cut(rt, alloc, &board, first);
-    let second = second.first_mut().expect(rt, "there is a second desk");
     second
         .refresh(rt, alloc, &board)
         .ok()
@@ -93,11 +89,7 @@ fn forked_behind<R: Abort + RandomSource + Threads + Wait + Sync>(
     alloc: Global,
 ) -> (Answer, Result<u32, bool>) {
     let (board, mut desks) = two_desks(rt, alloc);
-    let (first, second) = desks
-        .as_mut_slice()
-        .split_first_mut()
-        .expect(rt, "there is a first desk");
-    let second = second.first_mut().expect(rt, "there is a second desk");
+    let (first, second) = first_two(rt, desks.as_mut_slice());
     cut(rt, alloc, &board, first);
     second
         .learn(first.seen())
