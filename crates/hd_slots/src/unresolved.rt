@@ -47,7 +47,8 @@ impl<'a> Model for UnresolvedSlots<'a> {
 }
 
 impl<'a> UnresolvedSlots<'a> {
-    /// No rows yet, over the objects of these IDs, in the order of their numbers. There is room for the starts of `rows` rows.
+    /// No rows yet, over the objects of these IDs, in the order of their numbers. There is room for the starts of `rows` rows, and,
+    /// where the system has it, for as many IDs as would fill half of the file.
     pub fn new(
         alloc: Global,
         bytes: &'a [u8],
@@ -62,12 +63,15 @@ impl<'a> UnresolvedSlots<'a> {
     {
         let mut starts = Vec::with_capacity(alloc, rows.saturating_add(1))?;
         starts.push(0)?;
+        let mut offsets = Vec::new(alloc);
+        // Few dumps have more, so the list needn't move as it grows. Room that isn't touched takes no memory.
+        let _ = offsets.reserve(bytes.len() / (2 * id_size.bytes()));
         Ok(UnresolvedSlots {
             bytes,
             id_size,
             ids,
             starts,
-            offsets: Vec::new(alloc),
+            offsets,
         })
     }
 

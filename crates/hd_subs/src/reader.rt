@@ -21,6 +21,9 @@ use hd_terms::{Cause, IdSize, ReadFault, Span};
 use std::alloc::{AllocError, Global};
 use std::marker::Model;
 
+/// Few sub-records are shorter, in bytes. For a segment room is made for as many of this length as it could have.
+const SHORT_SUB: usize = 16;
+
 /// Reads the segments of a dump, one after another, into one list of sub-records.
 pub struct SegmentReader<'a> {
     bytes: &'a [u8],
@@ -251,6 +254,8 @@ impl<'a> SegmentReader<'a> {
         let start = body.start as usize;
         let bytes = self.bytes;
         let body_bytes = &bytes[start..start + body.len as usize];
+        // The list needn't move as it grows. Room that isn't touched takes no memory, and it may be refused.
+        let _ = self.entries.reserve(body_bytes.len() / SHORT_SUB);
         if let Err(fault) = self.append_body(body_bytes, body.start) {
             self.truncate(before);
             return Err(fault);
