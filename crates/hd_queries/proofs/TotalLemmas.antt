@@ -6,7 +6,6 @@ use Rattle.std.proofs.lemmas.List.{take_all, get_or-map}
 use Rattle.std.proofs.lemmas.List.FromFn.{length-range_with_len, get_or-range_with_len}
 use Rattle.std.proofs.lemmas.List.Sums.{sum_by_more}
 use Rattle.hd_terms.specs.declared.Strength.{Strength}
-use Rattle.hd_terms.specs.declared.Strength.TheVariants as strengths
 use Rattle.hd_terms.specs.declared.Event.{Event}
 use Rattle.hd_terms.specs.Ranks.{rank}
 use Rattle.hd_terms.specs.Records.{largest_file}
@@ -19,10 +18,10 @@ use Rattle.hd_terms.specs.Totals.{IsTotal}
 use Rattle.hd_totals.specs.declared.total.StrengthTotals.{StrengthTotals}
 use Rattle.hd_totals.specs.Members.{has_kept, bytes_if}
 use Rattle.hd_totals.specs.Running.{plus_one}
-use Rattle.hd_totals.specs.Totals.{no_totals, total_for}
-use Rattle.hd_totals.proofs.TotalLemmas.{one-rank, plus-count, plus-bytes, total-none}
+use Rattle.hd_totals.specs.Totals.{no_totals, total_for, sum_of, sums_of}
+use Rattle.hd_totals.proofs.TotalLemmas.{one-rank, plus-count, plus-bytes, total-none, total-sums}
 use Rattle.hd_strength.specs.Found.{strength_of, only_strength}
-use Rattle.hd_queries.specs.Totals.{AreCounted, sum_of}
+use Rattle.hd_queries.specs.Totals.{AreCounted}
 use Rattle.hd_queries.proofs.FallenLemmas.{count-more, count-all}
 
 case-le : (b : Bool) (n : ℕ) → cond b n 0 ≤ n
@@ -73,30 +72,17 @@ module _ (dump : Dump) (ks : List Reached) (start o : ℕ) (old : StrengthTotals
     small = λ s. omega (arith, bytes-is s, h.small s, case-le (has_kept ks s o) (object_at dump o).bytes);
   }
 
--- the sums of the strengths one by one
-module _ (one other all : StrengthTotals)
-    (strong : all.strong ≡ sum_of one.strong other.strong)
-    (soft : all.soft ≡ sum_of one.soft other.soft)
-    (weak : all.weak ≡ sum_of one.weak other.weak)
-    (finalizable : all.finalizable ≡ sum_of one.finalizable other.finalizable)
-    (phantom : all.phantom ≡ sum_of one.phantom other.phantom)
-    (unreachable : all.unreachable ≡ sum_of one.unreachable other.unreachable) where
-  pub each-sum : (s : Strength) → total_for all s ≡ sum_of (total_for one s) (total_for other s)
-  each-sum strengths.Strong = strong
-  each-sum strengths.Soft = soft
-  each-sum strengths.Weak = weak
-  each-sum strengths.Final = finalizable
-  each-sum strengths.Phantom = phantom
-  each-sum strengths.Unreachable = unreachable
-
 -- the objects of two parts, of which one begins where the other ends
 module _ (dump : Dump) (ks : List Reached) (start middle end : ℕ) (one other : StrengthTotals) (first : AreCounted dump ks start middle one) (second : AreCounted dump ks middle end other) where
-  pub both-counted : (all : StrengthTotals) → ((s : Strength) → total_for all s ≡ sum_of (total_for one s) (total_for other s)) → AreCounted dump ks start end all
+  sum-is : (all : StrengthTotals) → all ≡ sums_of one other → (s : Strength) → total_for all s ≡ sum_of (total_for one s) (total_for other s)
+  sum-is all is s = ap (λ t. total_for t s) is ∙ total-sums one other s
+
+  pub both-counted : (all : StrengthTotals) → all ≡ sums_of one other → AreCounted dump ks start end all
   both-counted all is = record {
-    counts = λ s. omega (arith, ap (λ t. t.count) (is s), first.counts s, second.counts s);
-    bytes = λ s. omega (arith, ap (λ t. t.bytes) (is s), first.bytes s, second.bytes s);
-    few = λ s. omega (arith, ap (λ t. t.count) (is s), first.few s, second.few s);
-    small = λ s. omega (arith, ap (λ t. t.bytes) (is s), first.small s, second.small s);
+    counts = λ s. omega (arith, ap (λ t. t.count) (sum-is all is s), first.counts s, second.counts s);
+    bytes = λ s. omega (arith, ap (λ t. t.bytes) (sum-is all is s), first.bytes s, second.bytes s);
+    few = λ s. omega (arith, ap (λ t. t.count) (sum-is all is s), first.few s, second.few s);
+    small = λ s. omega (arith, ap (λ t. t.bytes) (sum-is all is s), first.small s, second.small s);
   }
 
   -- neither sum is too great

@@ -6,7 +6,6 @@ use Rattle.hd_terms.specs.declared.Strength.{Strength}
 use Rattle.hd_terms.specs.Records.{largest_file}
 use Rattle.hd_terms.specs.Dump.{Dump}
 use Rattle.hd_terms.specs.Settled.{Reached}
-use Rattle.hd_totals.specs.declared.total.Total.{Total}
 use Rattle.hd_totals.specs.declared.total.StrengthTotals.{StrengthTotals}
 use Rattle.hd_totals.specs.Members.{has_kept, bytes_if}
 use Rattle.hd_totals.specs.Totals.{total_for}
@@ -18,7 +17,3 @@ pub record AreCounted (dump : Dump) (ks : List Reached) (start end : ℕ) (total
   pub bytes : (s : Strength) → (total_for totals s).bytes + sum_by (bytes_if dump (has_kept ks s)) (take start (range_with_len 0 (length dump.objects))) ≡ sum_by (bytes_if dump (has_kept ks s)) (take end (range_with_len 0 (length dump.objects)))
   pub few : (s : Strength) → (total_for totals s).count + start ≤ end
   pub small : (s : Strength) → (total_for totals s).bytes + start * largest_file ≤ end * largest_file
-
--- the objects of two totals together
-abbrev pub sum_of : Total → Total → Total
-sum_of one other = record { count = one.count + other.count; bytes = one.bytes + other.bytes }

@@ -3,14 +3,14 @@ ghost use Rattle.std.specs.Prelude.{◌≡◌, ◌+◌, ◌<◌, ◌≤◌, ◌^
 ghost use Rattle.hd_terms.specs.declared.Strength.{Strength as OneStrength};
 ghost use Rattle.hd_terms.specs.Totals.{IsTotal};
 ghost use Rattle.hd_strength.specs.Found.{only_strength};
-ghost use Rattle.hd_queries.specs.Totals.{AreCounted, sum_of};
+ghost use Rattle.hd_queries.specs.Totals.{AreCounted};
 ghost use Rattle.hd_totals.specs.Totals.{total_for};
 
 use hd_graph::Graph;
 use hd_log::Front;
 use hd_strength::strengths_alone;
 use hd_terms::{NoMemory, Strength, one_strength, settled_supports_give_strengths};
-use hd_totals::{StrengthTotals, Total};
+use hd_totals::StrengthTotals;
 use std::alloc::Global;
 use std::thread::{Threads, join};
 
@@ -26,34 +26,6 @@ fn count_part(graph: &Graph, strengths: &[Strength], start: u32, end: u32) -> St
         totals.add(strengths[o as usize], graph.bytes_of(o));
     }
     totals
-}
-
-/// The objects of two totals together.
-fn sum(one: Total, other: Total) -> Total
-    requires count { one.count + other.count < 2 ^ 64 }
-    requires bytes { one.bytes + other.bytes < 2 ^ 64 }
-    ensures { result ≡ sum_of one other }
-{
-    Total {
-        count: one.count + other.count,
-        bytes: one.bytes + other.bytes,
-    }
-}
-
-/// The objects of two parts together.
-fn sums(one: StrengthTotals, other: StrengthTotals) -> StrengthTotals
-    requires count { (s : OneStrength) → (total_for one s).count + (total_for other s).count < 2 ^ 64 }
-    requires bytes { (s : OneStrength) → (total_for one s).bytes + (total_for other s).bytes < 2 ^ 64 }
-    ensures { (s : OneStrength) → total_for result s ≡ sum_of (total_for one s) (total_for other s) }
-{
-    StrengthTotals {
-        strong: sum(one.strong, other.strong),
-        soft: sum(one.soft, other.soft),
-        weak: sum(one.weak, other.weak),
-        finalizable: sum(one.finalizable, other.finalizable),
-        phantom: sum(one.phantom, other.phantom),
-        unreachable: sum(one.unreachable, other.unreachable),
-    }
 }
 
 /// The same as `count_part`, in two halves side by side; where the system refuses a thread, one after the other.
@@ -81,7 +53,7 @@ fn count_halves<R: Threads + Sync>(
             ensures { AreCounted graph.entry.now (map only_strength strengths.entry.now) middle end result }
         { count_part(graph, strengths, middle, end) },
     );
-    sums(one, other)
+    one.sum(other)
 }
 
 /// The totals of all objects, in four parts side by side.
@@ -102,7 +74,7 @@ fn count_totals<R: Threads + Sync>(rt: &R, graph: &Graph, strengths: &[Strength]
             ensures { AreCounted graph.entry.now (map only_strength strengths.entry.now) middle end result }
         { count_halves(rt, graph, strengths, middle, end) },
     );
-    sums(one, other)
+    one.sum(other)
 }
 
 /// How many objects of a graph have each strength with no edit, and their recorded bytes. Nothing is kept for edits.

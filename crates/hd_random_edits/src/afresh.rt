@@ -5,6 +5,7 @@ use hd_supports::{PackedReached, Strengths, Supports};
 use hd_terms::{NoMemory, Strength};
 use hd_totals::GroupTotals;
 use std::alloc::Global;
+use std::thread::Threads;
 
 const STRENGTHS: [Strength; 6] = [
     Strength::Unreachable,
@@ -59,12 +60,17 @@ fn are_kept(strengths: &[Strength], kept: &Strengths) -> bool {
 }
 
 /// Whether a state has the totals of what a search from scratch found.
-fn has_totals(alloc: Global, state: &State, found: Strengths) -> Result<bool, NoMemory> {
+fn has_totals<R: Threads + Sync>(
+    rt: &R,
+    alloc: Global,
+    state: &State,
+    found: Strengths,
+) -> Result<bool, NoMemory> {
     let supports = Supports::of(alloc, found)?;
     if supports.len() != state.graph().objects() {
         return Ok(false);
     }
-    let totals = GroupTotals::of(alloc, state.graph(), &supports)?;
+    let totals = GroupTotals::of(rt, alloc, state.graph(), &supports)?;
     for strength in STRENGTHS {
         if totals.classes(alloc, strength)? != state.classes(alloc, strength)? {
             return Ok(false);
@@ -75,7 +81,11 @@ fn has_totals(alloc: Global, state: &State, found: Strengths) -> Result<bool, No
 
 /// Whether what a state keeps is settled under its log, with the strengths and totals of a search from scratch, and with the
 /// strengths of one that keeps them alone.
-pub fn is_as_afresh(alloc: Global, state: &State) -> Result<bool, NoMemory> {
+pub fn is_as_afresh<R: Threads + Sync>(
+    rt: &R,
+    alloc: Global,
+    state: &State,
+) -> Result<bool, NoMemory> {
     let found = from_scratch(alloc, state.graph(), state.front())?;
     let supports = state.supports(alloc)?;
     let kept = kept_of(alloc, &supports)?;
@@ -89,5 +99,5 @@ pub fn is_as_afresh(alloc: Global, state: &State) -> Result<bool, NoMemory> {
     if !are_kept(&alone, &kept) {
         return Ok(false);
     }
-    has_totals(alloc, state, found)
+    has_totals(rt, alloc, state, found)
 }

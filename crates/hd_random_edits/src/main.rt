@@ -48,13 +48,18 @@ fn stepped(alloc: Global, state: State, event: Event) -> Option<State> {
 }
 
 /// How many events the log of a state takes, if after each of them the state is as one computed afresh.
-fn taken_events(alloc: Global, opened: State, random: u64) -> Option<u32> {
+fn taken_events<R: Threads + Sync>(
+    rt: &R,
+    alloc: Global,
+    opened: State,
+    random: u64,
+) -> Option<u32> {
     let mut state = opened;
     let mut x = random;
     for _ in 0..EVENTS {
         x = next_random(x);
         state = stepped(alloc, state, random_event(x))?;
-        let Ok(true) = is_as_afresh(alloc, &state) else {
+        let Ok(true) = is_as_afresh(rt, alloc, &state) else {
             return None;
         };
     }
@@ -71,7 +76,7 @@ fn taken_by_dump<R: RandomSource + Threads + Sync>(
     let text = random_dump(alloc, random).ok()?;
     let graph = graph_in(rt, alloc, text.as_str(), mode)?;
     let state = State::open(rt, alloc, graph).ok()?;
-    taken_events(alloc, state, random)
+    taken_events(rt, alloc, state, random)
 }
 
 /// Prints whether each state of each random dump was as one computed afresh, in a mode. A dump that takes few events shows

@@ -55,7 +55,8 @@ impl LogParts {
 
 impl KeptParts {
     /// What is kept of the objects of a graph under the log with no event.
-    pub(crate) fn from_scratch(
+    pub(crate) fn from_scratch<R: Threads + Sync>(
+        rt: &R,
         alloc: Global,
         graph: &Graph,
         log: &LogParts,
@@ -68,7 +69,7 @@ impl KeptParts {
         let strengths = from_removed(alloc, graph, &log.front, &log.removed)?;
         let supports = Supports::of(alloc, strengths)?;
         let last_changes = LastChanges::none(alloc, graph.objects())?;
-        let totals = GroupTotals::of(alloc, graph, &supports)?;
+        let totals = GroupTotals::of(rt, alloc, graph, &supports)?;
         Ok(KeptParts {
             supports: Arc::new(alloc, supports)?,
             last_changes: Arc::new(alloc, last_changes)?,
@@ -90,8 +91,8 @@ pub(crate) fn kept_and_reverse<R: Threads + Sync>(
     ensures kept { IfOk result (λ r. IsKeptOf graph.now log.now.front r.0) }
     ensures reverse { IfOk result (λ r. IsReverseOf graph.now r.1) }
 {
-    // What is kept is made by this thread: it goes into many small pages, and the first thread of a program gets memory for
-    // these in larger steps than others.
+    // What is kept is made by this thread: it goes into many small pages, and in a profile memory for these took the first
+    // thread of a program half as long as another.
     let (reverse, kept) = join(
         rt,
         || -> Result<ReverseRows, NoMemory>
@@ -101,7 +102,7 @@ pub(crate) fn kept_and_reverse<R: Threads + Sync>(
             requires empty { log.now.front ≡ [] }
             requires removed { IsRemovedBy graph.now log.now.front (arc_value log.now.removed) }
             ensures { IfOk result (IsKeptOf graph.entry.now log.entry.now.front) }
-        { KeptParts::from_scratch(alloc, graph, log) },
+        { KeptParts::from_scratch(rt, alloc, graph, log) },
     );
     Ok((kept?, reverse?))
 }

@@ -4,13 +4,12 @@ use Rattle.std.specs.Cmp.{nat_eq_equiv}
 use Rattle.std.specs.Prelude.{All, nat_eq, count_by}
 use Rattle.std.specs.List.{IsDistinct, list_any, range_with_len}
 use Rattle.std.specs.List.Sorted.{IsNonDecreasing, IsNonDecreasingBy, IsPermutation}
-use Rattle.std.proofs.lemmas.Bool.{cases_eq, cases_lt, ne_eqb}
+use Rattle.std.proofs.lemmas.Bool.{cases_lt}
 use Rattle.std.proofs.lemmas.List.{get_or-map, get_or_past, length-map, map-append}
 use Rattle.std.proofs.lemmas.List.Elements.{All-contains, All-push, All-weaker, Contains-append_left, Contains-push, Contains-push_cases}
 use Rattle.std.proofs.lemmas.List.Sorted.{All-permutation, Contains-permutation, IsPermutation-map}
 use Rattle.std.proofs.lemmas.Option.{get_or_from_slice_get}
-use Rattle.std.proofs.lemmas.List.Sums.{position_or_len_is}
-use Rattle.std.proofs.lemmas.Map.Keys.{apart_from_distinct, IsDistinct-IsPermutation, IsDistinct-push, IsStrictlyIncreasing-from_distinct}
+use Rattle.std.proofs.lemmas.Map.Keys.{IsDistinct-IsPermutation, IsDistinct-push, IsStrictlyIncreasing-from_distinct}
 use Rattle.hd_terms.specs.declared.ClassRow.{ClassRow}
 use Rattle.hd_terms.specs.declared.Group.{Group}
 use Rattle.hd_terms.specs.declared.Group.TheVariants as groups
@@ -23,15 +22,9 @@ use Rattle.hd_totals.specs.Members.{has_kept, is_member, InRange}
 use Rattle.hd_totals.specs.Rows.{row_key, row_group, IsRowOf, AreRowsBefore, AreRowsOf, IsMemberRow, AreMemberRows}
 use Rattle.hd_totals.specs.Totals.{Totals, no_totals, total_for, total_in, row_at, place_of, AreTotals}
 use Rattle.hd_totals.proofs.GroupLemmas.{one-key, itself}
-use Rattle.hd_totals.proofs.RowLemmas.{at-place, any-to}
+use Rattle.hd_totals.proofs.RowLemmas.{at-place, any-to, eqb-flips, before-key, row-of-key}
 use Rattle.hd_totals.proofs.SumLemmas.{one_if, no-element, cons-cases, not-true, and-true, count_suc, count-term}
 use Rattle.hd_totals.proofs.TotalLemmas.{total-none}
-
-eqb-flips : (x y : ℕ) → nat_eq x y ≡ nat_eq y x
-eqb-flips x y = elim (cases_eq x y) [
-  | inl same ↦ eq-eqb x y same ∙ sym (eq-eqb y x (sym same))
-  | inr differ ↦ ne_eqb x y differ ∙ sym (ne_eqb y x (λ e. differ (sym e)))
-]
 
 contains-map : {X Y : Type 0} (f : X → Y) (xs : List X) (x : X) → Contains xs x → Contains (map f xs) (f x)
 contains-map f xs x c =
@@ -69,14 +62,8 @@ module _ (t : Totals) (s : Strength) (i : ℕ) (distinct : IsDistinct nat_eq t.k
   abbrev totals : StrengthTotals
   totals = get_or t.rows i no_totals
 
-  earlier : (j : ℕ) → j < i → nat_eq key (get_or t.keys j 0) ≡ false
-  earlier j less = eqb-flips key (get_or t.keys j 0) ∙ apart_from_distinct nat_eq t.keys j i 0 distinct less (omega arith)
-
-  placed-at : place_of t key ≡ i
-  placed-at = position_or_len_is (nat_eq key) t.keys i 0 (omega arith) earlier (λ within. eq-eqb key key refl)
-
   totals-are : row_at t key ≡ totals
-  totals-are = ap (λ (j : ℕ). get_or t.rows j no_totals) placed-at
+  totals-are = row-of-key t i distinct whole lt
 
   module _ (rows : List ClassRow) (h : AreRowsBefore t s i rows) where
     further : (k : ℕ) → (j : ℕ) × (j < i) × (get_or t.keys j 0 ≡ k) → (j : ℕ) × (j < i + 1) × (get_or t.keys j 0 ≡ k)
@@ -121,7 +108,7 @@ module _ (t : Totals) (s : Strength) (i : ℕ) (distinct : IsDistinct nat_eq t.k
         new : Contains (map row_key rows) (row_key row) → ⊥
         new c =
             let old = h.found (row_key row) c in
-            true≢false (sym (eq-eqb key (get_or t.keys old.0 0) (sym (old.2 ∙ key_is))) ∙ earlier old.0 old.1)
+            true≢false (sym (eq-eqb key (get_or t.keys old.0 0) (sym (old.2 ∙ key_is))) ∙ before-key t i distinct whole lt old.0 old.1)
 
 -- one more group, as it is read
 pub gather-step : (u t : Totals) → u ≡ t → (s : Strength) (i : ℕ) (keys : List ℕ) → keys ≡ u.keys → IsDistinct nat_eq keys → length u.rows ≡ length u.keys → i < length u.rows

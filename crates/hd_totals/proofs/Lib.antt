@@ -4,6 +4,7 @@ pub mod RowLemmas
 pub mod TotalLemmas
 pub mod GroupLemmas
 pub mod RunningLemmas
+pub mod CountingLemmas
 pub mod ChangeLemmas
 pub mod ClassLemmas
 pub mod LastChangeLemmas

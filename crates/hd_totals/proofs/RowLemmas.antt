@@ -2,13 +2,14 @@
 use Rattle.std.proofs.Common.{◌≡◌, ◌≢◌, ◌∙◌, ℕ, zero, suc, ◌+◌, ◌-◌, ◌<◌, ◌≤◌, Bool, true, false, ◌||◌, true≢false, inl, inr, List, [], ◌∷◌, ◌++◌, length, get_or, Contains, Some, slice_get, cond, eqb-true, eq-eqb, refl, sym, ap, subst, arith}
 use Rattle.std.proofs.Math.ListN.{set}
 use Rattle.std.specs.Prelude.{nat_eq, not}
-use Rattle.std.specs.List.{list_any, position_or_len}
+use Rattle.std.specs.List.{IsDistinct, list_any, position_or_len}
 use Rattle.std.proofs.lemmas.Bool.{cases_eq, cases_lt, ne_eqb}
 use Rattle.std.proofs.lemmas.List.{get_or-set_same, get_or-set_other, length-set, length-append, get_or_append_left, get_or-append_right, get_or_past, get_or_default}
 use Rattle.std.proofs.lemmas.List.Elements.{Contains-append_left, Contains-append_right}
 use Rattle.std.proofs.lemmas.Option.{get_or_from_slice_get}
 use Rattle.std.proofs.lemmas.List.Folds.{position_or_len_push}
-use Rattle.std.proofs.lemmas.List.Sums.{passes_at_first, fails_before_first, prefix_len-le-length}
+use Rattle.std.proofs.lemmas.List.Sums.{passes_at_first, fails_before_first, position_or_len_is, prefix_len-le-length}
+use Rattle.std.proofs.lemmas.Map.Keys.{apart_from_distinct}
 use Rattle.hd_terms.proofs.Lower.{Contains-first}
 use Rattle.hd_totals.specs.declared.total.StrengthTotals.{StrengthTotals}
 use Rattle.hd_totals.specs.Keys.{with_key}
@@ -60,6 +61,26 @@ any-to k (x ∷ keys) e = elim (cases_eq k x) [
   | inl same ↦ subst (λ (y : ℕ). Contains (x ∷ keys) y) (sym same) (Contains-first x keys)
   | inr other ↦ let (j, lt, is) = any-to k keys (either (nat_eq k x) (list_any (nat_eq k) keys) e (ne_eqb k x other)) in (suc j, omega arith, is)
 ]
+
+pub eqb-flips : (x y : ℕ) → nat_eq x y ≡ nat_eq y x
+eqb-flips x y = elim (cases_eq x y) [
+  | inl same ↦ eq-eqb x y same ∙ sym (eq-eqb y x (sym same))
+  | inr differ ↦ ne_eqb x y differ ∙ sym (ne_eqb y x (λ e. differ (sym e)))
+]
+
+-- the key at an index has its place there
+module _ (t : Totals) (i : ℕ) (distinct : IsDistinct nat_eq t.keys) (whole : length t.rows ≡ length t.keys) (lt : i < length t.rows) where
+  abbrev key_at : ℕ
+  key_at = get_or t.keys i 0
+
+  pub before-key : (j : ℕ) → j < i → nat_eq key_at (get_or t.keys j 0) ≡ false
+  before-key j less = eqb-flips key_at (get_or t.keys j 0) ∙ apart_from_distinct nat_eq t.keys j i 0 distinct less (omega arith)
+
+  pub place-of-key : place_of t key_at ≡ i
+  place-of-key = position_or_len_is (nat_eq key_at) t.keys i 0 (omega arith) before-key (λ within. eq-eqb key_at key_at refl)
+
+  pub row-of-key : row_at t key_at ≡ get_or t.rows i no_totals
+  row-of-key = ap (λ (j : ℕ). get_or t.rows j no_totals) place-of-key
 
 -- the totals of a group are put in its place
 module _ (keys : List ℕ) (rows : List StrengthTotals) (whole : length rows ≡ length keys) (key : ℕ) (lt : place key keys < length rows) (row : StrengthTotals) where

@@ -1,8 +1,7 @@
 -- Totals on their way: one more object is counted, or one moves to another strength.
-use Rattle.std.proofs.Common.{◌≡◌, ◌≢◌, ◌∙◌, ℕ, suc, ◌+◌, ◌*◌, ◌<◌, ◌≤◌, ◌^◌, Bool, true, false, ◌&&◌, inl, inr, List, length, Contains, cond, eqb, eq-eqb, refl, sym, ap, subst, arith}
+use Rattle.std.proofs.Common.{◌≡◌, ◌≢◌, ◌∙◌, ℕ, ◌+◌, ◌*◌, ◌<◌, ◌≤◌, Bool, true, false, ◌&&◌, List, length, cond, eqb, eq-eqb, refl, sym, ap, subst, arith}
 use Rattle.std.specs.Prelude.{count_by, sum_by}
 use Rattle.std.specs.List.{range_with_len}
-use Rattle.std.proofs.lemmas.Bool.{cases_lt}
 use Rattle.hd_terms.specs.declared.Group.{Group}
 use Rattle.hd_terms.specs.declared.Strength.{Strength}
 use Rattle.hd_terms.specs.Dump.{Dump, object_at}
@@ -15,7 +14,7 @@ use Rattle.hd_totals.specs.Members.{same_group, bytes_if, InRange}
 use Rattle.hd_totals.specs.Running.{counts_for, strength_in, plus_one, less_one, AreTotalsOf, IsRowPut}
 use Rattle.hd_totals.specs.Totals.{Totals, total_for, row_at, total_in, AreTotals}
 use Rattle.hd_totals.proofs.GroupLemmas.{one-group, itself, other-key}
-use Rattle.hd_totals.proofs.SumLemmas.{one_if, and-false, and-true, count_suc, sum_suc, count-at, sum-at, count-same, sum-same, count-term, sum-term, count-le, sum-le}
+use Rattle.hd_totals.proofs.SumLemmas.{one_if, and-false, and-true, count-at, sum-at, count-same, sum-same, count-term, sum-term, count-le, sum-le}
 use Rattle.hd_totals.proofs.TotalLemmas.{plus-count, plus-bytes, less-count, less-bytes}
 
 -- what is kept of objects, as their strengths
@@ -29,6 +28,36 @@ to-kept dump ks t h = record { counts = h.counts; bytes = h.bytes; grouped = h.g
 bytes-le : (b : Bool) (bytes m : ℕ) → bytes ≤ m → cond b bytes 0 ≤ m
 bytes-le true bytes m le = le
 bytes-le false bytes m le = omega arith
+
+-- one more object, where its totals are put
+module _ (dump : Dump) (strength : ℕ → Strength) (k : ℕ) (t t' : Totals) (range : InRange (object_at dump k).group)
+    (put : IsRowPut t t' (group_key (object_at dump k).group) (plus_one (row_at t (group_key (object_at dump k).group)) (strength k) (object_at dump k).bytes)) where
+  abbrev g : Group
+  g = (object_at dump k).group
+
+  abbrev row : StrengthTotals
+  row = row_at t (group_key g)
+
+  counted : (group : Group) (s : Strength) → InRange group → (b : Bool) → same_group g group ≡ b
+      → ((total_in t' group s).count ≡ (total_in t group s).count + cond (eqb (rank (strength k)) (rank s) && b) 1 0)
+      × ((total_in t' group s).bytes ≡ (total_in t group s).bytes + cond (eqb (rank (strength k)) (rank s) && b) (object_at dump k).bytes 0)
+  counted group s r true e = subst
+      (λ (x : Group). ((total_in t' x s).count ≡ (total_in t x s).count + cond (eqb (rank (strength k)) (rank s) && true) 1 0)
+      × ((total_in t' x s).bytes ≡ (total_in t x s).bytes + cond (eqb (rank (strength k)) (rank s) && true) (object_at dump k).bytes 0)) (one-group g group e) (
+        ap (λ (x : StrengthTotals). (total_for x s).count) put.here ∙ plus-count row (strength k) s (object_at dump k).bytes ∙ ap (λ (b : Bool). (total_for row s).count + cond b 1 0) (sym (and-true (eqb (rank (strength k)) (rank s)))),
+        ap (λ (x : StrengthTotals). (total_for x s).bytes) put.here ∙ plus-bytes row (strength k) s (object_at dump k).bytes ∙ ap (λ (b : Bool). (total_for row s).bytes + cond b (object_at dump k).bytes 0) (sym (and-true (eqb (rank (strength k)) (rank s)))),
+      )
+  counted group s r false e =
+      let same = put.others (group_key group) (other-key g group range r e) in
+      let no : (eqb (rank (strength k)) (rank s) && false) ≡ false = and-false (eqb (rank (strength k)) (rank s)) in (
+        omega (arith, ap (λ (x : StrengthTotals). (total_for x s).count) same, ap (λ (b : Bool). cond {A = ℕ} b 1 0) no),
+        omega (arith, ap (λ (x : StrengthTotals). (total_for x s).bytes) same, ap (λ (b : Bool). cond b (object_at dump k).bytes 0) no),
+      )
+
+  pub one-counted : (group : Group) (s : Strength) → InRange group
+      → ((total_in t' group s).count ≡ (total_in t group s).count + one_if (counts_for dump strength group s k))
+      × ((total_in t' group s).bytes ≡ (total_in t group s).bytes + bytes_if dump (counts_for dump strength group s) k)
+  one-counted group s r = counted group s r (same_group g group) refl
 
 module _ (dump : Dump) (strength : ℕ → Strength) (k : ℕ) (t : Totals) (h : AreTotalsOf dump strength k t) where
   pub few-objects : (group : Group) (s : Strength) → InRange group → (total_in t group s).count ≤ k
@@ -51,56 +80,6 @@ module _ (dump : Dump) (strength : ℕ → Strength) (k : ℕ) (t : Totals) (h :
     where
       test : (group : Group) (s : Strength) (o : ℕ) → counts_for dump strength group s o ≡ counts_for dump strength' group s o
       test group s o = ap (λ (x : Strength). eqb (rank x) (rank s) && same_group (object_at dump o).group group) (same o)
-
-  -- one more object
-  module _ (few : k + 1 < 2 ^ 32) (range : InRange (object_at dump k).group) (small : (object_at dump k).bytes ≤ largest_file) (t' : Totals)
-      (put : IsRowPut t t' (group_key (object_at dump k).group) (plus_one (row_at t (group_key (object_at dump k).group)) (strength k) (object_at dump k).bytes)) where
-    abbrev g : Group
-    g = (object_at dump k).group
-
-    abbrev row : StrengthTotals
-    row = row_at t (group_key g)
-
-    counted : (group : Group) (s : Strength) → InRange group → (b : Bool) → same_group g group ≡ b
-        → ((total_in t' group s).count ≡ (total_in t group s).count + cond (eqb (rank (strength k)) (rank s) && b) 1 0)
-        × ((total_in t' group s).bytes ≡ (total_in t group s).bytes + cond (eqb (rank (strength k)) (rank s) && b) (object_at dump k).bytes 0)
-    counted group s r true e = subst
-        (λ (x : Group). ((total_in t' x s).count ≡ (total_in t x s).count + cond (eqb (rank (strength k)) (rank s) && true) 1 0)
-        × ((total_in t' x s).bytes ≡ (total_in t x s).bytes + cond (eqb (rank (strength k)) (rank s) && true) (object_at dump k).bytes 0)) (one-group g group e) (
-          ap (λ (x : StrengthTotals). (total_for x s).count) put.here ∙ plus-count row (strength k) s (object_at dump k).bytes ∙ ap (λ (b : Bool). (total_for row s).count + cond b 1 0) (sym (and-true (eqb (rank (strength k)) (rank s)))),
-          ap (λ (x : StrengthTotals). (total_for x s).bytes) put.here ∙ plus-bytes row (strength k) s (object_at dump k).bytes ∙ ap (λ (b : Bool). (total_for row s).bytes + cond b (object_at dump k).bytes 0) (sym (and-true (eqb (rank (strength k)) (rank s)))),
-        )
-    counted group s r false e =
-        let same = put.others (group_key group) (other-key g group range r e) in
-        let no : (eqb (rank (strength k)) (rank s) && false) ≡ false = and-false (eqb (rank (strength k)) (rank s)) in (
-          omega (arith, ap (λ (x : StrengthTotals). (total_for x s).count) same, ap (λ (b : Bool). cond {A = ℕ} b 1 0) no),
-          omega (arith, ap (λ (x : StrengthTotals). (total_for x s).bytes) same, ap (λ (b : Bool). cond b (object_at dump k).bytes 0) no),
-        )
-
-    next : k + 1 ≡ suc k
-    next = omega arith
-
-    here : (Holds : ℕ → Type 0) → ((o : ℕ) → o < k → Holds o) → Holds k → (o : ℕ) → o < k + 1 → Holds o
-    here Holds before last o lt = elim (cases_lt o k) [
-      | inl earlier ↦ before o earlier
-      | inr after ↦ let is : k ≡ o = omega arith in subst Holds is last
-    ]
-
-    pub one-more : AreTotalsOf dump strength (k + 1) t'
-    one-more = record {
-      counts = λ group s r.
-          let test = counts_for dump strength group s in
-          let more = (counted group s r (same_group g group) refl).0 in
-          more ∙ ap (λ (n : ℕ). n + one_if (test k)) (h.counts group s r) ∙ sym (count_suc test k) ∙ ap (λ (n : ℕ). count_by test (range_with_len 0 n)) (sym next);
-      bytes = λ group s r.
-          let test = counts_for dump strength group s in
-          let more = (counted group s r (same_group g group) refl).1 in
-          more ∙ ap (λ (n : ℕ). n + bytes_if dump test k) (h.bytes group s r) ∙ sym (sum_suc (bytes_if dump test) k) ∙ ap (λ (n : ℕ). sum_by (bytes_if dump test) (range_with_len 0 n)) (sym next);
-      grouped = here (λ o. Contains t'.keys (group_key (object_at dump o).group)) (λ o lt. put.kept (group_key (object_at dump o).group) (h.grouped o lt)) put.there;
-      in_range = here (λ o. InRange (object_at dump o).group) h.in_range range;
-      small = here (λ o. (object_at dump o).bytes ≤ largest_file) h.small small;
-      few = few;
-    }
 
   -- one object of another strength
   module _ (o : ℕ) (lt : o < k) where

@@ -6,7 +6,7 @@ use Rattle.hd_terms.specs.Ranks.{rank}
 use Rattle.hd_totals.specs.declared.total.Total.{Total}
 use Rattle.hd_totals.specs.declared.total.StrengthTotals.{StrengthTotals}
 use Rattle.hd_totals.specs.Running.{plus_one, less_one}
-use Rattle.hd_totals.specs.Totals.{no_total, no_totals, total_for, with_total, plus_object, less_object}
+use Rattle.hd_totals.specs.Totals.{no_total, no_totals, total_for, with_total, plus_object, less_object, sum_of, sums_of}
 
 -- the strength of a rank
 abbrev of_rank : ℕ → Strength
@@ -75,6 +75,22 @@ total-none strengths.Weak = refl
 total-none strengths.Final = refl
 total-none strengths.Phantom = refl
 total-none strengths.Unreachable = refl
+
+-- the totals of two parts, strength by strength
+pub total-sums : (one other : StrengthTotals) (s : Strength) → total_for (sums_of one other) s ≡ sum_of (total_for one s) (total_for other s)
+total-sums one other strengths.Strong = refl
+total-sums one other strengths.Soft = refl
+total-sums one other strengths.Weak = refl
+total-sums one other strengths.Final = refl
+total-sums one other strengths.Phantom = refl
+total-sums one other strengths.Unreachable = refl
+
+-- no object beside some
+sum-none : (t : Total) → sum_of t no_total ≡ t
+sum-none t = ap (λ (n : ℕ). record { count = n; bytes = t.bytes + 0 }) (add-zero t.count) ∙ ap (λ (n : ℕ). record { count = t.count; bytes = n }) (add-zero t.bytes)
+
+pub sums-none : (row : StrengthTotals) → sums_of row no_totals ≡ row
+sums-none row = rw (sum-none row.strong, sum-none row.soft, sum-none row.weak, sum-none row.finalizable, sum-none row.phantom, sum-none row.unreachable) refl
 
 -- one object more of a strength
 case-count : (b : Bool) (total : Total) (bytes : ℕ) → (cond b (plus_object total bytes) total).count ≡ total.count + cond b 1 0

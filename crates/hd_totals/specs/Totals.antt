@@ -48,6 +48,21 @@ plus_object total bytes = record { count = total.count + 1; bytes = total.bytes 
 abbrev pub less_object : Total → ℕ → Total
 less_object total bytes = record { count = total.count - 1; bytes = total.bytes - bytes }
 
+-- the objects of two totals together
+abbrev pub sum_of : Total → Total → Total
+sum_of one other = record { count = one.count + other.count; bytes = one.bytes + other.bytes }
+
+-- those of each strength
+abbrev pub sums_of : StrengthTotals → StrengthTotals → StrengthTotals
+sums_of one other = record {
+  strong = sum_of one.strong other.strong;
+  soft = sum_of one.soft other.soft;
+  weak = sum_of one.weak other.weak;
+  finalizable = sum_of one.finalizable other.finalizable;
+  phantom = sum_of one.phantom other.phantom;
+  unreachable = sum_of one.unreachable other.unreachable;
+}
+
 -- the totals of groups: the keys of the groups, and the totals of each, in the same order
 pub record Totals : Type 0 where
   pub keys : List ℕ

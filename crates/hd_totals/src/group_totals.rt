@@ -4,9 +4,10 @@ ghost use Rattle.hd_terms.specs.Listed.{group_key};
 ghost use Rattle.hd_terms.specs.Settled.{Reached};
 ghost use Rattle.hd_totals.specs.Keys.{AreKeys};
 ghost use Rattle.hd_totals.specs.Members.{InRange};
-ghost use Rattle.hd_totals.specs.Running.{plus_one, less_one, IsPlaced, IsRowPut};
-ghost use Rattle.hd_totals.specs.Totals.{place_of, row_at, total_for, total_in, AreTotals, AreTotalsBefore, CanChange};
+ghost use Rattle.hd_totals.specs.Running.{plus_one, less_one, IsRowPut};
+ghost use Rattle.hd_totals.specs.Totals.{place_of, row_at, total_in, AreTotals, AreTotalsBefore, CanChange};
 
+use crate::counting::{Counted, count_all};
 use crate::keys::{GroupKeys, key_of};
 use crate::total::{StrengthTotals, Total};
 use hd_graph::Graph;
@@ -17,6 +18,7 @@ use hd_terms::{Group, NoMemory, Strength};
 use std::alloc::Global;
 use std::marker::Model;
 use std::sync::Arc;
+use std::thread::Threads;
 
 /// How many objects of each group have each strength, and their recorded bytes. Versions share the keys of the groups,
 /// which never change, and the pages of totals that are equal.
@@ -44,63 +46,22 @@ impl Model for GroupTotals {
     ghost invariant = { λ t. length t.rows ≡ length (arc_value t.keys) };
 }
 
-/// The place of a key, which may be new. The totals are in the order of the keys.
-fn place_for(
-    keys: &mut GroupKeys,
-    rows: &mut Vec<StrengthTotals>,
-    key: u128,
-) -> Result<usize, NoMemory>
-    requires whole { length rows.old.items ≡ length keys.old }
-    requires small { key ≤ 18446744073709551872 }
-    ensures { IfOk result (λ i. IsPlaced (record { keys = keys.old; rows = rows.old.items }) (record { keys = keys.new; rows = rows.new.items }) key i) }
-{
-    let index = keys.add(key)?;
-    if index == rows.len() {
-        rows.push(StrengthTotals::none())?;
-    }
-    Ok(index)
-}
-
-/// Counts an object in the totals of its group's key, which may be new.
-fn count_object(
-    keys: &mut GroupKeys,
-    rows: &mut Vec<StrengthTotals>,
-    key: u128,
-    strength: Strength,
-    bytes: u64,
-) -> Result<(), NoMemory>
-    requires whole { length rows.old.items ≡ length keys.old }
-    requires small { key ≤ 18446744073709551872 }
-    requires count { (total_for (row_at (record { keys = keys.old; rows = rows.old.items }) key) strength).count + 1 < 2 ^ 64 }
-    requires bytes { (total_for (row_at (record { keys = keys.old; rows = rows.old.items }) key) strength).bytes + bytes < 2 ^ 64 }
-    ensures { OnOk result (
-        IsRowPut (record { keys = keys.old; rows = rows.old.items }) (record { keys = keys.new; rows = rows.new.items }) key
-        (plus_one (row_at (record { keys = keys.old; rows = rows.old.items }) key) strength bytes)
-        ) }
-{
-    let place = place_for(keys, rows, key)?;
-    rows[place].add(strength, bytes);
-    Ok(())
-}
-
 impl GroupTotals {
-    /// The totals of all objects, in one pass.
+    /// The totals of all objects, in one pass, which four threads share.
     ///
     /// # Errors
     ///
     /// Memory ran out.
-    pub fn of(alloc: Global, graph: &Graph, supports: &Supports) -> Result<GroupTotals, NoMemory>
+    pub fn of<R: Threads + Sync>(
+        rt: &R,
+        alloc: Global,
+        graph: &Graph,
+        supports: &Supports,
+    ) -> Result<GroupTotals, NoMemory>
         requires { length supports.now ≡ length graph.now.objects }
         ensures { IfOk result (λ t. AreTotals graph.now supports.now t) }
     {
-        let mut keys = GroupKeys::new(alloc);
-        let mut rows = Vec::new(alloc);
-        for o in 0..graph.objects() {
-            let key = key_of(graph.group_of(o));
-            let strength = supports.strength(o);
-            let bytes = graph.bytes_of(o);
-            count_object(&mut keys, &mut rows, key, strength, bytes)?;
-        }
+        let Counted { keys, rows } = count_all(rt, alloc, graph, supports)?;
         let rows = Pages::of_vec(alloc, rows)?;
         let keys = Arc::new(alloc, keys)?;
         Ok(GroupTotals { keys, rows })

@@ -2,6 +2,7 @@
 #![tactic(auto)]
 
 mod classes;
+mod counting;
 mod fallen;
 mod group_totals;
 mod keys;

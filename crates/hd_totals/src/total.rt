@@ -1,7 +1,8 @@
 //! How many objects there are, and their bytes; and that of each strength.
 ghost use Rattle.std.specs.Prelude.{◌≡◌, ◌+◌, ◌<◌, ◌≤◌, ◌^◌};
 ghost use Rattle.hd_totals.specs.Running.{plus_one, less_one};
-ghost use Rattle.hd_totals.specs.Totals.{no_total, no_totals, total_for, plus_object, less_object, with_total};
+ghost use Rattle.hd_terms.specs.declared.Strength.{Strength as OneStrength};
+ghost use Rattle.hd_totals.specs.Totals.{no_total, no_totals, total_for, plus_object, less_object, sum_of, sums_of, with_total};
 
 use hd_terms::Strength;
 
@@ -54,6 +55,18 @@ impl Total {
             bytes: self.bytes - bytes,
         }
     }
+
+    /// The objects of two totals together.
+    pub fn sum(self, other: Total) -> Total
+        requires count { self.count + other.count < 2 ^ 64 }
+        requires bytes { self.bytes + other.bytes < 2 ^ 64 }
+        ensures { result ≡ sum_of self other }
+    {
+        Total {
+            count: self.count + other.count,
+            bytes: self.bytes + other.bytes,
+        }
+    }
 }
 
 impl StrengthTotals {
@@ -96,6 +109,22 @@ impl StrengthTotals {
             Strength::Final => self.finalizable = total,
             Strength::Phantom => self.phantom = total,
             Strength::Unreachable => self.unreachable = total,
+        }
+    }
+
+    /// The objects of two parts together.
+    pub fn sum(self, other: StrengthTotals) -> StrengthTotals
+        requires count { (s : OneStrength) → (total_for self s).count + (total_for other s).count < 2 ^ 64 }
+        requires bytes { (s : OneStrength) → (total_for self s).bytes + (total_for other s).bytes < 2 ^ 64 }
+        ensures { result ≡ sums_of self other }
+    {
+        StrengthTotals {
+            strong: self.strong.sum(other.strong),
+            soft: self.soft.sum(other.soft),
+            weak: self.weak.sum(other.weak),
+            finalizable: self.finalizable.sum(other.finalizable),
+            phantom: self.phantom.sum(other.phantom),
+            unreachable: self.unreachable.sum(other.unreachable),
         }
     }
 

@@ -7,7 +7,7 @@ use Rattle.hd_totals.proofs.LastChangeLemmas.{opened}
 use Rattle.hd_state.proofs.parts.KeptParts.from_scratch.Goals as goal
 
 pub returns : goal.returns
-returns c =
+returns g c =
     let dump = c.args.graph.now in
     let log = c.args.log.now.front in
     let ks = c.in_ok-strengths.strengths in

@@ -2,7 +2,7 @@ use Rattle.std.proofs.Common.{◌≡◌, ◌∙◌, [], ◌∷◌, ◌++◌, len
 use Rattle.hd_totals.specs.declared.total.StrengthTotals.{StrengthTotals}
 use Rattle.hd_totals.specs.Totals.{no_totals}
 use Rattle.hd_totals.proofs.RowLemmas.{is-placed}
-use Rattle.hd_totals.proofs.group_totals.place_for.Goals as goal
+use Rattle.hd_totals.proofs.counting.place_for.Goals as goal
 
 pub returns-in_ok-push : goal.returns-in_ok-push
 returns-in_ok-push c =

@@ -1,6 +1,5 @@
 use Rattle.hd_terms.specs.declared.Strength.TheVariants as strengths
-use Rattle.hd_queries.proofs.TotalLemmas.{each-sum}
-use Rattle.hd_queries.proofs.totals.sums.Goals as goal
+use Rattle.hd_totals.proofs.total.StrengthTotals.sum.Goals as goal
 
 pub sum-requires-clause-count : goal.sum-requires-clause-count
 sum-requires-clause-count c = c.requires.count strengths.Strong
@@ -37,6 +36,3 @@ sum-requires-6-clause-count c = c.requires.count strengths.Unreachable
 
 pub sum-requires-6-clause-bytes : goal.sum-requires-6-clause-bytes
 sum-requires-6-clause-bytes c = c.requires.bytes strengths.Unreachable
-
-pub returns : goal.returns
-returns c = each-sum c.args.one c.args.other _ c.sum.ensures c.sum-2.ensures c.sum-3.ensures c.sum-4.ensures c.sum-5.ensures c.sum-6.ensures

@@ -4,7 +4,7 @@ use Rattle.hd_totals.specs.declared.total.StrengthTotals.{StrengthTotals}
 use Rattle.hd_totals.specs.Running.{IsRowPut, plus_one}
 use Rattle.hd_totals.specs.Totals.{Totals, row_at}
 use Rattle.hd_totals.proofs.RowLemmas.{put-placed}
-use Rattle.hd_totals.proofs.group_totals.count_object.Goals as goal
+use Rattle.hd_totals.proofs.counting.count_object.Goals as goal
 
 pub returns : goal.returns
 returns c =

@@ -1,0 +1,50 @@
+use Rattle.std.proofs.Common.{◌≡◌, ◌∙◌, ◌≤◌, ℕ, ap, subst, arith}
+use Rattle.hd_terms.specs.declared.Strength.{Strength}
+use Rattle.hd_terms.specs.Dump.{object_at}
+use Rattle.hd_terms.specs.Listed.{group_key}
+use Rattle.hd_terms.specs.Records.{largest_file}
+use Rattle.hd_totals.specs.Counting.{AreTotalsBetween}
+use Rattle.hd_totals.specs.Members.{InRange}
+use Rattle.hd_totals.specs.Running.{strength_in, plus_one, IsRowPut}
+use Rattle.hd_totals.specs.Totals.{Totals, total_for, row_at}
+use Rattle.hd_totals.proofs.CountingLemmas.{one-more-between}
+use Rattle.hd_totals.proofs.counting.count_part.Goals as goal
+
+pub count_object-requires-clause-count : goal.count_object-requires-clause-count
+count_object-requires-clause-count c =
+    let t : Totals = record { keys = c.loop-o.keys; rows = c.loop-o.rows.items } in
+    let s = c.strength-strength.result in
+    let few = c.loop-o.invariant.few c.group_of.result s c.key_of-key.ensures.range in
+    let same = ap (λ (k : ℕ). (total_for (row_at t k) s).count) c.key_of-key.ensures.key in
+    omega (arith, few, same)
+
+pub count_object-requires-clause-bytes : goal.count_object-requires-clause-bytes
+count_object-requires-clause-bytes c =
+    let t : Totals = record { keys = c.loop-o.keys; rows = c.loop-o.rows.items } in
+    let s = c.strength-strength.result in
+    let light = c.loop-o.invariant.light c.group_of.result s c.key_of-key.ensures.range in
+    let same = ap (λ (k : ℕ). (total_for (row_at t k) s).bytes) c.key_of-key.ensures.key in
+    let small = c.bytes_of-bytes.ensures.small in
+    omega (arith, light, same, small)
+
+pub loop-o-preserved : goal.loop-o-preserved
+loop-o-preserved c =
+    let dump = c.args.graph.now in
+    let st = strength_in c.args.supports.now in
+    let o = c.loop-o.o in
+    let t : Totals = record { keys = c.loop-o.keys; rows = c.loop-o.rows.items } in
+    let t' : Totals = record { keys = c.count_object.new.keys; rows = c.count_object.new.rows.items } in
+    let key_is : c.key_of-key.result ≡ group_key (object_at dump o).group = c.key_of-key.ensures.key ∙ ap group_key c.group_of.ensures in
+    let put : IsRowPut t t' (group_key (object_at dump o).group) (plus_one (row_at t (group_key (object_at dump o).group)) (st o) (object_at dump o).bytes) =
+    subst (λ (k : ℕ). IsRowPut t t' k (plus_one (row_at t k) (st o) (object_at dump o).bytes)) key_is
+    (subst (λ (s : Strength). IsRowPut t t' c.key_of-key.result (plus_one (row_at t c.key_of-key.result) s (object_at dump o).bytes)) c.strength-strength.ensures
+    (subst (λ (n : ℕ). IsRowPut t t' c.key_of-key.result (plus_one (row_at t c.key_of-key.result) c.strength-strength.result n)) c.bytes_of-bytes.ensures.bytes c.in_ok-count_object.ensures)) in
+    let range = subst InRange c.group_of.ensures c.key_of-key.ensures.range in
+    let small = subst (λ (n : ℕ). n ≤ largest_file) c.bytes_of-bytes.ensures.bytes c.bytes_of-bytes.ensures.small in
+    one-more-between dump st c.args.start o t t' c.loop-o.invariant (omega arith) range small put
+
+pub returns : goal.returns
+returns c =
+    let t : Totals = record { keys = c.loop-o.keys; rows = c.loop-o.rows.items } in
+    let end : c.loop-o.o ≡ c.args.end = omega arith in
+    subst (λ (k : ℕ). AreTotalsBetween c.args.graph.now (strength_in c.args.supports.now) c.args.start k t) end c.loop-o.invariant

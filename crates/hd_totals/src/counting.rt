@@ -1,0 +1,180 @@
+//! Counting objects by their groups and strengths, part by part, by several threads.
+ghost use Rattle.std.specs.Prelude.{◌≡◌, ◌+◌, ◌<◌, ◌≤◌, ◌^◌, length, IfOk, OnOk};
+ghost use Rattle.hd_terms.specs.declared.Group.{Group as OneGroup};
+ghost use Rattle.hd_terms.specs.declared.Strength.{Strength as OneStrength};
+ghost use Rattle.hd_totals.specs.Members.{InRange};
+ghost use Rattle.hd_totals.specs.Counting.{totals_of, AreGroupsCounted, AreJoined, AreWhole};
+ghost use Rattle.hd_totals.specs.Running.{plus_one, IsPlaced, IsRowPut};
+ghost use Rattle.hd_totals.specs.Totals.{row_at, sums_of, total_for, total_in};
+
+use crate::keys::{GroupKeys, key_of};
+use crate::total::StrengthTotals;
+use hd_graph::Graph;
+use hd_supports::Supports;
+use hd_terms::{NoMemory, Strength};
+use std::alloc::Global;
+use std::thread::{Threads, join};
+
+/// The totals of some of the objects: the keys of their groups, and the totals of each, in the same order.
+#[derive(Drop)]
+pub(crate) struct Counted {
+    pub(crate) keys: GroupKeys,
+    pub(crate) rows: Vec<StrengthTotals>,
+}
+
+/// The place of a key, which may be new. The totals are in the order of the keys.
+fn place_for(
+    keys: &mut GroupKeys,
+    rows: &mut Vec<StrengthTotals>,
+    key: u128,
+) -> Result<usize, NoMemory>
+    requires whole { length rows.old.items ≡ length keys.old }
+    requires small { key ≤ 18446744073709551872 }
+    ensures { IfOk result (λ i. IsPlaced (record { keys = keys.old; rows = rows.old.items }) (record { keys = keys.new; rows = rows.new.items }) key i) }
+{
+    let index = keys.add(key)?;
+    if index == rows.len() {
+        rows.push(StrengthTotals::none())?;
+    }
+    Ok(index)
+}
+
+/// Counts an object in the totals of its group's key, which may be new.
+fn count_object(
+    keys: &mut GroupKeys,
+    rows: &mut Vec<StrengthTotals>,
+    key: u128,
+    strength: Strength,
+    bytes: u64,
+) -> Result<(), NoMemory>
+    requires whole { length rows.old.items ≡ length keys.old }
+    requires small { key ≤ 18446744073709551872 }
+    requires count { (total_for (row_at (record { keys = keys.old; rows = rows.old.items }) key) strength).count + 1 < 2 ^ 64 }
+    requires bytes { (total_for (row_at (record { keys = keys.old; rows = rows.old.items }) key) strength).bytes + bytes < 2 ^ 64 }
+    ensures { OnOk result (
+        IsRowPut (record { keys = keys.old; rows = rows.old.items }) (record { keys = keys.new; rows = rows.new.items }) key
+        (plus_one (row_at (record { keys = keys.old; rows = rows.old.items }) key) strength bytes)
+        ) }
+{
+    let place = place_for(keys, rows, key)?;
+    rows[place].add(strength, bytes);
+    Ok(())
+}
+
+/// The totals of the objects from one number on, before another.
+fn count_part(
+    alloc: Global,
+    graph: &Graph,
+    supports: &Supports,
+    start: u32,
+    end: u32,
+) -> Result<Counted, NoMemory>
+    requires count { length supports.now ≡ length graph.now.objects }
+    requires order { start ≤ end }
+    requires within { end ≤ length graph.now.objects }
+    ensures { IfOk result (AreGroupsCounted graph.now supports.now start end) }
+{
+    let mut keys = GroupKeys::new(alloc);
+    let mut rows = Vec::new(alloc);
+    for o in start..end {
+        let key = key_of(graph.group_of(o));
+        let strength = supports.strength(o);
+        let bytes = graph.bytes_of(o);
+        count_object(&mut keys, &mut rows, key, strength, bytes)?;
+    }
+    Ok(Counted { keys, rows })
+}
+
+/// Adds further totals of a group to those of its key, which may be new.
+fn add_totals(
+    keys: &mut GroupKeys,
+    rows: &mut Vec<StrengthTotals>,
+    key: u128,
+    totals: StrengthTotals,
+) -> Result<(), NoMemory>
+    requires whole { length rows.old.items ≡ length keys.old }
+    requires small { key ≤ 18446744073709551872 }
+    requires counts { (s : OneStrength) → (total_for (row_at (record { keys = keys.old; rows = rows.old.items }) key) s).count + (total_for totals s).count < 2 ^ 64 }
+    requires bytes { (s : OneStrength) → (total_for (row_at (record { keys = keys.old; rows = rows.old.items }) key) s).bytes + (total_for totals s).bytes < 2 ^ 64 }
+    ensures { OnOk result (
+        IsRowPut (record { keys = keys.old; rows = rows.old.items }) (record { keys = keys.new; rows = rows.new.items }) key
+        (sums_of (row_at (record { keys = keys.old; rows = rows.old.items }) key) totals)
+        ) }
+{
+    let place = place_for(keys, rows, key)?;
+    rows[place] = rows[place].sum(totals);
+    Ok(())
+}
+
+/// The totals of two parts together.
+fn join_parts(one: Counted, other: Counted) -> Result<Counted, NoMemory>
+    requires whole { AreWhole one × AreWhole other }
+    requires counts { (group : OneGroup) (s : OneStrength) → InRange group → (total_in (totals_of one) group s).count + (total_in (totals_of other) group s).count < 2 ^ 64 }
+    requires bytes { (group : OneGroup) (s : OneStrength) → InRange group → (total_in (totals_of one) group s).bytes + (total_in (totals_of other) group s).bytes < 2 ^ 64 }
+    ensures { IfOk result (λ both. AreJoined (totals_of one) (totals_of other) (totals_of both)) }
+{
+    let Counted { mut keys, mut rows } = one;
+    for i in 0..other.rows.len() {
+        let key = other.keys.get(i);
+        add_totals(&mut keys, &mut rows, key, other.rows[i])?;
+    }
+    Ok(Counted { keys, rows })
+}
+
+/// The same as `count_part`, in two halves side by side; where the system refuses a thread, one after the other.
+fn count_halves<R: Threads + Sync>(
+    rt: &R,
+    alloc: Global,
+    graph: &Graph,
+    supports: &Supports,
+    start: u32,
+    end: u32,
+) -> Result<Counted, NoMemory>
+    requires count { length supports.now ≡ length graph.now.objects }
+    requires order { start ≤ end }
+    requires within { end ≤ length graph.now.objects }
+    ensures { IfOk result (AreGroupsCounted graph.now supports.now start end) }
+{
+    let middle = start + (end - start) / 2;
+    let (one, other) = join(
+        rt,
+        || -> Result<Counted, NoMemory>
+            requires { (length supports.now ≡ length graph.now.objects) × (start ≤ middle) × (middle ≤ length graph.now.objects) }
+            ensures { IfOk result (AreGroupsCounted graph.entry.now supports.entry.now start middle) }
+        { count_part(alloc, graph, supports, start, middle) },
+        || -> Result<Counted, NoMemory>
+            requires { (length supports.now ≡ length graph.now.objects) × (middle ≤ end) × (end ≤ length graph.now.objects) }
+            ensures { IfOk result (AreGroupsCounted graph.entry.now supports.entry.now middle end) }
+        { count_part(alloc, graph, supports, middle, end) },
+    );
+    let both = join_parts(one?, other?)?;
+    Ok(both)
+}
+
+/// The totals of all objects, in four parts side by side.
+pub(crate) fn count_all<R: Threads + Sync>(
+    rt: &R,
+    alloc: Global,
+    graph: &Graph,
+    supports: &Supports,
+) -> Result<Counted, NoMemory>
+    requires { length supports.now ≡ length graph.now.objects }
+    ensures counted { IfOk result (AreGroupsCounted graph.now supports.now 0 (length graph.now.objects)) }
+    ensures few { length graph.now.objects < 2 ^ 32 }
+{
+    let end = graph.objects();
+    let middle = end / 2;
+    let (one, other) = join(
+        rt,
+        || -> Result<Counted, NoMemory>
+            requires { (length supports.now ≡ length graph.now.objects) × (middle ≤ length graph.now.objects) }
+            ensures { IfOk result (AreGroupsCounted graph.entry.now supports.entry.now 0 middle) }
+        { count_halves(rt, alloc, graph, supports, 0, middle) },
+        || -> Result<Counted, NoMemory>
+            requires { (length supports.now ≡ length graph.now.objects) × (middle ≤ end) × (end ≤ length graph.now.objects) }
+            ensures { IfOk result (AreGroupsCounted graph.entry.now supports.entry.now middle end) }
+        { count_halves(rt, alloc, graph, supports, middle, end) },
+    );
+    let all = join_parts(one?, other?)?;
+    Ok(all)
+}
