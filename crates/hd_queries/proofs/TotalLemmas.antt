@@ -1,5 +1,5 @@
 -- The totals of strengths and of groups, by what is kept of the objects.
-use Rattle.std.proofs.Common.{◌≡◌, ◌∙◌, ℕ, zero, suc, ◌+◌, ◌<◌, ◌≤◌, ◌^◌, Bool, true, false, List, [], ◌∷◌, length, map, get_or, take, cond, eq-eqb, refl, sym, ap, subst, arith, add-zero, zero-add}
+use Rattle.std.proofs.Common.{◌≡◌, ◌∙◌, ℕ, zero, suc, ◌+◌, ◌<◌, ◌≤◌, ◌^◌, true, List, [], ◌∷◌, length, map, get_or, take, cond, eq-eqb, refl, sym, ap, subst, arith, add-zero, zero-add}
 use Rattle.std.specs.Prelude.{sum_by}
 use Rattle.std.specs.List.{range_with_len}
 use Rattle.std.proofs.lemmas.List.{take_all, get_or-map}
@@ -19,14 +19,11 @@ use Rattle.hd_totals.specs.declared.total.StrengthTotals.{StrengthTotals}
 use Rattle.hd_totals.specs.Members.{has_kept, bytes_if}
 use Rattle.hd_totals.specs.Running.{plus_one}
 use Rattle.hd_totals.specs.Totals.{no_totals, total_for, sum_of, sums_of}
+use Rattle.hd_totals.proofs.RunningLemmas.{cond-le}
 use Rattle.hd_totals.proofs.TotalLemmas.{one-rank, plus-count, plus-bytes, total-none, total-sums}
 use Rattle.hd_strength.specs.Found.{strength_of, only_strength}
 use Rattle.hd_queries.specs.Totals.{AreCounted}
 use Rattle.hd_queries.proofs.FallenLemmas.{count-more, count-all}
-
-case-le : (b : Bool) (n : ℕ) → cond b n 0 ≤ n
-case-le true n = omega arith
-case-le false n = omega arith
 
 -- of strengths alone the same is seen
 pub alone-at : (ks : List Reached) (o : ℕ) → (reached_at (map only_strength (map strength_of ks)) o).strength ≡ (reached_at ks o).strength
@@ -68,8 +65,8 @@ module _ (dump : Dump) (ks : List Reached) (start o : ℕ) (old : StrengthTotals
   one-more-counted = record {
     counts = λ s. omega (arith, count-is s, h.counts s, count-more (has_kept ks s) (length dump.objects) o within (has_kept ks s o) refl);
     bytes = λ s. omega (arith, bytes-is s, h.bytes s, sum-more (bytes_if dump (has_kept ks s)));
-    few = λ s. omega (arith, count-is s, h.few s, case-le (has_kept ks s o) 1);
-    small = λ s. omega (arith, bytes-is s, h.small s, case-le (has_kept ks s o) (object_at dump o).bytes);
+    few = λ s. omega (arith, count-is s, h.few s, cond-le (has_kept ks s o) 1 1 (omega arith));
+    small = λ s. omega (arith, bytes-is s, h.small s, cond-le (has_kept ks s o) (object_at dump o).bytes (object_at dump o).bytes (omega arith));
   }
 
 -- the objects of two parts, of which one begins where the other ends

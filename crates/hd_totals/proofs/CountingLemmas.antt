@@ -1,5 +1,5 @@
 -- Totals of some of the objects: one more is counted, and two parts are joined.
-use Rattle.std.proofs.Common.{◌≡◌, ◌≢◌, ◌∙◌, ℕ, suc, ◌+◌, ◌-◌, ◌<◌, ◌≤◌, ◌^◌, Bool, true, false, inl, inr, List, [], length, get_or, Contains, cond, refl, sym, ap, subst, arith}
+use Rattle.std.proofs.Common.{◌≡◌, ◌≢◌, ◌∙◌, ℕ, suc, ◌+◌, ◌-◌, ◌<◌, ◌≤◌, ◌^◌, Bool, inl, inr, List, [], length, get_or, Contains, refl, sym, ap, subst, arith}
 use Rattle.std.specs.Prelude.{count_by, nat_eq, sum_by}
 use Rattle.std.specs.List.{IsDistinct, range_with_len}
 use Rattle.std.proofs.lemmas.Bool.{cases_eq, cases_lt}
@@ -13,18 +13,15 @@ use Rattle.hd_terms.specs.Records.{largest_file}
 use Rattle.hd_terms.specs.Settled.{Reached}
 use Rattle.hd_totals.specs.declared.total.Total.{Total}
 use Rattle.hd_totals.specs.declared.total.StrengthTotals.{StrengthTotals}
-use Rattle.hd_totals.specs.Counting.{AreTotalsBetween, AreJoined, AreJoining}
+use Rattle.hd_totals.specs.Counting.{AreTotalsBetween, AreJoined}
 use Rattle.hd_totals.specs.Members.{bytes_if, InRange}
 use Rattle.hd_totals.specs.Running.{counts_for, strength_in, plus_one, IsRowPut}
 use Rattle.hd_totals.specs.Totals.{Totals, no_totals, total_for, total_in, row_at, place_of, sums_of, AreTotals}
+use Rattle.hd_totals.proofs.Joining.{AreJoining}
 use Rattle.hd_totals.proofs.RowLemmas.{at-place, placed, place-of-key, row-of-key}
-use Rattle.hd_totals.proofs.RunningLemmas.{one-counted}
+use Rattle.hd_totals.proofs.RunningLemmas.{cond-le, one-counted}
 use Rattle.hd_totals.proofs.SumLemmas.{one_if, count_suc, sum_suc}
 use Rattle.hd_totals.proofs.TotalLemmas.{total-none, total-sums, sums-none}
-
-at-most : (b : Bool) (n : ℕ) → cond b n 0 ≤ n
-at-most true n = omega arith
-at-most false n = omega arith
 
 -- no object
 pub none-between : (dump : Dump) (strength : ℕ → Strength) (start : ℕ) → AreTotalsBetween dump strength start start (record { keys = []; rows = [] })
@@ -69,10 +66,10 @@ module _ (dump : Dump) (strength : ℕ → Strength) (start k : ℕ) (t t' : Tot
         omega (arith, one, h.bytes group s r, sum-more (bytes_if dump (counts_for dump strength group s)));
     few = λ group s r.
         let one = (one-counted dump strength k t t' range put group s r).0 in
-        omega (arith, one, h.few group s r, at-most (counts_for dump strength group s k) 1);
+        omega (arith, one, h.few group s r, cond-le (counts_for dump strength group s k) 1 1 (omega arith));
     light = λ group s r.
         let one = (one-counted dump strength k t t' range put group s r).1 in
-        omega (arith, one, h.light group s r, at-most (counts_for dump strength group s k) (object_at dump k).bytes, small);
+        omega (arith, one, h.light group s r, cond-le (counts_for dump strength group s k) (object_at dump k).bytes largest_file small);
     grouped = here (λ o. Contains t'.keys (group_key (object_at dump o).group)) (λ o le lt. put.kept (group_key (object_at dump o).group) (h.grouped o le lt)) put.there;
     in_range = here (λ o. InRange (object_at dump o).group) h.in_range range;
     small = here (λ o. (object_at dump o).bytes ≤ largest_file) h.small small;

@@ -24,10 +24,10 @@ of-kept dump ks t h = record { counts = h.counts; bytes = h.bytes; grouped = h.g
 pub to-kept : (dump : Dump) (ks : List Reached) (t : Totals) → AreTotalsOf dump (strength_in ks) (length dump.objects) t → AreTotals dump ks t
 to-kept dump ks t h = record { counts = h.counts; bytes = h.bytes; grouped = h.grouped; in_range = h.in_range; small = h.small; few = h.few }
 
--- bytes, where a test passes
-bytes-le : (b : Bool) (bytes m : ℕ) → bytes ≤ m → cond b bytes 0 ≤ m
-bytes-le true bytes m le = le
-bytes-le false bytes m le = omega arith
+-- what counts only where a test passes
+pub cond-le : (b : Bool) (n m : ℕ) → n ≤ m → cond b n 0 ≤ m
+cond-le true n m le = le
+cond-le false n m le = omega arith
 
 -- one more object, where its totals are put
 module _ (dump : Dump) (strength : ℕ → Strength) (k : ℕ) (t t' : Totals) (range : InRange (object_at dump k).group)
@@ -65,7 +65,7 @@ module _ (dump : Dump) (strength : ℕ → Strength) (k : ℕ) (t : Totals) (h :
 
   pub few-bytes : (group : Group) (s : Strength) → InRange group → (total_in t group s).bytes ≤ k * largest_file
   few-bytes group s range = subst (λ (m : ℕ). m ≤ k * largest_file) (sym (h.bytes group s range))
-      (sum-le (bytes_if dump (counts_for dump strength group s)) largest_file k (λ o lt. bytes-le (counts_for dump strength group s o) (object_at dump o).bytes largest_file (h.small o lt)))
+      (sum-le (bytes_if dump (counts_for dump strength group s)) largest_file k (λ o lt. cond-le (counts_for dump strength group s o) (object_at dump o).bytes largest_file (h.small o lt)))
 
   pub same-totals : (strength' : ℕ → Strength) → ((o : ℕ) → strength o ≡ strength' o) → AreTotalsOf dump strength' k t
   same-totals strength' same = record {

@@ -11,7 +11,7 @@ use Rattle.hd_terms.specs.Settled.{Reached}
 use Rattle.hd_totals.specs.declared.counting.Counted.{Counted}
 use Rattle.hd_totals.specs.Members.{bytes_if, InRange}
 use Rattle.hd_totals.specs.Running.{counts_for, strength_in}
-use Rattle.hd_totals.specs.Totals.{Totals, place_of, row_at, sums_of, total_in}
+use Rattle.hd_totals.specs.Totals.{Totals, row_at, sums_of, total_in}
 
 -- what was counted, as totals
 abbrev pub totals_of : Counted → Totals
@@ -46,13 +46,4 @@ pub record AreJoined (one other both : Totals) : Type 0 where
   pub first : (key : ℕ) → Contains one.keys key → Contains both.keys key
   pub second : (key : ℕ) → Contains other.keys key → Contains both.keys key
   pub few_keys : length both.keys ≤ length one.keys + length other.keys
-  pub whole : length both.rows ≡ length both.keys
-
--- the same on the way: the totals of so many first keys of the second are added
-pub record AreJoining (one other : Totals) (i : ℕ) (both : Totals) : Type 0 where
-  pub added : (key : ℕ) → place_of other key < i → row_at both key ≡ sums_of (row_at one key) (row_at other key)
-  pub rest : (key : ℕ) → i ≤ place_of other key → row_at both key ≡ row_at one key
-  pub first : (key : ℕ) → Contains one.keys key → Contains both.keys key
-  pub second : (key : ℕ) → place_of other key < i → Contains both.keys key
-  pub few_keys : length both.keys ≤ length one.keys + i
   pub whole : length both.rows ≡ length both.keys

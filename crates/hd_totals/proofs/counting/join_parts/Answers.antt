@@ -2,9 +2,10 @@ use Rattle.std.proofs.Common.{◌≡◌, ◌∙◌, ◌≤◌, ℕ, length, get_
 use Rattle.std.proofs.lemmas.List.{get_or_default}
 use Rattle.std.proofs.lemmas.Option.{get_or_from_slice_get}
 use Rattle.hd_totals.specs.declared.total.StrengthTotals.{StrengthTotals}
-use Rattle.hd_totals.specs.Counting.{totals_of, AreJoining}
+use Rattle.hd_totals.specs.Counting.{totals_of}
 use Rattle.hd_totals.specs.Running.{IsRowPut}
 use Rattle.hd_totals.specs.Totals.{Totals, no_totals, row_at, sums_of, total_for}
+use Rattle.hd_totals.proofs.Joining.{AreJoining}
 use Rattle.hd_totals.proofs.CountingLemmas.{count-fits, bytes-fit-in, joined-more, joined-all}
 use Rattle.hd_totals.proofs.counting.join_parts.Goals as goal
 

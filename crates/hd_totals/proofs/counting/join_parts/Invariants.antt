@@ -1,4 +1,5 @@
-use Rattle.hd_totals.specs.Counting.{totals_of, AreJoining}
+use Rattle.hd_totals.specs.Counting.{totals_of}
+use Rattle.hd_totals.proofs.Joining.{AreJoining}
 use Rattle.hd_totals.proofs.counting.join_parts.Given as goal
 
 -- the totals of the keys so far are added
