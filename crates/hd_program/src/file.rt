@@ -1,21 +1,21 @@
 //! Reading a file into memory.
+ghost use Rattle.std.specs.Prelude.{◌≡◌, ◌+◌, length, IfOk};
+
+use hd_buffer::Buffer;
 use hd_records::check_size;
 use hd_terminal::StatusLine;
 use hd_terms::ReadFault;
+use std::alloc::Global;
 use std::fs::{self, File};
 use std::io::Write;
 use std::os::unix::fs::FileExt;
 use std::rt::Files;
 use std::sync::atomic::{AtomicBool, Ordering};
-use std::thread::{self, Threads};
+use std::thread::Threads;
 use std::time::Clock;
 
-/// The bytes that one thread reads at once: 4 MiB.
-const PART: usize = 4_194_304;
-
-/// The most bytes that are read at once: 16 MiB, in four parts. A piece is zeroed before it is read, and should still be in the
-/// processor's cache then.
-const PIECE: usize = 16_777_216;
+/// The most bytes that are read before it is shown how far the reading is: 64 MiB.
+const PIECE: usize = 67_108_864;
 
 /// Why a file is not in memory.
 #[derive(Clone, Copy, Debug, PartialEq, Eq)]
@@ -28,40 +28,34 @@ pub enum FileFault {
     Memory,
 }
 
-/// Reads a piece of a file that begins at an offset, its parts side by side, and answers whether all of it could be read.
-fn read_piece<R: Threads + Sync>(rt: &R, file: &File, offset: u64, piece: &mut [u8]) -> bool {
-    let has_failed = AtomicBool::new(false);
-    let read = |start: usize, part: &mut [u8]| {
-        let at = offset.wrapping_add(start as u64);
-        if file.read_exact_at(part, at).is_err() {
-            has_failed.store(true, Ordering::Relaxed);
-        }
-    };
-    thread::for_each_chunk_mut(rt, piece, PART, &read);
-    !has_failed.load(Ordering::Relaxed)
-}
-
-/// Reads so many bytes of a file, piece by piece, and shows how far that is.
+/// Fills the room of a buffer with the bytes of a file, piece by piece, and shows how far that is. Up to four threads read a part
+/// of each piece.
 fn read_pieces<R: Clock + Threads + Sync, E: Write>(
     rt: &R,
     file: &File,
-    bytes: &mut Vec<u8>,
+    mut buffer: Buffer<Global>,
     len: usize,
     status: &mut StatusLine,
     faults: &mut E,
-) -> Result<(), FileFault> {
-    while bytes.len() < len {
-        let done = bytes.len();
-        status.show_read(rt, faults, done as u64, len as u64);
-        let end = len.min(done.saturating_add(PIECE));
-        if bytes.resize(end, 0).is_err() {
-            return Err(FileFault::Memory);
+) -> Result<Buffer<Global>, FileFault>
+    ensures room { IfOk result (λ b. b.room ≡ 0) }
+    ensures len { IfOk result (λ b. length b.items ≡ length buffer.items + buffer.room) }
+{
+    let has_failed = AtomicBool::new(false);
+    let read = |offset: usize, run: &mut [u8]| {
+        if file.read_exact_at(run, offset as u64).is_err() {
+            has_failed.store(true, Ordering::Relaxed);
         }
-        if !read_piece(rt, file, done as u64, &mut bytes[done..]) {
+    };
+    while 0 < buffer.room() {
+        status.show_read(rt, faults, buffer.len() as u64, len as u64);
+        let count = buffer.room().min(PIECE);
+        buffer = buffer.fill(rt, count, &read);
+        if has_failed.load(Ordering::Relaxed) {
             return Err(FileFault::Unreadable);
         }
     }
-    Ok(())
+    Ok(buffer)
 }
 
 /// The bytes of a file, read into exactly as much memory. Its length is checked before memory is taken and before anything
@@ -71,7 +65,9 @@ pub fn read_file<R: Files<File = File> + AllocGlobal + Clock + Threads + Sync, E
     path: &str,
     status: &mut StatusLine,
     faults: &mut E,
-) -> Result<Vec<u8>, FileFault> {
+) -> Result<Buffer<Global>, FileFault>
+    ensures { IfOk result (λ b. b.room ≡ 0) }
+{
     let Ok(metadata) = fs::metadata(rt, path) else {
         return Err(FileFault::Unreadable);
     };
@@ -85,9 +81,8 @@ pub fn read_file<R: Files<File = File> + AllocGlobal + Clock + Threads + Sync, E
         return Err(FileFault::Unreadable);
     };
     let len = metadata.len() as usize;
-    let Ok(mut bytes) = Vec::with_capacity(rt.alloc(), len) else {
+    let Ok(buffer) = Buffer::with_capacity(rt.alloc(), len) else {
         return Err(FileFault::Memory);
     };
-    read_pieces(rt, &file, &mut bytes, len, status, faults)?;
-    Ok(bytes)
+    read_pieces(rt, &file, buffer, len, status, faults)
 }

@@ -12,9 +12,12 @@ use crate::counts::{end_status, shown_counts};
 use crate::file::{FileFault, read_file};
 use crate::server::{ServerFault, serve_bytes};
 use hd_arguments::{Opening, Serving, Task, WORKERS, WordsFault, read_arguments};
+use hd_buffer::Buffer;
 use hd_protocol::{RunFault, SAMPLE, open_alone, open_bytes, run_bytes, serve_alone, stat_bytes};
 use hd_terminal::StatusLine;
 use hd_terms::Mode;
+use std::alloc::Global;
+use std::convert::AsSlice;
 use std::fs::File;
 use std::io::{BufRead, Write};
 use std::net::{Net, TcpListener, TcpStream};
@@ -112,7 +115,7 @@ fn run_file<
     E: Write,
 >(
     rt: &T,
-    bytes: Vec<u8>,
+    bytes: Buffer<Global>,
     opening: Opening<'_>,
     status: &mut StatusLine,
     input: &mut R,

@@ -8,11 +8,13 @@ ghost use Rattle.hd_arguments.specs.Tasks.{IsAnalysts};
 
 use crate::counts::{end_status, shown_counts};
 use hd_arguments::Serving;
+use hd_buffer::Buffer;
 use hd_graph::Graph;
 use hd_protocol::{RunFault, open_bytes};
 use hd_server::{ServeOnFault, serve_on};
 use hd_terminal::StatusLine;
 use std::alloc::{AllocError, Global};
+use std::convert::AsSlice;
 use std::fmt::Write as _;
 use std::io::Write;
 use std::net::{Ipv4Addr, Net, SocketAddr, TcpListener, TcpStream};
@@ -111,7 +113,7 @@ where
 /// The dump can't be read, or memory ran out; the port can't be listened on, or can't be told; or serving ended early.
 pub fn serve_bytes<T, W: Write, E: Write>(
     rt: &T,
-    bytes: Vec<u8>,
+    bytes: Buffer<Global>,
     serving: Serving<'_>,
     status: &mut StatusLine,
     output: &mut W,

@@ -19,6 +19,7 @@ use hd_terms::{Counts, Mode, NoMemory, Strength};
 use hd_totals::{StrengthTotals, Total};
 use hd_words::strength_text;
 use std::alloc::{AllocError, Global};
+use std::convert::AsSlice;
 use std::fmt::Write as _;
 use std::io::Write;
 use std::random::RandomSource;
@@ -107,15 +108,15 @@ fn stat_text<T: Threads + Sync>(rt: &T, alloc: Global, graph: &Graph) -> Result<
 
 /// Opens the bytes of a dump, and makes the text of its counts and totals. The bytes are given up before the strengths are
 /// computed.
-fn stat_of_bytes<T: AllocGlobal + RandomSource + Threads + Sync>(
+fn stat_of_bytes<T: AllocGlobal + RandomSource + Threads + Sync, B: AsSlice<u8> + Drop>(
     rt: &T,
-    bytes: Vec<u8>,
+    bytes: B,
     workers: u32,
     mode: Mode,
 ) -> Result<String, RunFault>
     requires workers { IsWorkers workers }
-    ensures ok { IfOk result (λ text. IsStatOf mode bytes.items (string_bytes text)) }
-    ensures err { IfErr result (λ f. IsOpenFault bytes.items f) }
+    ensures ok { IfOk result (λ text. IsStatOf mode (B.items bytes) (string_bytes text)) }
+    ensures err { IfErr result (λ f. IsOpenFault (B.items bytes) f) }
 {
     let graph = open_bytes(rt, bytes.as_slice(), workers, mode)?;
     drop(bytes);
@@ -123,18 +124,19 @@ fn stat_of_bytes<T: AllocGlobal + RandomSource + Threads + Sync>(
     Ok(text)
 }
 
-/// Opens the bytes of a dump and writes its counts and totals. The bytes are given up as soon as the dump is open.
+/// Opens the bytes of a dump and writes its counts and totals. The bytes, any that can be read as a slice, are given up as soon as
+/// the dump is open.
 ///
 /// `workers` is the number of threads that decode, 1 to 16; `mode` says how far phantom references are followed.
-pub fn stat_bytes<T: AllocGlobal + RandomSource + Threads + Sync, W: Write>(
+pub fn stat_bytes<T: AllocGlobal + RandomSource + Threads + Sync, B: AsSlice<u8> + Drop, W: Write>(
     rt: &T,
-    bytes: Vec<u8>,
+    bytes: B,
     workers: u32,
     mode: Mode,
     output: &mut W,
 ) -> Result<(), RunFault>
     requires workers { IsWorkers workers }
-    ensures { StatsDump mode bytes.items (W.contents output.old) (W.contents output.new) result }
+    ensures { StatsDump mode (B.items bytes) (W.contents output.old) (W.contents output.new) result }
 {
     let text = stat_of_bytes(rt, bytes, workers, mode)?;
     put_all(output, text.as_bytes())?;

@@ -1,9 +1,12 @@
-//! Tests of what only code can show of a file: its records, its classes, and its segments on several workers; and of lists
-//! in pages and IDs. Graphs and all that stands on them have tests of their own in `crates/hd_state_tests`, desks in
-//! `crates/hd_board_tests`, and streams in `crates/hd_stream_tests`, so that none waits for another.
+//! Tests of what only code can show of a file: its records, its classes, and its segments on several workers; of memory that
+//! several threads fill; and of lists in pages and IDs. Graphs and all that stands on them have tests of their own in
+//! `crates/hd_state_tests`, desks in `crates/hd_board_tests`, and streams in `crates/hd_stream_tests`, so that none waits for
+//! another.
 //! What lines and `stat` can show stands as cases in `crates/hd_rows`.
 #![tactic(auto)]
 
+#[cfg(test)]
+mod buffer_tests;
 #[cfg(test)]
 mod class_tests;
 #[cfg(test)]

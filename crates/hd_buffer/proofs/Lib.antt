@@ -1,0 +1,4 @@
+pub mod FillingLemmas
+pub mod Lending
+pub mod Lodging
+pub mod Spaces

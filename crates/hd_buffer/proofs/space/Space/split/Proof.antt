@@ -1,0 +1,67 @@
+-- `split` parts the room. Assumes `Logic`.
+use Rattle.std.proofs.Common.{◌≡◌, ◌-◌, ◌≤◌, List, [], ◌∷◌, ◌++◌, refl}
+use mir.Syntax.{Fn, w64}
+use mir.Val.{Val, vint}
+use prog.Wp.{WpFn}
+use contract.Monad.{fact}
+use contract.Running.{tables}
+use types.Kit.{‵, raw, ◌⊛◌, prop, ◌$◌, ◌∵◌, !, qed, move, drop, use1, split, fsplit, fjoin, feq_l, regoal, rewrite, suffices, done, flt_l}
+use types.Part.{agg}
+use types.Run.{enter, returns, and_then, no_more}
+use types.ByLocal.{alloc_all, pass_all, free_all, look_at, get, sets}
+use denote.Exit.{yes}
+use denote.RattleType.{owns}
+use denote.Builtin.{usize}
+use denote.Signature.{plain, types_at}
+use denote.Steps.{nothing, heard}
+use denote.Triple.Clauses.{Clauses}
+use denote.Triple.Entry.{alive}
+use denote.Triple.Walked.{says, Stays, stay_dropped, walk_of, ends_at}
+use Rattle.std.proofs.alloc.Calls.{Goes-blank}
+use Rattle.bytes.proofs.Walks.{none, two, none_made, two_made, none_had}
+use Rattle.hd_buffer.specs.contracts.space.Space as Space
+use denote.RawPtr.{◌+ₚ◌}
+use Rattle.hd_buffer.specs.Space.{space_owns}
+use Rattle.hd_buffer.proofs.Spaces.{parted}
+use Rattle.hd_buffer.specs.contracts.space.Space.split as F
+use Rattle.hd_buffer.specs.contracts.space.Space.split.Key.{name as #self}
+use Rattle.hd_buffer.proofs.space.Space.split.Statement.{statement}
+use Rattle.hd_buffer.proofs.space.Space.split.Code as code
+use base.Logic.{SProp}
+use Rattle.std.proofs.raw_atomic.Walks.{proved_at}
+
+abbrev stayed : Stays F.ended.signature.params F.ended.kept
+stayed = (stay_dropped (plain (λ _. Space.the_row)) yes, (stay_dropped (plain (λ _. usize)) yes, tt))
+
+pub split_spec : {M : Type 1} → statement M
+split_spec 𝓤 𝓛 𝓜 𝓡 wired =
+    let H = 𝓛.H in
+    let fn : Fn = code.function in
+    let held : Clauses 𝓤 F.ended = F.clauses 𝓛 𝓜.mem 𝓡.returns in
+    let C = (tables 𝓤 H 𝓜 𝓡 𝓡.env).C in
+    let Λ = (tables 𝓤 H 𝓜 𝓡 𝓡.env).Λ in
+    proved_at 𝓛 F.ended stayed held 𝓜 𝓡 (Goes-blank 𝓛 0 (plain (λ _. Space.the_row)) yes (λ κs x f. tt), (Goes-blank 𝓛 0 (plain (λ _. usize)) yes (λ κs x f. tt), tt)) #self fn (code.unfolded 𝓤 H 𝓜 𝓡 wired) (λ z _.
+    let Post : Val → SProp 𝓤 = (walk_of 𝓛 F.ended stayed held).post z in
+    let toks : SProp 𝓤 = alive 𝓛 F.ended.signature z.0.0 z.0.1 in
+    let a = z.0.3 in
+    let vss = z.0.4 in
+    let s = a.0 in
+    let n = a.1.0 in
+    let front : (Space.the_row).Denot = record { ptr = s.ptr; capacity = n; items = [] } in
+    let back : (Space.the_row).Denot = record { ptr = s.ptr +ₚ n; capacity = s.capacity - n; items = [] } in
+    let Asked = (s.items ≡ []) × (n ≤ s.capacity) in
+    qed 𝓛 ((raw toks ⊛ ‵ (owns (types_at F.ended.signature.params z.0.0) a vss)) ∷ raw (fact 𝓤 Asked) ∷ []) ∵
+    move ! (1 ∷ []) $ heard ! Asked (λ asked. split ! $ move ! (1 ∷ []) $
+    fsplit ! $ fsplit ! $ none_had ! vss.0 (λ is₀. move ! (1 ∷ []) $ fsplit ! $ fsplit ! $ feq_l ! (λ is₁. flt_l ! (λ fits. drop ! $
+    regoal ! (λ (us : List Val). prop (WpFn 𝓤 H C Λ fn (us ++ (vss.1.0 ++ [])) Post)) is₀ refl $
+    regoal ! (λ (us : List Val). prop (WpFn 𝓤 H C Λ fn ((none ∷ []) ++ (us ++ [])) Post)) is₁ refl $
+    enter ! C Λ fn (none ∷ vint w64 n ∷ []) Post $ alloc_all ! (λ l. pass_all ! refl ((tt, tt), ((tt, record { fits = fits }), tt)) $
+    sets ! (agg ! (no_more !)) refl (tt, tt) $
+    sets ! (agg ! (no_more !)) refl (tt, tt) $
+    sets ! (agg ! (and_then ! (get ! refl) (and_then ! (get ! refl) (no_more !)))) refl (tt, (tt, (tt, tt))) $
+    rewrite ! 0 (λ xs. ‵ (space_owns s.ptr s.capacity xs)) asked.0 refl $
+    use1 𝓛 (‵ (space_owns s.ptr n []) ⊛ ‵ (space_owns (s.ptr +ₚ n) (s.capacity - n) [])) (parted 𝓛 s.ptr n s.capacity asked.1) $ split ! $
+    none_made ! $ fjoin ! $ move ! (1 ∷ []) $ none_made ! $ fjoin ! $ move ! (1 ∷ 0 ∷ []) $ two_made ! Space.the_row Space.the_row front back none none $
+    returns ! (look_at ! 0 refl) $ free_all ! refl $
+    suffices ! _ (ends_at 𝓛 F.ended stayed held z (two none none) (front, back) (tt, (tt, tt)) (tt, (tt, tt))) $ says ! (refl, refl, refl, refl, refl, refl) $
+    nothing ! $ nothing ! $ fjoin ! $ nothing ! $ fjoin ! $ move ! (2 ∷ 0 ∷ 1 ∷ []) $ done !))))))
