@@ -1,8 +1,10 @@
 -- The slots of objects that are made of shapes, IDs and rows.
-use Rattle.std.proofs.Common.{◌≡◌, ◌∙◌, ℕ, ◌<◌, List, [], length, get_or, Option, Some, None, is_some, false, Bor, refl, ap, sym, subst, arith}
-use Rattle.std.specs.List.{slice_get}
+use Rattle.std.proofs.Common.{◌≡◌, ◌∙◌, ℕ, ◌<◌, List, [], length, map, get_or, eqb, Option, Some, None, is_some, false, Bor, refl, ap, sym, subst, arith}
+use Rattle.std.specs.List.{slice_get, position}
+use Rattle.std.proofs.lemmas.List.{ext_get_or, get_or-map, length-map}
 use Rattle.std.proofs.lemmas.Option.{same_Some, get_or_from_slice_get, slice_get-get_or}
 use Rattle.hd_terms.specs.Dump.{SlotEntry, no_object}
+use Rattle.hd_terms.specs.Edges.{index_of}
 use Rattle.hd_terms.specs.declared.EdgeKind.{EdgeKind}
 use Rattle.hd_terms.specs.declared.EdgeKind.TheVariants as kinds
 use Rattle.hd_terms.specs.declared.Slot.{Slot}
@@ -12,7 +14,7 @@ use Rattle.hd_graph.specs.declared.shape.Shape as declared_shape
 use Rattle.hd_graph.specs.declared.shape.Shape.TheVariants as read
 use Rattle.hd_graph.specs.PackedShapes.{shape_view, layout_view}
 use Rattle.hd_graph.specs.Shapes.{ObjectShape, HasShape, IsNamedAt, referent_kind, slot_name, slot_kind, row_objects, AreColumns}
-use Rattle.hd_graph.proofs.ArrayLemmas.{length-row_objects, slots-at, length-slots-at, fit-at, any_shape}
+use Rattle.hd_graph.proofs.ArrayLemmas.{length-row_objects, index_of-row_objects, slots-at, length-slots-at, fit-at, any_shape}
 use Rattle.hd_graph.proofs.ShapeLemmas.{slot_of, slot-at, named-there}
 
 module _ (shapes : List ObjectShape) (ids : List ℕ) (rows : List (List ℕ)) (columns : AreColumns shapes ids rows) (o i : ℕ)
@@ -39,6 +41,18 @@ module _ (shapes : List ObjectShape) (ids : List ℕ) (rows : List (List ℕ)) (
       → slot_of (slot_name shape_here (length row_here) i) (slot_kind shape_here (slot_name shape_here (length row_here) i)) (get_or row_here i 0) ≡ s
   entry-here s at = same_Some _ s (sym slot-here ∙ at)
 
+  -- the object that the slot refers to
+  target-here : get_or (map (λ (s : SlotEntry). index_of (row_objects shapes ids rows) s.id) (get_or (row_objects shapes ids rows) o no_object).slots) i None
+      ≡ get_or (map (λ (id : ℕ). position (λ x. eqb id x) ids) row_here) i None
+  target-here =
+      let objects = row_objects shapes ids rows in
+      let entries = (get_or objects o no_object).slots in
+      let entry = slot_of (slot_name shape_here (length row_here) i) (slot_kind shape_here (slot_name shape_here (length row_here) i)) (get_or row_here i 0) in
+      get_or-map (λ (s : SlotEntry). index_of objects s.id) entries i entry None within
+      ∙ ap (λ (s : SlotEntry). index_of objects s.id) (get_or_from_slice_get entries i entry entry slot-here)
+      ∙ index_of-row_objects shapes (get_or row_here i 0) ids rows columns
+      ∙ sym (get_or-map (λ (id : ℕ). position (λ x. eqb id x) ids) row_here i 0 None in-row)
+
   -- of the object's shape, as it was looked up
   module _ (shape : ObjectShape) (shaped : slice_get shapes o ≡ Some shape) where
     shape-is : get_or shapes o any_shape ≡ shape
@@ -49,6 +63,18 @@ module _ (shapes : List ObjectShape) (ids : List ℕ) (rows : List (List ℕ)) (
 
     pub kind-here : (s : SlotEntry) → slice_get (get_or (row_objects shapes ids rows) o no_object).slots i ≡ Some s → slot_kind shape (slot_name shape (length row_here) i) ≡ s.kind
     kind-here s at = ap (λ (x : ObjectShape). slot_kind x (slot_name x (length row_here) i)) (sym shape-is) ∙ ap (λ (e : SlotEntry). e.kind) (entry-here s at)
+
+-- the objects that the slots of an object refer to
+pub targets-here : (shapes : List ObjectShape) (ids : List ℕ) (rows : List (List ℕ)) → AreColumns shapes ids rows → (o : ℕ) → o < length (row_objects shapes ids rows)
+    → map (λ (id : ℕ). position (λ x. eqb id x) ids) (get_or rows o []) ≡ map (λ (s : SlotEntry). index_of (row_objects shapes ids rows) s.id) (get_or (row_objects shapes ids rows) o no_object).slots
+targets-here shapes ids rows columns o lt =
+    let entries = (get_or (row_objects shapes ids rows) o no_object).slots in
+    let by_entry : SlotEntry → Option ℕ = λ s. index_of (row_objects shapes ids rows) s.id in
+    let by_id : ℕ → Option ℕ = λ id. position (λ x. eqb id x) ids in
+    let long = length-map (get_or rows o []) by_id in
+    let many = length-slots-at shapes ids rows columns o lt in
+    ext_get_or None (map by_id (get_or rows o [])) (map by_entry entries) (long ∙ sym many ∙ sym (length-map entries by_entry))
+    (λ i at. sym (target-here shapes ids rows columns o i lt (omega (arith, long, many))))
 
 -- what isn't an instance has strong slots
 pub strong-elsewhere : (shape : declared_shape.Shape) → ((layout : Bor LayoutShape) → shape ≡ read.Instance layout → ⊥) → (slot : Slot) → slot_kind (shape_view shape) slot ≡ kinds.Strong

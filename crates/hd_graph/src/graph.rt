@@ -1,5 +1,6 @@
 //! Looking up the graph: objects by number or ID, their slots, their sizes, and the roots.
 ghost use Rattle.std.specs.Prelude.{◌≡◌, ◌<◌, ◌^◌, ℕ, length, map, position, slice_get, None, Some, true, ◌≤◌, All, MatchOption};
+ghost use Rattle.std.specs.List.{slice_index_or};
 ghost use Rattle.hd_terms.specs.Edges.{index_of};
 ghost use Rattle.hd_terms.specs.EditedDump.{same_slot};
 ghost use Rattle.hd_terms.specs.Dump.{SlotEntry, object_at, name_in};
@@ -11,7 +12,7 @@ ghost use Rattle.hd_graph.specs.PackedShapes.{shape_view};
 use crate::kinds::KindLists;
 use crate::shape::{Shape, Shapes};
 use hd_classes::ClassNames;
-use hd_slots::SlotTable;
+use hd_slots::{SlotTable, Targets};
 use hd_terms::{EdgeKind, Group, Mode, RootKind, Slot};
 use std::marker::Model;
 
@@ -368,13 +369,14 @@ impl Graph {
         self.slot_table.get(o, i)
     }
 
-    /// The number of the object that the slot at an index of an object refers to, if it refers to one.
-    pub fn target(&self, o: u32, i: u32) -> Option<u32>
-        requires object { o < length self.now.objects }
-        requires index { i < length (object_at self.now o).slots }
-        ensures { (s : SlotEntry) → slice_get (object_at self.now o).slots i ≡ Some s → result ≡ index_of self.now.objects s.id }
+    /// The objects that the slots of an object refer to, slot by slot.
+    #[inline(always)]
+    pub fn targets(&self, o: u32) -> Targets<'_>
+        requires { o < length self.now.objects }
+        ensures all { result ≡ map (λ (s : SlotEntry). index_of self.now.objects s.id) (object_at self.now o).slots }
+        ensures each { (i : ℕ) (s : SlotEntry) → slice_get (object_at self.now o).slots i ≡ Some s → slice_index_or result i None ≡ index_of self.now.objects s.id }
     {
-        self.reference(o, i).1
+        self.slot_table.targets(o)
     }
 
     /// The index of a slot among those of an object, if the object has it.

@@ -70,13 +70,18 @@ fn push_bases(bases: &mut Vec<u32>) -> Result<(), AllocError>
 }
 
 impl Numbers {
-    /// No row yet.
-    pub(crate) fn new(alloc: Global, hasher: PageHasher) -> Numbers
+    /// No row yet, and room for so many places, where the system has it, so that the lists needn't move as they grow. Room that
+    /// isn't touched takes no memory.
+    pub(crate) fn with_room(alloc: Global, hasher: PageHasher, places: usize) -> Numbers
         ensures { result ≡ [] }
     {
+        let mut bases = Vec::new(alloc);
+        let mut steps = Vec::new(alloc);
+        let _ = bases.reserve(places / BLOCK);
+        let _ = steps.reserve(places);
         Numbers {
-            bases: Vec::new(alloc),
-            steps: Vec::new(alloc),
+            bases,
+            steps,
             far: IndexMap::with_hasher(alloc, hasher),
         }
     }

@@ -55,7 +55,7 @@ impl Model for PagedIds {
 }
 
 impl PagedIds {
-    /// No IDs yet, with room for so many in their list, and no rows.
+    /// No IDs yet, with room for so many in their list, and no rows. Where the system has it, there is room for the rows of so many.
     pub(crate) fn with_capacity(
         alloc: Global,
         room: usize,
@@ -64,12 +64,15 @@ impl PagedIds {
         ensures { IfOk result (λ ids. ids ≡ []) }
     {
         let ids = Vec::with_capacity(alloc, room)?;
+        // As many as `note` lets the rows have where there are so many IDs.
+        let most_numbers = room.saturating_mul(8).saturating_add(1 << 16);
+        let numbers = Numbers::with_room(alloc, PageHasher::new(secret), most_numbers);
         Ok(PagedIds {
             alloc,
             secret,
             ids,
             pages: IndexSet::with_hasher(alloc, PageHasher::new(secret)),
-            numbers: Numbers::new(alloc, PageHasher::new(secret)),
+            numbers,
             last_page: 0,
             last_row: 0,
         })

@@ -1,11 +1,12 @@
 -- Lemmas on rows of IDs: one more ID, one more row, what a row holds.
-use Rattle.std.proofs.Common.{◌≡◌, ◌∙◌, ℕ, suc, ◌+◌, ◌-◌, ◌<◌, ◌≤◌, ◌^◌, List, [], ◌∷◌, ◌++◌, length, map, take, drop, get_or, sym, ap, subst, arith, All, length-append}
-use Rattle.std.proofs.lemmas.List.{map-append, length-map, drop-append-le, take_all, length-take, length-drop, get_or-take, get_or-drop, get_or-map, drop_all}
+use Rattle.std.proofs.Common.{◌≡◌, ◌∙◌, ℕ, suc, ◌+◌, ◌-◌, ◌<◌, ◌≤◌, ◌^◌, List, [], ◌∷◌, ◌++◌, length, map, take, drop, get_or, None, sym, ap, subst, arith, All, eqb, length-append}
+use Rattle.std.specs.List.{position}
+use Rattle.std.proofs.lemmas.List.{ext_get_or, map-append, length-map, drop-append-le, take_all, length-take, length-drop, get_or-take, get_or-drop, get_or-map, drop_all}
 use Rattle.std.proofs.lemmas.List.Elements.{All-push, All-weaker}
 use Rattle.hd_terms.specs.declared.IdSize.{IdSize}
 use Rattle.hd_slots.specs.Table.{Rows, Table, row_at, id_at, IsIdWithin}
 use Rattle.hd_slots.specs.Resolving.{AreCodesOf}
-use Rattle.hd_slots.specs.Codes.{id_of_code, IsCode}
+use Rattle.hd_slots.specs.Codes.{id_of_code, object_of_code, IsCode}
 use Rattle.hd_slots.specs.Cuts.{rows_from, last_from}
 use Rattle.hd_slots.specs.Parts.{rows_of, AreParts, table_from, AreOffsets}
 use Rattle.hd_slots.proofs.CutLemmas.{rows_from-append, rows_from-push, last_from-push, last_from-within, length-rows_from, row-at}
@@ -97,6 +98,9 @@ module _ (ids starts items absent : List ℕ) (h : AreParts ids starts items abs
     abbrev pub end : ℕ
     end = get_or starts (suc o) 0
 
+    pub start-within : start ≤ length items
+    start-within = h.within o 0 (omega (arith, starts-before))
+
     pub end-within : end ≤ length items
     end-within = h.within (suc o) 0 starts-before
 
@@ -105,6 +109,17 @@ module _ (ids starts items absent : List ℕ) (h : AreParts ids starts items abs
 
     pub length-row : length (row_at (rows_of ids starts items absent) o) ≡ end - start
     length-row = ap length row_is ∙ omega (arith, length-take (end - start) (drop start (map (id_of_code ids absent) items)), length-drop start (map (id_of_code ids absent) items), length-map items (id_of_code ids absent), end-within)
+
+    -- the same of rows that are these
+    pub length-row_of : (t : Rows) → rows_of ids starts items absent ≡ t → length (row_at t o) ≡ end - start
+    length-row_of t is = ap (λ (u : Rows). length (row_at u o)) (sym is) ∙ length-row
+
+    -- the numbers of the row
+    abbrev pub codes : List ℕ
+    codes = take (end - start) (drop start items)
+
+    length-codes : length codes ≡ end - start
+    length-codes = omega (arith, length-take (end - start) (drop start items), length-drop start items, end-within)
 
     -- an index of the row
     module _ (i : ℕ) (offset : i < length (row_at (rows_of ids starts items absent) o)) where
@@ -119,3 +134,24 @@ module _ (ids starts items absent : List ℕ) (h : AreParts ids starts items abs
 
       pub item-code : IsCode ids absent (get_or items (start + i) 0)
       item-code = h.codes (start + i) 0 item-within
+
+      code-at : get_or codes i 0 ≡ get_or items (start + i) 0
+      code-at = get_or-take (end - start) (drop start items) i 0 (omega (arith, length-row)) ∙ get_or-drop start items i 0
+
+      target-at : get_or (map (object_of_code (length ids)) codes) i None ≡ get_or (map (λ id. position (λ x. eqb id x) ids) (row_at (rows_of ids starts items absent) o)) i None
+      target-at =
+          let row = row_at (rows_of ids starts items absent) o in
+          get_or-map (object_of_code (length ids)) codes i 0 None (omega (arith, length-codes, length-row))
+          ∙ ap (object_of_code (length ids)) code-at
+          ∙ sym item-code.target
+          ∙ ap (λ (id : ℕ). position (λ x. eqb id x) ids) (sym get_or-row)
+          ∙ sym (get_or-map (λ id. position (λ x. eqb id x) ids) row i 0 None offset)
+
+    -- the objects that the row refers to
+    pub targets-row : map (object_of_code (length ids)) codes ≡ map (λ id. position (λ x. eqb id x) ids) (row_at (rows_of ids starts items absent) o)
+    targets-row =
+        let row = row_at (rows_of ids starts items absent) o in
+        let long : length (map (object_of_code (length ids)) codes) ≡ length (map (λ id. position (λ x. eqb id x) ids) row) =
+        length-map codes (object_of_code (length ids)) ∙ length-codes ∙ sym length-row ∙ sym (length-map row (λ id. position (λ x. eqb id x) ids)) in
+        ext_get_or None (map (object_of_code (length ids)) codes) (map (λ id. position (λ x. eqb id x) ids) row) long
+        (λ i lt. target-at i (omega (arith, length-map codes (object_of_code (length ids)), length-codes, length-row)))

@@ -7,9 +7,13 @@ abbrev pub id_of_code : List ℕ → List ℕ → ℕ → ℕ
 id_of_code ids absent code =
     if code == null_code then 0 else if nat_lt code (length ids) then slice_index ids code else slice_index absent (code - length ids)
 
--- the object that a number stands for
+-- the object that a number stands for, where there are so many objects
+abbrev pub object_of_code : ℕ → ℕ → Option ℕ
+object_of_code objects code = if nat_lt code objects then Some code else None
+
+-- the same, where these are the IDs of the objects
 abbrev pub target_of_code : List ℕ → ℕ → Option ℕ
-target_of_code ids code = if nat_lt code (length ids) then Some code else None
+target_of_code ids code = object_of_code (length ids) code
 
 -- a number is one of an object exactly where its ID is
 pub record IsCode (ids absent : List ℕ) (code : ℕ) : Type 0 where

@@ -4,7 +4,9 @@
 
 mod resolving;
 mod slot_table;
+mod targets;
 mod unresolved;
 
 pub use slot_table::SlotTable;
+pub use targets::Targets;
 pub use unresolved::UnresolvedSlots;

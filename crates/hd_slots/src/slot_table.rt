@@ -1,10 +1,11 @@
 //! The references of all objects by the numbers of the objects referred to, row by row.
-ghost use Rattle.std.specs.Prelude.{◌≡◌, ℕ, nat_eq, ◌+◌, ◌<◌, ◌-◌, ◌^◌, ◌==◌, [], ◌∷◌, ◌++◌, length, position, slice_index, All, IfOk, OnOk, OnErr, IsTrue, ◌↔◌, Some, slice_get};
+ghost use Rattle.std.specs.Prelude.{◌≡◌, ℕ, ◌+◌, ◌<◌, ◌-◌, ◌^◌, ◌==◌, length, map, position, slice_index, Some};
 ghost use Rattle.hd_slots.specs.Cuts.{last_from};
 ghost use Rattle.hd_slots.specs.Table.{row_at};
 ghost use Rattle.hd_slots.specs.Codes.{IsCode, id_of_code, target_of_code};
 ghost use Rattle.hd_slots.specs.Parts.{rows_of, AreParts};
 
+use crate::targets::Targets;
 use hd_ids::ObjectIds;
 use std::marker::Model;
 
@@ -106,6 +107,17 @@ impl SlotTable {
     {
         let starts = self.starts.as_slice();
         starts[o as usize + 1].saturating_sub(starts[o as usize])
+    }
+
+    /// The objects that the row of an object refers to, ID by ID.
+    #[inline(always)]
+    pub fn targets(&self, o: u32) -> Targets<'_>
+        requires { o < length self.now.rows }
+        ensures { result ≡ map (λ id. position (λ x. id == x) self.now.ids) (row_at self.now o) }
+    {
+        let start = self.starts.as_slice()[o as usize] as usize;
+        let len = self.row_len(o) as usize;
+        Targets::new(&self.items.as_slice()[start..start + len], self.ids.len())
     }
 
     /// The ID at an index of an object's row, and the number of its object, if it is one's.

@@ -11,6 +11,10 @@ use std::alloc::{AllocError, Global};
 use std::marker::Model;
 use std::thread::Threads;
 
+/// A file of so many bytes is large: there is room at once for IDs in all of it. In a smaller one there is room for IDs in half of
+/// it. Few have more, and what is left of a large page at the end of the list would show beside the file.
+const LARGE: usize = 1 << 26;
+
 /// The references of objects as the file has them: for each object a row of IDs, each kept as its offset in the file, in four
 /// bytes.
 pub struct UnresolvedSlots<'a> {
@@ -48,7 +52,7 @@ impl<'a> Model for UnresolvedSlots<'a> {
 
 impl<'a> UnresolvedSlots<'a> {
     /// No rows yet, over the objects of these IDs, in the order of their numbers. There is room for the starts of `rows` rows, and,
-    /// where the system has it, for as many IDs as would fill half of the file.
+    /// where the system has it, for as many IDs as would fill the file, or half of one that isn't large.
     pub fn new(
         alloc: Global,
         bytes: &'a [u8],
@@ -64,8 +68,11 @@ impl<'a> UnresolvedSlots<'a> {
         let mut starts = Vec::with_capacity(alloc, rows.saturating_add(1))?;
         starts.push(0)?;
         let mut offsets = Vec::new(alloc);
-        // Few dumps have more, so the list needn't move as it grows. Room that isn't touched takes no memory.
-        let _ = offsets.reserve(bytes.len() / (2 * id_size.bytes()));
+        // So the list of a large file needn't move as it grows, and that of a smaller one seldom does. Room that isn't touched
+        // takes no memory.
+        let all = bytes.len() / id_size.bytes();
+        let room = if bytes.len() < LARGE { all / 2 } else { all };
+        let _ = offsets.reserve(room);
         Ok(UnresolvedSlots {
             bytes,
             id_size,

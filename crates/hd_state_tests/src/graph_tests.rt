@@ -30,11 +30,12 @@ fn slots(rt: HostRuntime) {
         (Slot::Element(2), 9, None),
         (Slot::OfClass, 0, None),
     ];
+    let targets = graph.targets(0);
     for i in 0..4u32 {
         let (slot, id, target) = row[i as usize];
         let read = graph.slots(0, i);
         assert!(rt; read.slot == slot && read.kind == EdgeKind::Strong);
-        assert!(rt; read.id == id && read.target == target);
+        assert!(rt; read.id == id && read.target == target && targets.get(i) == target);
         let name = graph.slot_name(0, i);
         assert!(rt; name.slot == slot && name.kind == EdgeKind::Strong);
         assert_eq!(rt; graph.slot_index(0, slot), Some(i));

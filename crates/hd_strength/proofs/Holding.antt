@@ -148,7 +148,7 @@ reached_within ks o reached = elim (cases_lt o (length ks)) [
 ]
 
 -- a search begins with the objects that roots hold
-pub begins : (dump : Dump) (log : List Event) (search : Search) (n : ℕ) → AreHeld dump log search.found.list (root_count dump log) → AreQueued search.found.list search.queue.items n → length search.found.list ≤ n
+pub begins : (dump : Dump) (log : List Event) (search : Search) (n : ℕ) → AreHeld dump log search.found.list (root_count dump log) → AreQueued search.found.list search.queue n → length search.found.list ≤ n
     → ((t : Strength) → bucket search.buckets t ≡ []) → search.count ≡ 0 → length search.found.list ≡ length dump.objects → length dump.objects < 2 ^ 32 → HasComeTo dump log search strengths.Strong
 begins dump log search n h q le empty zero objects few =
     let ks = search.found.list in

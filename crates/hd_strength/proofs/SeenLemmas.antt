@@ -188,7 +188,7 @@ queued-seen b found kept same_whole same queue n q = record {
 
 -- an object is taken out of a search that keeps all, as of one that shows less
 pub taken-seen : (old new : Search) (kept : List Reached) (o : ℕ) → IsTakenOut old new o → IsTakenOut (full old kept) (full new kept) o
-taken-seen old new kept o t = record { was = t.was; before = t.before; left = t.left; one_less = t.one_less; same_found = refl; same_buckets = t.same_buckets; same_count = t.same_count }
+taken-seen old new kept o t = record { taken = t.taken; same_found = refl; same_buckets = t.same_buckets; same_count = t.same_count }
 
 -- and nothing is queued
 pub none_queued-seen : (old new : Search) (kept : List Reached) → HasNoneQueued old new → HasNoneQueued (full old kept) (full new kept)

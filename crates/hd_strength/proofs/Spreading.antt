@@ -62,31 +62,31 @@ module _ (mode : Mode) (old new : Search) (s : Strength) (source : ℕ) (slot : 
     | inr other ↦ ap (λ (k : Reached). k.strength) (others o other) ∙ is
   ]
 
-  still_queued : (o : ℕ) → Contains old.queue.items o → Contains new.queue.items o
+  still_queued : (o : ℕ) → Contains old.queue o → Contains new.queue o
   still_queued o c = elim (cases_lt (rank s) (rank (least_passed_on mode))) [
     | inl low ↦ subst (λ (xs : List ℕ). Contains xs o) (sym (r.not_queued (λ high. omega arith))) c
-    | inr high ↦ subst (λ (xs : List ℕ). Contains xs o) (sym (r.queued high)) (Contains-append_left old.queue.items (target ∷ []) o c)
+    | inr high ↦ subst (λ (xs : List ℕ). Contains xs o) (sym (r.queued high)) (Contains-append_left old.queue (target ∷ []) o c)
   ]
 
   -- what is not queued and passes its strength on is another object
-  another : (o : ℕ) → (Contains new.queue.items o → ⊥) → PassesOn mode (reached_at new.found.list o) → o ≢ target
+  another : (o : ℕ) → (Contains new.queue o → ⊥) → PassesOn mode (reached_at new.found.list o) → o ≢ target
   another o apart p same =
       let is : rank_at new.found.list o ≡ rank s = ap (rank_at new.found.list) same ∙ ap (λ (k : Reached). rank k.strength) here in
-      apart (subst (λ (xs : List ℕ). Contains xs o) (sym (r.queued (omega (arith, p)))) (subst (λ (t : ℕ). Contains (old.queue.items ++ t ∷ []) o) same (Contains-push old.queue.items o)))
+      apart (subst (λ (xs : List ℕ). Contains xs o) (sym (r.queued (omega (arith, p)))) (subst (λ (t : ℕ). Contains (old.queue ++ t ∷ []) o) same (Contains-push old.queue o)))
 
-  queued_after : ((o : ℕ) → Contains old.queue.items o → ((reached_at old.found.list o).strength ≡ s) × IsPassedOn mode s) → (o : ℕ) → Contains new.queue.items o → ((reached_at new.found.list o).strength ≡ s) × IsPassedOn mode s
+  queued_after : ((o : ℕ) → Contains old.queue o → ((reached_at old.found.list o).strength ≡ s) × IsPassedOn mode s) → (o : ℕ) → Contains new.queue o → ((reached_at new.found.list o).strength ≡ s) × IsPassedOn mode s
   queued_after h o c = elim (cases_lt (rank s) (rank (least_passed_on mode))) [
     | inl low ↦ let before = h o (subst (λ (xs : List ℕ). Contains xs o) (r.not_queued (λ high. omega arith)) c) in (still o before.0, before.1)
-    | inr high ↦ elim (Contains-push_cases old.queue.items target o (subst (λ (xs : List ℕ). Contains xs o) (r.queued high) c)) [
+    | inr high ↦ elim (Contains-push_cases old.queue target o (subst (λ (xs : List ℕ). Contains xs o) (r.queued high) c)) [
       | inl before ↦ (still o (h o before).0, high)
       | inr same ↦ (ap (λ (o : ℕ). (reached_at new.found.list o).strength) (sym same) ∙ ap (λ (k : Reached). k.strength) here, high)
     ]
   ]
 
-  queue_grows : length new.queue.items ≤ length old.queue.items + 1
+  queue_grows : length new.queue ≤ length old.queue + 1
   queue_grows = elim (cases_lt (rank s) (rank (least_passed_on mode))) [
     | inl low ↦ omega (arith, ap length (r.not_queued (λ high. omega arith)))
-    | inr high ↦ omega (arith, ap length (r.queued high), length-append old.queue.items (target ∷ []))
+    | inr high ↦ omega (arith, ap length (r.queued high), length-append old.queue (target ∷ []))
   ]
 
 -- a search with other buckets
@@ -100,7 +100,7 @@ module _ (dump : Dump) (log : List Event) (search new : Search) (b : Buckets) (s
     (left : (t : Strength) (y : Offer) → Contains (bucket search.buckets t) y → (y ≡ x) ⊎ Contains (bucket b t) y)
     (passes : PassesOn dump.mode (reached_at search.found.list x.source)) (some : 1 ≤ rank s)
     (a : IsAccepted (λ k. k) dump.mode (edge_at dump log) (with_buckets search b) new s x.source x.index)
-    (part : (o i : ℕ) → D' o i → (Contains new.queue.items o → ⊥) × ((Contains search.queue.items o → ⊥) → D o i)) where
+    (part : (o i : ℕ) → D' o i → (Contains new.queue o → ⊥) × ((Contains search.queue o → ⊥) → D o i)) where
   abbrev old : Search
   old = with_buckets search b
 
@@ -116,7 +116,7 @@ module _ (dump : Dump) (log : List Event) (search new : Search) (b : Buckets) (s
       (here dump.mode old new s e.source e.slot e.target a.reaches a.object)
       (others dump.mode old new s e.source e.slot e.target a.reaches a.object)
       (λ o i done p.
-      let both : (Contains new.queue.items o → ⊥) × ((Contains search.queue.items o → ⊥) → D o i) = part o i done in (
+      let both : (Contains new.queue o → ⊥) × ((Contains search.queue o → ⊥) → D o i) = part o i done in (
         both.1 (λ c. both.0 (still_queued dump.mode old new s e.source e.slot e.target a.reaches a.object o c)),
         another dump.mode old new s e.source e.slot e.target a.reaches a.object o both.0 p,
       ))
@@ -152,7 +152,7 @@ module _ (dump : Dump) (log : List Event) (search : Search) (b : Buckets) (s : S
 
   let_go : (new : Search) → IsPassedOver (edge_at dump log) (with_buckets search b) new x.source x.index → HasComeTo dump log new s
   let_go new d = subst (λ (n : Search). HasComeTo dump log n s) (sym d.same) (record {
-    growing = decline (standing dump log) (edge_at dump log) search.found.list (bucket search.buckets) (bucket b) search.count s (rank s + 1) (NotQueued search.queue.items) x backing.edge h.growing out backing.is (d.reached backing.edge backing.is);
+    growing = decline (standing dump log) (edge_at dump log) search.found.list (bucket search.buckets) (bucket b) search.count s (rank s + 1) (NotQueued search.queue) x backing.edge h.growing out backing.is (d.reached backing.edge backing.is);
     queued = h.queued;
     objects = h.objects;
     few = h.few;
@@ -161,13 +161,13 @@ module _ (dump : Dump) (log : List Event) (search : Search) (b : Buckets) (s : S
 
   pub tried : (new : Search) → IsPassedOver (edge_at dump log) (with_buckets search b) new x.source x.index ⊎ IsAccepted (λ k. k) dump.mode (edge_at dump log) (with_buckets search b) new s x.source x.index → HasComeTo dump log new s
   tried new (inl d) = let_go new d
-  tried new (inr a) = accepted dump log search new b s (rank s + 1) (NotQueued search.queue.items) (NotQueued new.queue.items) x h out.within
+  tried new (inr a) = accepted dump log search new b s (rank s + 1) (NotQueued search.queue) (NotQueued new.queue) x h out.within
       (λ t y c. elim (out.left t y c) [ inl both ↦ inl both.1 | inr before ↦ inr before ]) backing.passes_on something a (λ o i apart. (apart, λ before. before))
 
 -- all offers of the strength are taken
 pub all_accepted : (dump : Dump) (log : List Event) (search : Search) (b : Buckets) (s : Strength) → HasComeTo dump log search s → bucket search.buckets s ≡ [] → ((t : Strength) → bucket b t ≡ bucket search.buckets t) → HasAccepted dump log (with_buckets search b) s
 all_accepted dump log search b s h none same = record {
-  growing = none_left (standing dump log) (edge_at dump log) search.found.list (bucket search.buckets) (bucket b) search.count s (NotQueued search.queue.items) h.growing none same;
+  growing = none_left (standing dump log) (edge_at dump log) search.found.list (bucket search.buckets) (bucket b) search.count s (NotQueued search.queue) h.growing none same;
   queued = h.queued;
   objects = h.objects;
   few = h.few;
@@ -176,15 +176,15 @@ all_accepted dump log search b s h none same = record {
 
 -- of an object that was queued the first n slots are looked at
 pub record HasRelaxed (dump : Dump) (log : List Event) (start search : Search) (s : Strength) (o n : ℕ) : Type 0 where
-  pub searching : IsSearching dump log search s (rank s) (NotQueuedBelow search.queue.items o n)
+  pub searching : IsSearching dump log search s (rank s) (NotQueuedBelow search.queue o n)
   pub source : (reached_at search.found.list o).strength ≡ s
   pub less : to_do search ≤ to_do start
 
 -- one more slot is done, by a fact of its own
-module _ (dump : Dump) (log : List Event) (search : Search) (s : Strength) (o i : ℕ) (h : IsSearching dump log search s (rank s) (NotQueuedBelow search.queue.items o i)) where
-  one_done : ((e : Edge) → edge_at dump log o i ≡ Some e → IsHadOrOffered search.found.list (bucket search.buckets) o i e) → IsSearching dump log search s (rank s) (NotQueuedBelow search.queue.items o (i + 1))
+module _ (dump : Dump) (log : List Event) (search : Search) (s : Strength) (o i : ℕ) (h : IsSearching dump log search s (rank s) (NotQueuedBelow search.queue o i)) where
+  one_done : ((e : Edge) → edge_at dump log o i ≡ Some e → IsHadOrOffered search.found.list (bucket search.buckets) o i e) → IsSearching dump log search s (rank s) (NotQueuedBelow search.queue o (i + 1))
   one_done fact = record {
-    growing = weaken (standing dump log) (edge_at dump log) search.found.list (bucket search.buckets) search.count s (rank s) (NotQueuedBelow search.queue.items o i) (NotQueuedBelow search.queue.items o (i + 1)) h.growing
+    growing = weaken (standing dump log) (edge_at dump log) search.found.list (bucket search.buckets) search.count s (rank s) (NotQueuedBelow search.queue o i) (NotQueuedBelow search.queue o (i + 1)) h.growing
         (λ p j e done is passes. elim (cases_eq p o) [
           | inr other ↦ inl (done.0, λ same. absurd (other same))
           | inl same ↦ elim (cases_eq j i) [
@@ -200,7 +200,7 @@ module _ (dump : Dump) (log : List Event) (search : Search) (s : Strength) (o i 
   }
 
   -- its target is reached
-  reached_done : (reached_at search.found.list o).strength ≡ s → ((e : Edge) → edge_at dump log o i ≡ Some e → 1 ≤ rank_at search.found.list e.target) → IsSearching dump log search s (rank s) (NotQueuedBelow search.queue.items o (i + 1))
+  reached_done : (reached_at search.found.list o).strength ≡ s → ((e : Edge) → edge_at dump log o i ≡ Some e → 1 ≤ rank_at search.found.list e.target) → IsSearching dump log search s (rank s) (NotQueuedBelow search.queue o (i + 1))
   reached_done source reached = one_done (λ e is.
       let from : rank_at search.found.list e.source ≡ rank s = ap (rank_at search.found.list) (at_source dump log o i e is) ∙ ap rank source in
       inl (omega (arith, offered_strength-le search.found.list e, h.growing.floor e.target (reached e is))))
@@ -225,8 +225,8 @@ module _ (dump : Dump) (log : List Event) (start old new : Search) (s : Strength
   some = omega (arith, passes, least-positive dump.mode)
 
   module _ (a : IsAccepted (λ k. k) dump.mode (edge_at dump log) old new s o i) where
-    taken : IsSearching dump log new s (rank s) (NotQueuedBelow new.queue.items o i)
-    taken = accepted dump log old new old.buckets s (rank s) (NotQueuedBelow old.queue.items o i) (NotQueuedBelow new.queue.items o i) (offer_at o i) h.searching (λ t y c. c) (λ t y c. inr c) source_passes some a
+    taken : IsSearching dump log new s (rank s) (NotQueuedBelow new.queue o i)
+    taken = accepted dump log old new old.buckets s (rank s) (NotQueuedBelow old.queue o i) (NotQueuedBelow new.queue o i) (offer_at o i) h.searching (λ t y c. c) (λ t y c. inr c) source_passes some a
         (λ p j done. (done.0, λ apart. (apart, done.1)))
 
     source_after : (reached_at new.found.list o).strength ≡ s
@@ -245,7 +245,7 @@ module _ (dump : Dump) (log : List Event) (start old new : Search) (s : Strength
       less = omega (
         arith,
         h.less,
-        less dump log old new old.buckets s (rank s) (NotQueuedBelow old.queue.items o i) (NotQueuedBelow new.queue.items o i) (offer_at o i) h.searching (λ t y c. c) (λ t y c. inr c) source_passes some a
+        less dump log old new old.buckets s (rank s) (NotQueuedBelow old.queue o i) (NotQueuedBelow new.queue o i) (offer_at o i) h.searching (λ t y c. c) (λ t y c. inr c) source_passes some a
             (λ p j done. (done.0, λ apart. (apart, done.1))),
       );
     }
@@ -257,9 +257,9 @@ module _ (dump : Dump) (log : List Event) (start old new : Search) (s : Strength
     more : Extends (bucket old.buckets) (bucket new.buckets) t (offer_at o i)
     more = extends (bucket old.buckets) (bucket new.buckets) t (offer_at o i) a.adds.here (λ r other. sym (a.adds.others r other))
 
-    waiting : IsSearching dump log new s (rank s) (NotQueuedBelow new.queue.items o i)
+    waiting : IsSearching dump log new s (rank s) (NotQueuedBelow new.queue o i)
     waiting = record {
-      growing = rw (a.same_found, a.same_queue, a.same_count) (offer (standing dump log) (edge_at dump log) old.found.list (bucket old.buckets) (bucket new.buckets) old.count s (rank s) (NotQueuedBelow old.queue.items o i) t (offer_at o i) h.searching.growing more
+      growing = rw (a.same_found, a.same_queue, a.same_count) (offer (standing dump log) (edge_at dump log) old.found.list (bucket old.buckets) (bucket new.buckets) old.count s (rank s) (NotQueuedBelow old.queue o i) t (offer_at o i) h.searching.growing more
           (record { edge = a.edge; is = a.is; passes_on = source_passes; gives = refl }) a.less);
       queued = rw (a.same_found, a.same_queue) h.searching.queued;
       objects = rw a.same_found h.searching.objects;
@@ -282,7 +282,7 @@ module _ (dump : Dump) (log : List Event) (start old new : Search) (s : Strength
 -- all slots of the object are looked at
 pub row_done : (dump : Dump) (log : List Event) (start search : Search) (s : Strength) (o n : ℕ) → HasRelaxed dump log start search s o n → width dump o ≤ n → HasAccepted dump log search s
 row_done dump log start search s o n h le = record {
-  growing = weaken (standing dump log) (edge_at dump log) search.found.list (bucket search.buckets) search.count s (rank s) (NotQueuedBelow search.queue.items o n) (NotQueued search.queue.items) h.searching.growing
+  growing = weaken (standing dump log) (edge_at dump log) search.found.list (bucket search.buckets) search.count s (rank s) (NotQueuedBelow search.queue o n) (NotQueued search.queue) h.searching.growing
       (λ p i e apart is passes. inl (
         apart,
         λ same.
@@ -298,16 +298,16 @@ row_done dump log start search s o n h le = record {
 -- an object is taken out of the queue
 module _ (dump : Dump) (log : List Event) (search popped : Search) (s : Strength) (o : ℕ) (h : HasAccepted dump log search s) (t : IsTakenOut search popped o) where
   pub was_queued : ((reached_at search.found.list o).strength ≡ s) × IsPassedOn dump.mode s
-  was_queued = h.queued o t.was
+  was_queued = h.queued o t.taken.was
 
-  pub taken_out : IsSearching dump log popped s (rank s) (NotQueuedBelow popped.queue.items o 0)
+  pub taken_out : IsSearching dump log popped s (rank s) (NotQueuedBelow popped.queue o 0)
   taken_out = record {
-    growing = rw (t.same_found, t.same_buckets, t.same_count) (weaken (standing dump log) (edge_at dump log) search.found.list (bucket search.buckets) search.count s (rank s) (NotQueued search.queue.items) (NotQueuedBelow popped.queue.items o 0) h.growing
-        (λ p i e done is passes. inl (λ c. elim (t.left p c) [
+    growing = rw (t.same_found, t.same_buckets, t.same_count) (weaken (standing dump log) (edge_at dump log) search.found.list (bucket search.buckets) search.count s (rank s) (NotQueued search.queue) (NotQueuedBelow popped.queue o 0) h.growing
+        (λ p i e done is passes. inl (λ c. elim (t.taken.left p c) [
           | inl same ↦ let lt : i < 0 = done.1 same in absurd (omega arith)
           | inr later ↦ done.0 later
         ])));
-    queued = λ p c. rw t.same_found (h.queued p (t.before p c));
+    queued = λ p c. rw t.same_found (h.queued p (t.taken.before p c));
     objects = rw t.same_found h.objects;
     few = h.few;
     stamps = rw (t.same_found, t.same_count) h.stamps;
@@ -324,10 +324,10 @@ none_taken dump log search popped s h n = record {
 }
 
 -- nothing is left of the strength
-pub comes_to : (dump : Dump) (log : List Event) (search : Search) (s next : Strength) → HasAccepted dump log search s → search.queue.items ≡ [] → rank s ≡ rank next + 1 → HasComeTo dump log search next
+pub comes_to : (dump : Dump) (log : List Event) (search : Search) (s next : Strength) → HasAccepted dump log search s → search.queue ≡ [] → rank s ≡ rank next + 1 → HasComeTo dump log search next
 comes_to dump log search s next h empty below = record {
-  growing = subst (λ (limit : ℕ). IsGrowing (standing dump log) (edge_at dump log) search.found.list (bucket search.buckets) search.count next limit (NotQueued search.queue.items)) below
-      (descend (standing dump log) (edge_at dump log) search.found.list (bucket search.buckets) search.count s next (rank s) (NotQueued search.queue.items) h.growing (omega arith));
+  growing = subst (λ (limit : ℕ). IsGrowing (standing dump log) (edge_at dump log) search.found.list (bucket search.buckets) search.count next limit (NotQueued search.queue)) below
+      (descend (standing dump log) (edge_at dump log) search.found.list (bucket search.buckets) search.count s next (rank s) (NotQueued search.queue) h.growing (omega arith));
   queued = λ o c. absurd (Contains-nil o (subst (λ (xs : List ℕ). Contains xs o) empty c));
   objects = h.objects;
   few = h.few;
@@ -337,7 +337,7 @@ comes_to dump log search s next h empty below = record {
 -- nothing is left of any strength
 pub ends : (dump : Dump) (log : List Event) (search : Search) → HasComeTo dump log search strengths.Unreachable → Settled (standing dump log) search.found.list
 ends dump log search h =
-    settled_in_the_end (standing dump log) (edge_at dump log) (rows_of dump log) search.found.list (bucket search.buckets) search.count strengths.Unreachable (rank strengths.Unreachable + 1) (NotQueued search.queue.items) h.growing
+    settled_in_the_end (standing dump log) (edge_at dump log) (rows_of dump log) search.found.list (bucket search.buckets) search.count strengths.Unreachable (rank strengths.Unreachable + 1) (NotQueued search.queue) h.growing
     (λ t x c.
     let none : t ≡ strengths.Unreachable = same_rank t strengths.Unreachable (omega (arith, h.growing.ceiling t x c)) in
     Contains-nil x (subst (λ (t : Strength). Contains (bucket search.buckets t) x) none c))

@@ -17,6 +17,7 @@ use Rattle.hd_strength.specs.declared.scratch.Gain.{Gain}
 use Rattle.hd_strength.specs.declared.scratch.Search.{Search}
 use Rattle.hd_supports.specs.PackedReached.{reached_by_root}
 use Rattle.hd_strength.specs.Buckets.{bucket, AddsTo}
+use Rattle.hd_strength.specs.Queue.{IsTaken}
 use Rattle.hd_strength.specs.Rows.{edge_at, root_at}
 
 -- the rank kept of an object
@@ -72,13 +73,13 @@ unreached_count ks = sum_by (λ k. if nat_eq (rank k.strength) 0 then 1 else 0) 
 
 -- how many objects are still to be reached or to pass their strength on
 abbrev pub to_do : Search → ℕ
-to_do search = unreached_count search.found.list + length search.queue.items
+to_do search = unreached_count search.found.list + length search.queue
 
 -- a search on its way: what is queued has the strength that is being spread and passes it on, and no more stamps were given
 -- than objects were reached
 pub record IsSearching (dump : Dump) (log : List Event) (search : Search) (s : Strength) (limit : ℕ) (IsDone : ℕ → ℕ → Type 0) : Type 0 where
   pub growing : IsGrowing (standing dump log) (edge_at dump log) search.found.list (bucket search.buckets) search.count s limit IsDone
-  pub queued : (o : ℕ) → Contains search.queue.items o → ((reached_at search.found.list o).strength ≡ s) × IsPassedOn dump.mode s
+  pub queued : (o : ℕ) → Contains search.queue o → ((reached_at search.found.list o).strength ≡ s) × IsPassedOn dump.mode s
   pub objects : length search.found.list ≡ length dump.objects
   pub few : length dump.objects < 2 ^ 32
   pub stamps : search.count + unreached_count search.found.list ≤ length dump.objects
@@ -93,11 +94,11 @@ NotQueuedBelow queue o n p i = (Contains queue p → ⊥) × (p ≡ o → i < n)
 
 -- a search has come to a strength: nothing is offered that is more
 abbrev pub HasComeTo : Dump → List Event → Search → Strength → Type 0
-HasComeTo dump log search s = IsSearching dump log search s (rank s + 1) (NotQueued search.queue.items)
+HasComeTo dump log search s = IsSearching dump log search s (rank s + 1) (NotQueued search.queue)
 
 -- the same, and what was offered of that strength is accepted
 abbrev pub HasAccepted : Dump → List Event → Search → Strength → Type 0
-HasAccepted dump log search s = IsSearching dump log search s (rank s) (NotQueued search.queue.items)
+HasAccepted dump log search s = IsSearching dump log search s (rank s) (NotQueued search.queue)
 
 -- an edge gives something to an object that nothing reaches
 pub record IsGain (at : ℕ → ℕ → Option Edge) (ks : List Reached) (o i : ℕ) (gain : Gain) : Type 0 where
@@ -108,12 +109,19 @@ pub record IsGain (at : ℕ → ℕ → Option Edge) (ks : List Reached) (o i : 
   pub unreached : rank_at ks edge.target ≡ 0
   pub object : edge.target < length ks
 
+-- an object is reached by an edge from a slot of another; what is shown of it is kept, and it isn't queued yet
+pub record Keeps (show : Reached → Reached) (old new : Search) (s : Strength) (source : ℕ) (slot : Slot) (target : ℕ) : Type 0 where
+  pub kept : new.found ≡ record { whole = old.found.whole; list = set old.found.list target (show (record { strength = s; support = supports.Edge source slot; stamp = old.count + 1 })) }
+  pub same_buckets : new.buckets ≡ old.buckets
+  pub same_queue : new.queue ≡ old.queue
+  pub counted : new.count ≡ old.count + 1
+
 -- an object is reached by an edge from a slot of another, and queued if it passes its strength on; what is shown of it is kept
 pub record Reaches (show : Reached → Reached) (mode : Mode) (old new : Search) (s : Strength) (source : ℕ) (slot : Slot) (target : ℕ) : Type 0 where
   pub kept : new.found ≡ record { whole = old.found.whole; list = set old.found.list target (show (record { strength = s; support = supports.Edge source slot; stamp = old.count + 1 })) }
   pub same_buckets : new.buckets ≡ old.buckets
-  pub queued : IsPassedOn mode s → new.queue.items ≡ old.queue.items ++ target ∷ []
-  pub not_queued : (IsPassedOn mode s → ⊥) → new.queue.items ≡ old.queue.items
+  pub queued : IsPassedOn mode s → new.queue ≡ old.queue ++ target ∷ []
+  pub not_queued : (IsPassedOn mode s → ⊥) → new.queue ≡ old.queue
   pub counted : new.count ≡ old.count + 1
 
 -- where there is an edge, its target is reached already
@@ -142,18 +150,15 @@ pub record IsOffered (at : ℕ → ℕ → Option Edge) (old new : Search) (s : 
 
 -- an object is taken out of what is queued
 pub record IsTakenOut (old new : Search) (o : ℕ) : Type 0 where
-  pub was : Contains old.queue.items o
-  pub before : (p : ℕ) → Contains new.queue.items p → Contains old.queue.items p
-  pub left : (p : ℕ) → Contains old.queue.items p → (p ≡ o) ⊎ Contains new.queue.items p
-  pub one_less : length new.queue.items + 1 ≡ length old.queue.items
+  pub taken : IsTaken old.queue new.queue o
   pub same_found : new.found ≡ old.found
   pub same_buckets : new.buckets ≡ old.buckets
   pub same_count : new.count ≡ old.count
 
 -- nothing is queued, before and after
 pub record HasNoneQueued (old new : Search) : Type 0 where
-  pub none : old.queue.items ≡ []
-  pub still : new.queue.items ≡ []
+  pub none : old.queue ≡ []
+  pub still : new.queue ≡ []
   pub same_found : new.found ≡ old.found
   pub same_buckets : new.buckets ≡ old.buckets
   pub same_count : new.count ≡ old.count

@@ -1,14 +1,13 @@
 //! What a search has found so far.
-ghost use Rattle.std.specs.Prelude.{◌≡◌, ◌<◌, length, map, replicate, set, true, IfOk};
+ghost use Rattle.std.specs.Prelude.{◌≡◌, ◌<◌, length, map, replicate, set, true, false, IfOk};
 ghost use Rattle.hd_terms.specs.Settled.{reached_at, unreached};
-ghost use Rattle.hd_strength.specs.Found.{is_found, seen, strength_of};
+ghost use Rattle.hd_strength.specs.Found.{is_found, only_strength, seen, strength_of};
 
 use crate::ahead::{BATCH, read_rows, read_targets};
 use hd_graph::Graph;
 use hd_supports::PackedReached;
 use hd_terms::{NoMemory, Strength};
 use std::alloc::Global;
-use std::collections::VecDeque;
 use std::marker::Model;
 
 /// The strength of each object so far and, where that is asked for, all that is kept of it.
@@ -94,16 +93,25 @@ impl Found {
         }
     }
 
+    /// Keeps another strength of an object, where strengths alone are kept.
+    #[inline(always)]
+    pub(crate) fn put_strength(&mut self, o: u32, strength: Strength)
+        requires alone { self.old.whole ≡ false }
+        requires object { o < length self.old.list }
+        ensures { self.new ≡ record { whole = false; list = set self.old.list o (only_strength strength) } }
+    {
+        self.strengths[o as usize] = strength;
+    }
+
     /// Reads what the next objects of a queue will ask for, once for each batch of them. Call it after each object that is
     /// taken from the queue. Nothing that is kept changes.
-    pub(crate) fn look_ahead(&mut self, graph: &Graph, queue: &VecDeque<u32>)
+    pub(crate) fn look_ahead(&mut self, graph: &Graph, next: &[u32])
         ensures { self.new ≡ self.old }
     {
         if self.ahead > 0 {
             self.ahead -= 1;
             return;
         }
-        let (next, _) = queue.as_slices();
         let next = next.get(..BATCH).unwrap_or(next);
         self.ahead = next.len();
         let rows = read_rows(graph, next);

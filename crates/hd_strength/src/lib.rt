@@ -7,6 +7,7 @@ mod checking;
 mod cleared;
 mod edited;
 mod found;
+mod queue;
 mod removed;
 mod scratch;
 

@@ -12,25 +12,26 @@ ghost use Rattle.std.specs.Prelude.{◌≡◌, ℕ, ◌+◌, ◌^◌, ◌<◌, �
 ghost use Rattle.hd_terms.specs.Ranks.{rank, IsPassedOn};
 ghost use Rattle.hd_terms.specs.Paths.{Edge};
 ghost use Rattle.hd_terms.specs.Dump.{SlotEntry, object_at};
+ghost use Rattle.hd_terms.specs.Edges.{index_of};
 ghost use Rattle.hd_terms.specs.EditedDump.{standing};
 ghost use Rattle.hd_terms.specs.Settled.{Settled, reached_at};
 ghost use Rattle.hd_terms.specs.declared.Strength.{Strength as OneStrength};
 ghost use Rattle.hd_terms.specs.declared.Strength.TheVariants as strengths;
 ghost use Rattle.hd_strength.specs.Found.{AreSeen, AreSettled, seen};
 ghost use Rattle.hd_strength.specs.Rows.{width, edge_at, root_count};
-ghost use Rattle.hd_strength.specs.Growing.{full, rank_at, AreHeld, HasEnded, IsBacked, IsSearching, NotQueuedBelow, HasComeTo, HasAccepted, IsGain, Reaches, IsPassedOver, IsAccepted, IsOffered, IsTakenOut, HasNoneQueued, to_do};
+ghost use Rattle.hd_strength.specs.Growing.{full, rank_at, AreHeld, HasEnded, IsBacked, IsSearching, NotQueuedBelow, HasComeTo, HasAccepted, IsGain, Keeps, Reaches, IsPassedOver, IsAccepted, IsOffered, IsTakenOut, HasNoneQueued, to_do};
 ghost use Rattle.hd_strength.specs.Removed.{IsRemovedBy};
 
 use crate::buckets::{Buckets, Offer};
 use crate::edited::{Edited, added_object, root_object};
 use crate::found::Found;
+use crate::queue::Queue;
 use crate::removed::Removed;
 use hd_graph::Graph;
 use hd_log::Front;
 use hd_supports::{PackedReached, Strengths};
-use hd_terms::{NoMemory, Slot, Strength};
+use hd_terms::{NoMemory, Strength};
 use std::alloc::Global;
-use std::collections::VecDeque;
 
 /// A search as far as it has come.
 #[derive(Drop)]
@@ -40,7 +41,7 @@ struct Search {
     /// What references give and no target has taken yet; never more than what is being spread.
     buckets: Buckets,
     /// The objects that are reached and have yet to pass their strength on.
-    queue: VecDeque<u32>,
+    queue: Queue,
     /// The last stamp that was given. Stamps count from 1.
     count: u64,
 }
@@ -94,10 +95,10 @@ fn begin(alloc: Global, edited: Edited<'_>, found: Found) -> Result<Search, NoMe
     requires held { AreSeen found.whole found (λ ks. AreHeld edited.graph.now edited.front.now ks (root_count edited.graph.now edited.front.now)) }
     ensures { IfOk result (λ search. AreSeen found.whole search.found (λ ks. HasComeTo edited.entry.graph.now edited.entry.front.now (full search ks) strengths.Strong)) }
 {
-    let mut queue = VecDeque::new(alloc);
+    let mut queue = Queue::new(alloc, found.is_whole());
     for o in 0..edited.graph.objects() {
         if found.is_reached(o) {
-            queue.push_back(o)?;
+            queue.push(o)?;
         }
     }
     Ok(Search {
@@ -108,22 +109,28 @@ fn begin(alloc: Global, edited: Edited<'_>, found: Found) -> Result<Search, NoMe
     })
 }
 
-/// The slot at an index of an object where all is kept of what it reaches. Where strengths alone are kept any slot will do, and
-/// none is looked up.
+/// Keeps what an object gains by the reference at an index of another's slots, with the next stamp. Where strengths alone are kept
+/// the slot isn't looked up.
 #[inline(always)]
-fn slot_to_keep(graph: &Graph, found: &Found, o: u32, index: u32) -> Slot
-    requires object { o < length graph.now.objects }
-    requires index { index < width graph.now o }
-    ensures { (s : SlotEntry) → slice_get (object_at graph.now o).slots index ≡ Some s → found.now.whole ≡ true → result ≡ s.slot }
+fn keep(graph: &Graph, search: &mut Search, source: u32, index: u32, gain: Gain)
+    requires source { source < length graph.now.objects }
+    requires index { index < width graph.now source }
+    requires object { gain.target < length search.old.found.list }
+    requires room { search.old.count < 2 ^ 32 }
+    ensures { (s : SlotEntry) → slice_get (object_at graph.now source).slots index ≡ Some s →
+        Keeps (seen search.old.found.whole) search.old search.new gain.strength source s.slot gain.target }
 {
-    if found.is_whole() {
-        return graph.slot_name(o, index).slot;
+    search.count += 1;
+    if search.found.is_whole() {
+        let slot = graph.slot_name(source, index).slot;
+        let reached = PackedReached::by_edge(gain.strength, source, slot, search.count);
+        search.found.put(gain.target, reached);
+    } else {
+        search.found.put_strength(gain.target, gain.strength);
     }
-    Slot::OfClass
 }
 
 /// Reaches an object by the reference at an index of another's slots, and queues it if it passes its strength on.
-#[inline(always)]
 fn reach(
     edited: Edited<'_>,
     search: &mut Search,
@@ -138,12 +145,9 @@ fn reach(
     ensures { OnOk result ((s : SlotEntry) → slice_get (object_at edited.entry.graph.now source).slots index ≡ Some s →
         Reaches (seen search.old.found.whole) edited.entry.graph.now.mode search.old search.new gain.strength source s.slot gain.target) }
 {
-    search.count += 1;
-    let slot = slot_to_keep(edited.graph, &search.found, source, index);
-    let reached = PackedReached::by_edge(gain.strength, source, slot, search.count);
-    search.found.put(gain.target, reached);
+    keep(edited.graph, search, source, index, gain);
     if gain.strength.rank() >= edited.graph.mode().least_passed_on().rank() {
-        search.queue.push_back(gain.target)?;
+        search.queue.push(gain.target)?;
     }
     Ok(())
 }
@@ -163,7 +167,7 @@ fn accept_offer(
     ensures { OnOk result (IsPassedOver (edge_at edited.entry.graph.now edited.entry.front.now) search.old search.new offer.source offer.index
         ⊎ IsAccepted (seen search.old.found.whole) edited.entry.graph.now.mode (edge_at edited.entry.graph.now edited.entry.front.now) search.old search.new strength offer.source offer.index) }
 {
-    let Some(target) = edited.graph.target(offer.source, offer.index) else {
+    let Some(target) = edited.graph.targets(offer.source).get(offer.index) else {
         return Ok(());
     };
     if search.found.is_reached(target) {
@@ -189,25 +193,27 @@ fn accept_offers(
     Ok(())
 }
 
-/// What the reference at an index of an object's slots gives its target, if nothing reaches that yet. The strength is the
-/// object's.
+/// What the reference at an index of an object's slots gives its target, if it has one that nothing reaches yet. The strength is
+/// the object's.
 #[inline(always)]
 fn gain_at(
     edited: Edited<'_>,
     search: &Search,
     o: u32,
     index: u32,
+    target: Option<u32>,
     strength: Strength,
 ) -> Option<Gain>
     requires removed { IsRemovedBy edited.graph.now edited.front.now edited.removed.now }
     requires object { o < length edited.graph.now.objects }
     requires index { index < width edited.graph.now o }
+    requires target { (s : SlotEntry) → slice_get (object_at edited.graph.now o).slots index ≡ Some s → target ≡ index_of edited.graph.now.objects s.id }
     requires count { length search.now.found.list ≡ length edited.graph.now.objects }
     requires source { (reached_at search.now.found.list o).strength ≡ strength }
     ensures none { IfNone result ((e : Edge) → edge_at edited.entry.graph.now edited.entry.front.now o index ≡ Some e → 1 ≤ rank_at search.now.found.list e.target) }
     ensures some { IfSome result (λ gain. IsGain (edge_at edited.entry.graph.now edited.entry.front.now) search.now.found.list o index gain) }
 {
-    let target = edited.graph.target(o, index)?;
+    let target = target?;
     if search.found.is_reached(target) {
         return None;
     }
@@ -229,24 +235,27 @@ fn relax_edge(
     search: &mut Search,
     o: u32,
     index: u32,
+    target: Option<u32>,
     strength: Strength,
 ) -> Result<(), NoMemory>
     requires removed { IsRemovedBy edited.graph.now edited.front.now edited.removed.now }
     requires object { o < length edited.graph.now.objects }
     requires index { index < width edited.graph.now o }
+    requires target { (s : SlotEntry) → slice_get (object_at edited.graph.now o).slots index ≡ Some s → target ≡ index_of edited.graph.now.objects s.id }
     requires count { length search.old.found.list ≡ length edited.graph.now.objects }
     requires source { (reached_at search.old.found.list o).strength ≡ strength }
-    requires reached { 1 ≤ rank strength }
+    requires passes_on { IsPassedOn edited.graph.now.mode strength }
     requires room { search.old.count < 2 ^ 32 }
     ensures { OnOk result (IsPassedOver (edge_at edited.entry.graph.now edited.entry.front.now) search.old search.new o index
         ⊎ IsAccepted (seen search.old.found.whole) edited.entry.graph.now.mode (edge_at edited.entry.graph.now edited.entry.front.now) search.old search.new strength o index
         ⊎ IsOffered (edge_at edited.entry.graph.now edited.entry.front.now) search.old search.new strength o index) }
 {
-    let Some(gain) = gain_at(edited, search, o, index, strength) else {
+    let Some(gain) = gain_at(edited, search, o, index, target, strength) else {
         return Ok(());
     };
     if gain.strength.rank() == strength.rank() {
-        reach(edited, search, o, index, gain)?;
+        keep(edited.graph, search, o, index, gain);
+        search.queue.push(gain.target)?;
     } else {
         search
             .buckets
@@ -267,12 +276,13 @@ fn relax_edges(
     requires object { o < length edited.graph.now.objects }
     requires source { (reached_at search.old.found.list o).strength ≡ strength }
     requires passes_on { IsPassedOn edited.graph.now.mode strength }
-    requires searching { AreSeen search.old.found.whole search.old.found (λ ks. IsSearching edited.graph.now edited.front.now (full search.old ks) strength (rank strength) (NotQueuedBelow search.old.queue.items o 0)) }
+    requires searching { AreSeen search.old.found.whole search.old.found (λ ks. IsSearching edited.graph.now edited.front.now (full search.old ks) strength (rank strength) (NotQueuedBelow search.old.queue o 0)) }
     ensures searching { OnOk result (AreSeen search.old.found.whole search.new.found (λ ks. HasAccepted edited.entry.graph.now edited.entry.front.now (full search.new ks) strength)) }
     ensures less { OnOk result (to_do search.new ≤ to_do search.old) }
 {
+    let targets = edited.graph.targets(o);
     for index in 0..edited.graph.slots_len(o) {
-        relax_edge(edited, search, o, index, strength)?;
+        relax_edge(edited, search, o, index, targets.get(index), strength)?;
     }
     Ok(())
 }
@@ -285,13 +295,11 @@ fn take_next(graph: &Graph, search: &mut Search) -> Option<u32>
     ensures none { IfNone result (HasNoneQueued search.old search.new) }
     ensures some { IfSome result (λ o. IsTakenOut search.old search.new o) }
 {
+    let o = search.queue.take()?;
     if search.found.is_whole() {
-        let o = search.queue.pop_front()?;
-        search.found.look_ahead(graph, &search.queue);
-        Some(o)
-    } else {
-        search.queue.pop_back()
+        search.found.look_ahead(graph, search.queue.coming());
     }
+    Some(o)
 }
 
 /// Passes on the strength of all objects that are queued, and of those that are queued by that.
@@ -303,7 +311,7 @@ fn spread_objects(
     requires removed { IsRemovedBy edited.graph.now edited.front.now edited.removed.now }
     requires searching { AreSeen search.old.found.whole search.old.found (λ ks. HasAccepted edited.graph.now edited.front.now (full search.old ks) strength) }
     ensures searching { OnOk result (AreSeen search.old.found.whole search.new.found (λ ks. HasAccepted edited.entry.graph.now edited.entry.front.now (full search.new ks) strength)) }
-    ensures all { OnOk result (search.new.queue.items ≡ []) }
+    ensures all { OnOk result (search.new.queue ≡ []) }
 {
     while let Some(o) = take_next(edited.graph, search) {
         relax_edges(edited, search, o, strength)?;

@@ -18,9 +18,10 @@ pub(crate) fn edge_count(graph: &Graph, o: u32) -> u32
     requires { o < length graph.now.objects }
     ensures { result ≡ edge_count graph.now o }
 {
+    let targets = graph.targets(o);
     let mut edges = 0;
     for i in 0..graph.slots_len(o) {
-        if graph.target(o, i).is_some() {
+        if targets.get(i).is_some() {
             edges += 1;
         }
     }
@@ -51,9 +52,10 @@ pub(crate) fn edge_slot(graph: &Graph, cursor: Cursor, o: u32, edge: u32) -> u32
     ensures { IsEdgeAt graph.now o edge result }
 {
     let start = start_from(cursor, o, edge);
+    let targets = graph.targets(o);
     let mut edges = start.edges;
     for slot in start.slot..graph.slots_len(o) {
-        if graph.target(o, slot).is_some() {
+        if targets.get(slot).is_some() {
             if edges == edge {
                 return slot;
             }

@@ -14,20 +14,20 @@ use Rattle.hd_strength.proofs.scratch.gain_at.Goals as goal
 pub is_reached-requires : goal.is_reached-requires
 is_reached-requires c =
     let at = slot_at c.args.edited.graph.now c.args.o c.args.index c.requires.index in
-    let some : index_of c.args.edited.graph.now.objects at.0.id ≡ Some c.in_ok-target.target = sym (c.target.ensures at.0 at.1) ∙ c.in_ok-target.was in
+    let some : index_of c.args.edited.graph.now.objects at.0.id ≡ Some c.in_ok-target.target = sym (c.requires.target at.0 at.1) ∙ c.in_ok-target.was in
     omega (arith, index_of_within c.args.edited.graph.now.objects at.0.id c.in_ok-target.target some, c.requires.count)
 
 pub returns-in_err-target-clause-none : goal.returns-in_err-target-clause-none
 returns-in_err-target-clause-none c =
     let at = slot_at c.args.edited.graph.now c.args.o c.args.index c.requires.index in
-    let none : index_of c.args.edited.graph.now.objects at.0.id ≡ None = sym (c.target.ensures at.0 at.1) ∙ c.in_err-target.was in
+    let none : index_of c.args.edited.graph.now.objects at.0.id ≡ None = sym (c.requires.target at.0 at.1) ∙ c.in_err-target.was in
     rw c.from_residual.ensures (λ e is. absurd (at_none c.args.edited.graph.now c.args.edited.front.now c.args.o c.args.index at.0 at.1 none e is))
 
 pub returns-then-is_reached-clause-none : goal.returns-then-is_reached-clause-none
 returns-then-is_reached-clause-none c = λ e is.
     let t = c.in_ok-target.target in
     let at = slot_at c.args.edited.graph.now c.args.o c.args.index c.requires.index in
-    let some : index_of c.args.edited.graph.now.objects at.0.id ≡ Some t = sym (c.target.ensures at.0 at.1) ∙ c.in_ok-target.was in
+    let some : index_of c.args.edited.graph.now.objects at.0.id ≡ Some t = sym (c.requires.target at.0 at.1) ∙ c.in_ok-target.was in
     let edge : edge_to c.args.o at.0 t ≡ e = at_target c.args.edited.graph.now c.args.edited.front.now c.args.o c.args.index at.0 at.1 t e some is in
     let target : e.target ≡ t = sym (ap (λ (x : Edge). x.target) edge) in
     rw target (found-some (reached_at c.args.search.now.found.list t) (sym c.is_reached.ensures ∙ c.if-is_reached.true))
@@ -50,7 +50,7 @@ returns-clause-some c =
     let at = slot_at c.args.edited.graph.now c.args.o c.args.index c.requires.index in
     let s : SlotEntry = at.0 in
     let t = c.in_ok-target.target in
-    let some : index_of c.args.edited.graph.now.objects s.id ≡ Some t = sym (c.target.ensures s at.1) ∙ c.in_ok-target.was in
+    let some : index_of c.args.edited.graph.now.objects s.id ≡ Some t = sym (c.requires.target s at.1) ∙ c.in_ok-target.was in
     let kind : c.slot_kind-kind.result ≡ s.kind = c.slot_kind-kind.ensures s at.1 in
     let left : is_removed c.args.edited.removed.now c.args.o c.args.index s.kind ≡ false = ap (is_removed c.args.edited.removed.now c.args.o c.args.index) (sym kind) ∙ sym c.slot.ensures ∙ c.if-slot.false in
     let stands : is_untouched c.args.edited.front.now (object_at c.args.edited.graph.now c.args.o) s ≡ true =

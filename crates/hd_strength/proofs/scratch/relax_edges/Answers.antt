@@ -19,6 +19,9 @@ loop-index-init c =
       };
     }
 
+pub relax_edge-requires-clause-target : goal.relax_edge-requires-clause-target
+relax_edge-requires-clause-target c = λ s at. c.get.ensures ∙ c.targets-targets.ensures.each c.loop-index.index s at
+
 pub relax_edge-requires-clause-count : goal.relax_edge-requires-clause-count
 relax_edge-requires-clause-count c =
     let h = c.loop-index.invariant in

@@ -17,7 +17,7 @@ loop-i-preserved c =
     let lt : i < length (object_at dump o).slots = omega (arith, c.loop-i-test.true, c.slots_len-i-end.ensures) in
     let s : SlotEntry = entry_at dump o i in
     let there = entry_there dump o i lt in
-    let edge : c.is_some.result ≡ is_edge dump s = c.is_some.ensures ∙ ap is_some (c.target.ensures s there) in
+    let edge : c.is_some.result ≡ is_edge dump s = c.is_some.ensures ∙ ap is_some (c.get.ensures ∙ c.targets-targets.ensures.each i s there) in
     elim c.if-is_some.branch [
       | then-is_some w ↦ w.edges-is ∙ ap (λ (n : ℕ). n + 1) c.loop-i.invariant ∙ sym (edges_more dump o i s there (sym edge ∙ w.if-is_some.true))
       | else-is_some w ↦ w.edges-is ∙ c.loop-i.invariant ∙ sym (edges_kept dump o i s there (sym edge ∙ w.if-is_some.false))

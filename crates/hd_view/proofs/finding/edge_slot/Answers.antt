@@ -14,7 +14,7 @@ loop-slot-preserved c =
     let lt : i < length (object_at dump o).slots = omega (arith, c.loop-slot-test.true, c.slots_len-slot-end.ensures) in
     let s : SlotEntry = entry_at dump o i in
     let there = entry_there dump o i lt in
-    let edge : c.is_some.result ≡ is_edge dump s = c.is_some.ensures ∙ ap is_some (c.target.ensures s there) in
+    let edge : c.is_some.result ≡ is_edge dump s = c.is_some.ensures ∙ ap is_some (c.get.ensures ∙ c.targets-targets.ensures.each i s there) in
     elim c.if-is_some.branch [
       | then-is_some+else-edges-edge w ↦ record {
         within = omega arith;

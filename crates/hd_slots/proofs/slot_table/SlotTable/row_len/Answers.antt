@@ -1,6 +1,5 @@
-use Rattle.std.proofs.Common.{◌∙◌, ℕ, ◌+◌, ◌-◌, List, length, get_or, ap, sym, arith, add-one}
-use Rattle.hd_slots.specs.Table.{Rows, row_at}
-use Rattle.hd_slots.proofs.TableLemmas.{starts-before, length-row}
+use Rattle.std.proofs.Common.{◌∙◌, ℕ, ◌+◌, ◌-◌, List, get_or, ap, sym, arith, add-one}
+use Rattle.hd_slots.proofs.TableLemmas.{starts-before, length-row_of}
 use Rattle.hd_slots.proofs.slot_table.SlotTable.row_len.Goals as goal
 
 pub bounds-starts-o : goal.bounds-starts-o
@@ -22,5 +21,4 @@ returns c =
     c.saturating_sub.ensures
     ∙ ap (λ (xs : List ℕ). get_or xs (c.args.o + 1) 0 - get_or xs c.args.o 0) c.as_slice-starts.ensures.value
     ∙ ap (λ (n : ℕ). get_or a.starts.items n 0 - get_or a.starts.items c.args.o 0) (add-one c.args.o)
-    ∙ sym (length-row a.ids a.starts.items a.items.items a.absent.items c.self.invariant c.args.o lt)
-    ∙ ap (λ (t : Rows). length (row_at t c.args.o)) c.self.view_is
+    ∙ sym (length-row_of a.ids a.starts.items a.items.items a.absent.items c.self.invariant c.args.o lt c.args.self.now c.self.view_is)
