@@ -25,9 +25,9 @@ pub fn print_counts(graph: &Graph) {
 pub fn print_totals(graph: &Graph, reached: &Reached) {
     let mut left = (graph.numbers.count, graph.rows.tally.bytes);
     for rank in (PHANTOM..=STRONG).rev() {
-        let (range, bytes) = &reached.ranks[rank as usize];
-        println!("{} {} {bytes}", NAMES[rank as usize], range.len());
-        left = (left.0 - range.len(), left.1 - bytes);
+        let (count, bytes) = reached.ranks[rank as usize];
+        println!("{} {count} {bytes}", NAMES[rank as usize]);
+        left = (left.0 - count, left.1 - bytes);
     }
     println!("{} {} {}", NAMES[UNREACHABLE as usize], left.0, left.1);
 }

@@ -13,7 +13,7 @@
 //! class at 4 bytes each, and if it is reached 8 bytes in the order of the search, with the source of its support.
 //! Nulls and IDs that no object has are counted and not kept.
 //!
-//! WORKERS is how many threads walk over the segments at once, and search where many objects are at one distance; one
+//! WORKERS is how many threads walk over the segments at once, and search, each among the objects of a part; one
 //! without it. What is printed on standard output doesn't depend on it.
 //!
 //! It believes that the file is right, and ends with a panic where it isn't. It prints the lines of `hdesk stat FILE`,

@@ -35,6 +35,13 @@ pub fn zeros_u64(count: usize) -> Vec<u64> {
     list
 }
 
+/// An empty list with room for so many. Its memory is taken where it is first written.
+pub fn room_u64(count: usize) -> Vec<u64> {
+    let mut list = Vec::with_capacity(count);
+    ask_for_huge_pages(list.spare_capacity_mut());
+    list
+}
+
 /// A list as one that several threads may write at once.
 pub fn shared(list: &mut [u64]) -> &[AtomicU64] {
     const { assert!(align_of::<AtomicU64>() == align_of::<u64>()) };

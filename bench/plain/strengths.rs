@@ -1,174 +1,154 @@
-//! The strengths of objects: Dijkstra's widest path from the roots, with a bucket of offers for each rank. Within a rank
-//! one worker goes depth first, since most objects lie near those that refer to them; several go breadth first.
+//! The strengths of objects: Dijkstra's widest path from the roots, with a bucket of offers for each rank. Within a
+//! rank the search is depth first, since most objects lie near those that refer to them.
 //!
-//! What is reached stands in the order in which it was reached, each object with the source of its support. So all
-//! objects of a rank stand in sequence, a place in the order is an object's stamp, and only a bit for each object is
-//! looked up and written here and there. Where many objects are at hand several workers share them; then the order
-//! among those at one distance varies from run to run, but no distance and no strength does.
+//! Each worker has a part of the objects, by their numbers, and reaches these alone. What its objects refer to in
+//! another part it hands over. Workers search in rounds: a round ends for a worker when it has passed the rank on from
+//! `ROUND` objects, or has none left. Then each part gets what was handed over to it. So no two workers write the same
+//! memory. Which supports are found, and in which order, depends on the number of workers; no strength does.
+//!
+//! What is reached stands in the order in which its part reached it, each object with the source of its support. So
+//! all objects of a rank stand in sequence there, and only a bit for each object is looked up and written here and
+//! there.
 
 use crate::graph::Graph;
-use crate::memory::{shared, zeros_u64};
+use crate::memory::{room_u64, zeros_u64};
 use crate::rows::{LAST, Row};
-use crate::shares::run_workers;
 use crate::values::{FINAL, PHANTOM, STRONG, UNREACHABLE};
 use std::mem::take;
 use std::ops::Range;
-use std::sync::atomic::{AtomicBool, AtomicU64, AtomicUsize, Ordering::Relaxed};
+use std::thread;
 
-/// How many objects are looked up together.
-const BATCH: usize = 32;
-
-/// How many finds a worker keeps before they are put into the order.
-const ROOM: usize = 4096;
-
-/// How many objects have to be at hand before workers share them, and how many each of these takes at once.
-const CROWD: usize = 1 << 16;
-const CHUNK: usize = 1 << 10;
-
-/// How a worker searches: breadth first beside others, breadth first for a while alone, or alone and depth first.
-const SHARED: u8 = 0;
-const ALONE: u8 = 1;
-const DEEP: u8 = 2;
+/// From how many objects a worker passes a rank on in one round. Where it has all objects there is one round.
+const ROUND: usize = 1 << 18;
 
 /// The source of a support that is a root.
 const ROOT: u32 = u32::MAX;
 
-/// An object, and the source that offers to support it.
-struct Offer {
-    target: u32,
+/// An object, and the source of its support.
+#[derive(Clone, Copy)]
+struct Find {
+    object: u32,
     source: u32,
 }
 
 /// Offers by the rank that they give.
-type Buckets = [Vec<Offer>; 6];
+type Offers = [Vec<Find>; 6];
 
-/// The search as far as it has come, which all workers see.
-struct Search<'a> {
-    graph: &'a Graph,
-    is_reached: &'a [AtomicU64],
-    /// The objects reached, in order: the number in the lower half, in the upper half the source of the support. A
-    /// support's place is that of the source's first target that is the object.
-    order: &'a [AtomicU64],
-    reached: AtomicUsize,
-    /// Whether each class was looked at.
-    has_class: Vec<AtomicBool>,
-}
+/// A bit for each of some objects.
+struct Bits(Vec<u64>);
 
-/// What is reached: the order, and which part of it has each rank, with the recorded bytes.
-pub struct Reached {
-    order: Vec<u64>,
-    pub ranks: [(Range<usize>, u64); 6],
-}
+impl Bits {
+    fn new(count: usize) -> Bits {
+        Bits(zeros_u64(count / 64 + 1))
+    }
 
-impl Reached {
-    /// The rank of an object.
-    pub fn rank(&self, object: u32) -> u8 {
-        let end = self.ranks[PHANTOM as usize].0.end;
-        let is_it = |find: &u64| *find as u32 == object;
-        let Some(at) = self.order[..end].iter().position(is_it) else {
-            return UNREACHABLE;
-        };
-        let has_it = |rank: &u8| self.ranks[*rank as usize].0.contains(&at);
-        (PHANTOM..=STRONG).find(has_it).unwrap()
+    fn has(&self, i: u32) -> bool {
+        self.0[i as usize / 64] >> (i % 64) & 1 == 1
+    }
+
+    /// Sets a bit, and tells whether it wasn't set.
+    #[inline(always)]
+    fn add(&mut self, i: u32) -> bool {
+        let word = &mut self.0[i as usize / 64];
+        let before = *word;
+        *word = before | 1 << (i % 64);
+        *word != before
     }
 }
 
-/// A worker that passes on a rank, with what it has found.
-struct Finder<'a> {
-    search: &'a Search<'a>,
-    rank: u8,
-    finds: Vec<u64>,
-    found: usize,
-    /// What has still to pass its rank on, depth first.
+/// A part of the objects: those from the first on, so many. All that is kept of them is written by one worker.
+struct Part {
+    first: u32,
+    len: u32,
+    is_reached: Bits,
+    /// The objects reached, in order: the number in the lower half, in the upper half the source of the support. A
+    /// support's place is that of the source's first target that is the object.
+    order: Vec<u64>,
+    /// What has still to pass the rank on.
     stack: Vec<u32>,
-    offers: Buckets,
-    /// The recorded bytes of the objects that it has gone over.
+    /// Which objects of other parts were handed over, and those of this round.
+    is_handed: Bits,
+    handed: Vec<Find>,
+    offers: Offers,
+    /// Whether each class was looked at.
+    has_class: Vec<bool>,
+    /// The recorded bytes of the objects that were gone over in this rank.
     bytes: u64,
 }
 
-impl<'a> Finder<'a> {
-    fn new(search: &'a Search<'a>, rank: u8) -> Finder<'a> {
-        Finder {
-            search,
-            rank,
-            finds: vec![0; ROOM],
-            found: 0,
+impl Part {
+    /// The part of these objects, with no bits for others where there are none.
+    fn new(graph: &Graph, objects: Range<usize>) -> Part {
+        let count = graph.numbers.count;
+        let others = if objects.len() == count { 0 } else { count };
+        Part {
+            first: objects.start as u32,
+            len: objects.len() as u32,
+            is_reached: Bits::new(objects.len()),
+            order: room_u64(objects.len()),
             stack: Vec::new(),
-            offers: Buckets::default(),
+            is_handed: Bits::new(others),
+            handed: Vec::new(),
+            offers: Offers::default(),
+            has_class: vec![false; graph.classes.len()],
             bytes: 0,
         }
     }
 
-    /// Puts what is found into the order.
-    fn put_finds(&mut self) {
-        let start = self.search.reached.fetch_add(self.found, Relaxed);
-        let places = &self.search.order[start..start + self.found];
-        for (place, find) in places.iter().zip(&self.finds) {
-            place.store(*find, Relaxed);
-        }
-        self.found = 0;
-    }
-
-    /// Reaches an object, unless it is reached already. What is noted stands only if it wasn't.
+    /// Reaches an object of this part, unless it is reached already, or hands one of another part over, once.
     #[inline(always)]
-    fn reach<const HOW: u8>(&mut self, object: u32, source: u32) {
-        let word = &self.search.is_reached[object as usize / 64];
-        let bit = 1 << (object % 64);
-        let mut before = word.load(Relaxed);
-        if HOW == DEEP {
-            if before & bit != 0 {
-                return;
+    fn reach(&mut self, object: u32, source: u32) {
+        let place = object.wrapping_sub(self.first);
+        if place < self.len {
+            if self.is_reached.add(place) {
+                self.order.push(u64::from(object) | u64::from(source) << 32);
+                self.stack.push(object);
             }
-            self.stack.push(object);
+        } else if self.is_handed.add(object) {
+            self.handed.push(Find { object, source });
         }
-        if HOW != SHARED {
-            word.store(before | bit, Relaxed);
-        } else if before & bit == 0 {
-            before = word.fetch_or(bit, Relaxed);
-        }
-        if self.found == ROOM {
-            self.put_finds();
-        }
-        self.finds[self.found] = u64::from(object) | u64::from(source) << 32;
-        self.found += usize::from(before & bit == 0);
     }
 
-    /// Notes an offer of a lesser rank, unless the object is reached already.
-    fn offer(&mut self, rank: u8, target: u32, source: u32) {
-        let word = self.search.is_reached[target as usize / 64].load(Relaxed);
-        if word >> (target % 64) & 1 == 0 {
-            self.offers[rank as usize].push(Offer { target, source });
+    /// Notes an offer of a lesser rank, unless the object is known to be reached.
+    fn offer(&mut self, rank: u8, object: u32, source: u32) {
+        let place = object.wrapping_sub(self.first);
+        let is_known = if place < self.len {
+            self.is_reached.has(place)
+        } else {
+            self.is_handed.has(object)
+        };
+        if !is_known {
+            self.offers[rank as usize].push(Find { object, source });
         }
     }
 
     /// Adds the recorded bytes of an object. If it is an instance, its class is reached.
     #[inline(always)]
-    fn relax_class<const HOW: u8>(&mut self, source: u32, row: Row) {
+    fn relax_class(&mut self, graph: &Graph, rank: u8, source: u32, row: Row) {
         match row.kind() {
             Err(bytes) => self.bytes += u64::from(bytes),
             Ok(number) => {
-                let class = self.search.graph.classes[number as usize];
+                let class = graph.classes[number as usize];
                 self.bytes += u64::from(class.bytes);
-                let has_class = &self.search.has_class[number as usize];
-                if self.rank >= FINAL && !has_class.load(Relaxed) {
-                    has_class.store(true, Relaxed);
-                    self.reach::<HOW>(class.object, source);
+                if rank >= FINAL && !self.has_class[number as usize] {
+                    self.has_class[number as usize] = true;
+                    self.reach(class.object, source);
                 }
             }
         }
     }
 
-    /// Passes on the rank of an object to its targets, the first of which is given. What its referent gets of a lesser
-    /// rank is offered.
+    /// Passes on the rank of an object to its targets. What its referent gets of a lesser rank is offered.
     #[inline(always)]
-    fn relax_targets<const HOW: u8>(&mut self, source: u32, row: Row, first: u32) {
+    fn relax_targets(&mut self, graph: &Graph, rank: u8, source: u32, row: Row) {
         let Some(start) = row.start() else {
             return;
         };
-        let targets = &self.search.graph.rows.targets;
-        let (mut place, mut target) = (start as usize, first);
+        let targets = &graph.rows.targets;
+        let mut place = start as usize;
+        let mut target = targets[place];
         let given = row.referent_rank();
-        if given != 0 && given < self.rank {
+        if given != 0 && given < rank {
             self.offer(given, target & !LAST, source);
             if target & LAST != 0 {
                 return;
@@ -177,7 +157,7 @@ impl<'a> Finder<'a> {
             target = targets[place];
         }
         loop {
-            self.reach::<HOW>(target & !LAST, source);
+            self.reach(target & !LAST, source);
             if target & LAST != 0 {
                 return;
             }
@@ -186,139 +166,140 @@ impl<'a> Finder<'a> {
         }
     }
 
-    /// Passes on the rank of at most BATCH objects. Their rows are looked up together, and then their first targets, so
-    /// that none has to wait for the one before.
-    fn relax_batch<const HOW: u8>(&mut self, batch: &[AtomicU64]) {
-        let graph = self.search.graph;
-        let (mut rows, mut firsts) = ([Row(0); BATCH], [0; BATCH]);
-        for (row, find) in rows.iter_mut().zip(batch) {
-            *row = Row(graph.rows.rows[find.load(Relaxed) as u32 as usize]);
-        }
-        for (first, row) in firsts[..batch.len()].iter_mut().zip(&rows) {
-            *first = graph.rows.targets[row.start().unwrap_or(0) as usize];
-        }
-        for (i, find) in batch.iter().enumerate() {
-            let source = find.load(Relaxed) as u32;
-            self.relax_class::<HOW>(source, rows[i]);
-            if self.rank >= FINAL {
-                self.relax_targets::<HOW>(source, rows[i], firsts[i]);
+    /// Passes on the rank of at most so many objects.
+    fn relax(&mut self, graph: &Graph, rank: u8, most: usize) {
+        for _ in 0..most {
+            let Some(source) = self.stack.pop() else {
+                return;
+            };
+            let row = Row(graph.rows.rows[source as usize]);
+            self.relax_class(graph, rank, source, row);
+            if rank >= FINAL {
+                self.relax_targets(graph, rank, source, row);
             }
-        }
-    }
-
-    /// Passes on the rank of a part of the order.
-    fn relax<const HOW: u8>(&mut self, part: Range<usize>) {
-        for batch in self.search.order[part].chunks(BATCH) {
-            self.relax_batch::<HOW>(batch);
-        }
-    }
-
-    /// Passes on the rank of one object.
-    #[inline(always)]
-    fn relax_one(&mut self, source: u32) {
-        let row = Row(self.search.graph.rows.rows[source as usize]);
-        self.relax_class::<DEEP>(source, row);
-        if self.rank >= FINAL {
-            let first = row.start().unwrap_or(0) as usize;
-            self.relax_targets::<DEEP>(source, row, self.search.graph.rows.targets[first]);
-        }
-    }
-
-    /// Passes on the rank of the objects of a part of the order, and of all that are reached by that, depth first.
-    fn relax_deep(&mut self, part: Range<usize>) {
-        let order = &self.search.order[part];
-        self.stack
-            .extend(order.iter().map(|find| find.load(Relaxed) as u32));
-        while let Some(source) = self.stack.pop() {
-            self.relax_one(source);
-        }
-    }
-
-    /// Puts what another worker has found to its own.
-    fn join(&mut self, mut other: Finder) {
-        other.put_finds();
-        self.bytes += other.bytes;
-        for (offers, more) in self.offers.iter_mut().zip(&mut other.offers) {
-            offers.append(more);
         }
     }
 }
 
+/// What is reached of a part: the order, and which part of it has each rank.
+struct Order {
+    order: Vec<u64>,
+    ranks: [Range<usize>; 6],
+}
+
+/// What is reached, and of each rank how many objects, with their recorded bytes.
+pub struct Reached {
+    orders: Vec<Order>,
+    pub ranks: [(usize, u64); 6],
+}
+
+impl Reached {
+    /// The rank of an object.
+    pub fn rank(&self, object: u32) -> u8 {
+        for Order { order, ranks } in &self.orders {
+            if let Some(at) = order.iter().position(|find| *find as u32 == object) {
+                let has_it = |rank: &u8| ranks[*rank as usize].contains(&at);
+                return (PHANTOM..=STRONG).find(has_it).unwrap();
+            }
+        }
+        UNREACHABLE
+    }
+}
+
+/// The search: the parts of all objects, one for each worker.
+struct Search<'a> {
+    graph: &'a Graph,
+    parts: Vec<Part>,
+    /// How many objects each part but the last has.
+    part_len: usize,
+}
+
 impl Search<'_> {
-    /// Passes on the rank of a part of the order by several workers at once.
-    fn relax_crowd(&self, crowd: Range<usize>, workers: usize, finder: &mut Finder) {
-        let chunk = |start| start..crowd.end.min(start + CHUNK);
-        let chunks = crowd.clone().step_by(CHUNK).map(chunk).collect();
-        let begin = || Finder::new(self, finder.rank);
-        let ended = run_workers(chunks, workers, begin, |one: &mut Finder, part| {
-            one.relax::<SHARED>(part);
-        });
-        ended.into_iter().for_each(|one| finder.join(one));
+    fn new(graph: &Graph, workers: usize) -> Search<'_> {
+        let count = graph.numbers.count;
+        let part_len = count.div_ceil(workers).max(1);
+        let starts = (0..count).step_by(part_len);
+        let parts = starts.map(|start| Part::new(graph, start..count.min(start + part_len)));
+        Search {
+            graph,
+            parts: parts.collect(),
+            part_len,
+        }
     }
 
-    /// Reaches all objects of a rank, from this place of the order on. Gives their recorded bytes.
-    fn relax_rank(&self, begin: usize, workers: usize, finder: &mut Finder) -> u64 {
-        let mut from = begin;
-        loop {
-            finder.put_finds();
-            let end = self.reached.load(Relaxed);
-            if from == end {
-                return take(&mut finder.bytes);
+    /// Reaches these objects, each by its part.
+    fn hand_out(&mut self, finds: Vec<Find>) {
+        for Find { object, source } in finds {
+            self.parts[object as usize / self.part_len].reach(object, source);
+        }
+    }
+
+    /// Reaches all objects of a rank that those which wait lead to.
+    fn relax_rank(&mut self, rank: u8) {
+        while self.parts.iter().any(|part| !part.stack.is_empty()) {
+            let graph = self.graph;
+            if let [part] = self.parts.as_mut_slice() {
+                part.relax(graph, rank, usize::MAX);
+                continue;
             }
-            if workers == 1 {
-                finder.relax_deep(from..end);
-                finder.put_finds();
-                from = self.reached.load(Relaxed);
-            } else if end - from >= CROWD {
-                self.relax_crowd(from..end, workers, finder);
-                from = end;
-            } else {
-                finder.relax::<ALONE>(from..end);
-                from = end;
-            }
+            thread::scope(|scope| {
+                for part in &mut self.parts {
+                    scope.spawn(move || part.relax(graph, rank, ROUND));
+                }
+            });
+            let handed: Vec<_> = self
+                .parts
+                .iter_mut()
+                .map(|part| take(&mut part.handed))
+                .collect();
+            handed.into_iter().for_each(|finds| self.hand_out(finds));
         }
     }
 
     /// Reaches all objects, by falling ranks, beginning with what the roots hold.
-    fn run(&self, workers: usize) -> [(Range<usize>, u64); 6] {
-        let mut ranks: [(Range<usize>, u64); 6] = Default::default();
-        let mut finder = Finder::new(self, STRONG);
-        for id in &self.graph.roots {
-            if let Some(object) = self.graph.numbers.get(*id) {
-                finder.reach::<ALONE>(object, ROOT);
-            }
-        }
-        let mut begin = 0;
+    fn run(mut self) -> Reached {
+        let numbers = &self.graph.numbers;
+        let held = self.graph.roots.iter().filter_map(|id| numbers.get(*id));
+        let held = held
+            .map(|object| Find {
+                object,
+                source: ROOT,
+            })
+            .collect();
+        self.hand_out(held);
+        let mut ranks = [(0, 0); 6];
+        let mut ends: Vec<[Range<usize>; 6]> = vec![Default::default(); self.parts.len()];
+        let mut begins = vec![0; self.parts.len()];
         for rank in (PHANTOM..=STRONG).rev() {
-            finder.rank = rank;
-            for offer in take(&mut finder.offers[rank as usize]) {
-                finder.reach::<ALONE>(offer.target, offer.source);
+            let at = rank as usize;
+            let offers: Vec<_> = self
+                .parts
+                .iter_mut()
+                .map(|part| take(&mut part.offers[at]))
+                .collect();
+            offers.into_iter().for_each(|finds| self.hand_out(finds));
+            self.relax_rank(rank);
+            for (i, part) in self.parts.iter_mut().enumerate() {
+                let end = part.order.len();
+                ends[i][at] = begins[i]..end;
+                ranks[at].0 += end - begins[i];
+                ranks[at].1 += take(&mut part.bytes);
+                begins[i] = end;
             }
-            let bytes = self.relax_rank(begin, workers, &mut finder);
-            let end = self.reached.load(Relaxed);
-            ranks[rank as usize] = (begin..end, bytes);
-            begin = end;
         }
-        ranks
+        let orders = self.parts.into_iter().zip(ends);
+        let orders = orders.map(|(part, ranks)| Order {
+            order: part.order,
+            ranks,
+        });
+        Reached {
+            orders: orders.collect(),
+            ranks,
+        }
     }
 }
 
 /// What is reached of a dump with no edit, with its strengths.
 pub fn reach(graph: &Graph, workers: usize) -> Reached {
-    let objects = graph.numbers.count;
-    let mut is_reached = zeros_u64(objects / 64 + 1);
-    let mut order = zeros_u64(objects);
-    let search = Search {
-        graph,
-        is_reached: shared(&mut is_reached),
-        order: shared(&mut order),
-        reached: AtomicUsize::new(0),
-        has_class: graph
-            .classes
-            .iter()
-            .map(|_| AtomicBool::new(false))
-            .collect(),
-    };
-    let ranks = search.run(workers);
-    Reached { order, ranks }
+    Search::new(graph, workers).run()
 }
