@@ -1,10 +1,11 @@
 //! The strengths of objects: Dijkstra's widest path from the roots, with a bucket of offers for each rank. Within a
 //! rank the search is depth first, since most objects lie near those that refer to them.
 //!
-//! Each worker has a part of the objects, by their numbers, and reaches these alone. What its objects refer to in
-//! another part it hands over. Workers search in rounds: a round ends for a worker when it has passed the rank on from
-//! `ROUND` objects, or has none left. Then each part gets what was handed over to it. So no two workers write the same
-//! memory. Which supports are found, and in which order, depends on the number of workers; no strength does.
+//! Each worker has a part of the objects, by their numbers, and reaches these alone; where objects are few there are
+//! fewer parts. What its objects refer to in another part it hands over. Workers search in rounds: a round ends for a
+//! worker when it has passed the rank on from `ROUND` objects, or has none left. Then each part gets what was handed
+//! over to it. So no two workers write the same memory. Which supports are found, and in which order, depends on the
+//! number of workers; no strength does.
 //!
 //! What is reached stands in the order in which its part reached it, each object with the source of its support. So
 //! all objects of a rank stand in sequence there, and only a bit for each object is looked up and written here and
@@ -18,7 +19,8 @@ use std::mem::take;
 use std::ops::Range;
 use std::thread;
 
-/// From how many objects a worker passes a rank on in one round. Where it has all objects there is one round.
+/// From how many objects a worker passes a rank on in one round, and how many a part has at least. Where one part has
+/// all objects there is one round.
 const ROUND: usize = 1 << 18;
 
 /// The source of a support that is a root.
@@ -206,7 +208,7 @@ impl Reached {
     }
 }
 
-/// The search: the parts of all objects, one for each worker.
+/// The search: the parts of all objects, at most one for each worker.
 struct Search<'a> {
     graph: &'a Graph,
     parts: Vec<Part>,
@@ -217,7 +219,7 @@ struct Search<'a> {
 impl Search<'_> {
     fn new(graph: &Graph, workers: usize) -> Search<'_> {
         let count = graph.numbers.count;
-        let part_len = count.div_ceil(workers).max(1);
+        let part_len = count.div_ceil(workers).max(ROUND);
         let starts = (0..count).step_by(part_len);
         let parts = starts.map(|start| Part::new(graph, start..count.min(start + part_len)));
         Search {
