@@ -130,6 +130,18 @@ def one_list(size):
     return in_segments(parts)
 
 
+def to_and_fro(size):
+    """The same arrays in another order: the first, the last, the second, the last but one, and so on, so that each lies in
+    another part of the objects than the next."""
+    count = size // 33
+    ids = [8 + i * 16 for i in range(count)]
+    row = [ids[place // 2] if place % 2 == 0 else ids[-1 - place // 2] for place in range(count)]
+    following = dict(zip(row, row[1:]))
+    parts = [struct.pack(">BQ", 0xFF, 8)]
+    parts += [array(id, (following.get(id, 0),)) for id in ids]
+    return in_segments(parts)
+
+
 DUMPS = [
     colliding_ids,
     ids_far_apart,
@@ -144,6 +156,7 @@ DUMPS = [
     empty_segments,
     roots,
     one_list,
+    to_and_fro,
 ]
 
 

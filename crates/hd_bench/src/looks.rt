@@ -80,7 +80,7 @@ fn cut_of(graph: &Graph, supports: &Supports, o: u32) -> Option<Edit> {
 
 /// Prints, of the cut of an object's support, how many objects it affects, their degree, and how many looks its repair took.
 fn print_looks(
-    rt: &(impl Print + AllocGlobal),
+    rt: &(impl Print + AllocGlobal + Threads + Sync),
     state: &State,
     supports: &Supports,
     o: u32,
@@ -95,7 +95,7 @@ fn print_looks(
     };
     let region = region_of(rt.alloc(), graph, supports, o)?;
     let degree = degree_of(&state.view(), region.as_slice());
-    let looks = looks_of_event(rt.alloc(), graph, state.front(), event).ok_or(anyhow!(
+    let looks = looks_of_event(rt, rt.alloc(), graph, state.front(), event).ok_or(anyhow!(
         "out of memory"
     ))?;
     let objects = region.len();

@@ -79,7 +79,7 @@ fn agrees<R: Wait>(
 }
 
 /// How many desks agree with a search from scratch under a log.
-fn agreeing<R: Abort + Wait>(
+fn agreeing<R: Abort + Threads + Sync + Wait>(
     rt: &R,
     alloc: Global,
     board: &Board,
@@ -87,7 +87,7 @@ fn agreeing<R: Abort + Wait>(
     graph: &Graph,
     log: &Front,
 ) -> u32 {
-    let strengths = from_scratch(alloc, graph, log).expect(rt, "the search comes to its end");
+    let strengths = from_scratch(rt, alloc, graph, log).expect(rt, "the search comes to its end");
     let mut count = 0u32;
     for desk in desks {
         if agrees(rt, alloc, board, desk, log, &strengths) {

@@ -1,6 +1,8 @@
 -- Lists in parts: where an item is, and what a write to it and a further part change.
-use Rattle.std.proofs.Common.{◌≡◌, ◌∙◌, ℕ, zero, suc, ◌+◌, ◌-◌, ◌*◌, ◌/◌, ◌%◌, ◌<◌, ◌≤◌, ◌⊎◌, inl, inr, List, [], ◌∷◌, ◌++◌, length, map, reverse, get_or, set, slice_get, Result, Ok, Err, OnErr, sym, ap, refl, arith, length-append}
-use Rattle.std.proofs.lemmas.List.{append_assoc, append-nil, set-append_left, set-append_right, length-set, length-map, length-reverse, reverse-append, get_or-map, map-set, map_push, set-get_or}
+use Rattle.std.proofs.Common.{◌≡◌, ◌∙◌, ℕ, zero, suc, ◌+◌, ◌-◌, ◌*◌, ◌/◌, ◌%◌, ◌<◌, ◌≤◌, ◌⊎◌, inl, inr, List, [], ◌∷◌, ◌++◌, length, map, reverse, take, drop, get_or, set, slice_get, Some, Result, Ok, Err, OnErr, sym, ap, refl, arith, length-append}
+use Rattle.std.proofs.lemmas.List.{append_assoc, append-nil, set-append_left, set-append_right, length-set, length-map, length-reverse, reverse-append, get_or-map, map-set, map_push, set-get_or, take-map, map-append, drop_more, length-drop}
+use Rattle.std.proofs.lemmas.Option.{slice_get_within, get_or_from_slice_get}
+use Rattle.std.proofs.Math.Seq.{drop-append-add}
 use Rattle.hd_pages.specs.Parts.{joined, IsFilled}
 
 -- what holds on both sides
@@ -179,3 +181,67 @@ module _ {A X : Type 0} (f : A → List X) (ks vs : List A) (k : A) (p : List X)
 
   pub IsFilled_front : (n : ℕ) → IsFilled n (map f (reverse ks)) → length p ≤ n → (0 < length ks → length p ≡ n) → IsFilled n (map f (reverse vs))
   IsFilled_front n are le whole = rw kept_front (le, λ more. whole (omega (arith, more, length-map (reverse ks) f, length-reverse ks)), are)
+
+-- of parts that hold n items or more the first one has n
+first_full : {X : Type 0} (n : ℕ) (p : List X) (ps : List (List X)) → IsFilled n (p ∷ ps) → n ≤ length (joined (p ∷ ps)) → length p ≡ n
+first_full n p [] is le = omega (arith, is.0, length-append p [])
+first_full n p (q ∷ ps) is le = is.1 (omega arith)
+
+-- where k times n items are held, the first k parts are full
+AreFull-take : {X : Type 0} (n k : ℕ) (ps : List (List X)) → IsFilled n ps → 0 < n → k * n ≤ length (joined ps) → AreFull n (take k ps)
+AreFull-take n zero ps is some le = tt
+AreFull-take n (suc k) [] is some le = absurd (omega (arith, some))
+AreFull-take n (suc k) (p ∷ ps) is some le =
+    let whole : length p ≡ n = first_full n p ps is (omega arith) in
+    (whole, AreFull-take n k ps is.2 some (omega (arith, whole, length-append p (joined ps))))
+
+-- and the items are theirs, and those behind
+joined-take : {X : Type 0} (n k : ℕ) (ps : List (List X)) → IsFilled n ps → 0 < n → k * n ≤ length (joined ps) → joined (take k ps) ++ drop (k * n) (joined ps) ≡ joined ps
+joined-take n zero ps is some le = let e : 0 * n ≡ 0 = omega arith in ap (λ (i : ℕ). drop i (joined ps)) e
+joined-take n (suc k) [] is some le = absurd (omega (arith, some))
+joined-take n (suc k) (p ∷ ps) is some le =
+    let whole : length p ≡ n = first_full n p ps is (omega arith) in
+    let e : suc k * n ≡ length p + k * n = omega arith in
+    append_assoc p (joined (take k ps)) (drop (suc k * n) (p ++ joined ps))
+    ∙ ap (λ (xs : List _). p ++ (joined (take k ps) ++ xs)) (ap (λ (i : ℕ). drop i (p ++ joined ps)) e ∙ drop-append-add p (joined ps) (k * n))
+    ∙ ap (λ (xs : List _). p ++ xs) (joined-take n k ps is.2 some (omega (arith, whole, length-append p (joined ps))))
+
+-- the items of parts, and of others behind them
+joined-append : {X : Type 0} (ps qs : List (List X)) → joined (ps ++ qs) ≡ joined ps ++ joined qs
+joined-append [] qs = refl
+joined-append (p ∷ ps) qs = ap (λ (xs : List _). p ++ xs) (joined-append ps qs) ∙ sym (append_assoc p (joined ps) (joined qs))
+
+-- filled parts behind full ones
+IsFilled-append : {X : Type 0} (n : ℕ) (ps qs : List (List X)) → AreFull n ps → IsFilled n qs → IsFilled n (ps ++ qs)
+IsFilled-append n [] qs are is = is
+IsFilled-append n (p ∷ ps) qs are is = (omega (arith, are.0), λ more. are.0, IsFilled-append n ps qs are.1 is)
+
+-- the first k of parts, as they are kept, which are full, and others behind these
+module _ {A X : Type 0} (f : A → List X) (n k : ℕ) (ks more vs : List A) (some : 0 < n) (is : IsFilled n (map f ks)) (le : k * n ≤ length (joined (map f ks))) (next : vs ≡ take k ks ++ more) where
+  kept_behind : map f vs ≡ take k (map f ks) ++ map f more
+  kept_behind = ap (map f) next ∙ map-append f (take k ks) more ∙ ap (λ (ps : List (List X)). ps ++ map f more) (sym (take-map f k ks))
+
+  pub IsFilled_behind : IsFilled n (map f more) → IsFilled n (map f vs)
+  IsFilled_behind others = rw kept_behind (IsFilled-append n (take k (map f ks)) (map f more) (AreFull-take n k (map f ks) is some le) others)
+
+  -- where the others hold what the list has behind the full ones, and then other items
+  pub held_behind : (items : List X) → joined (map f more) ≡ drop (k * n) (joined (map f ks)) ++ items → joined (map f vs) ≡ joined (map f ks) ++ items
+  held_behind items held =
+      ap joined kept_behind
+      ∙ joined-append (take k (map f ks)) (map f more)
+      ∙ ap (λ (xs : List X). joined (take k (map f ks)) ++ xs) held
+      ∙ sym (append_assoc (joined (take k (map f ks))) (drop (k * n) (joined (map f ks))) items)
+      ∙ ap (λ (xs : List X). xs ++ items) (joined-take n k (map f ks) is some le)
+
+  -- there are as many items as full parts and the others have
+  pub length_behind : (items : List X) → joined (map f more) ≡ drop (k * n) (joined (map f ks)) ++ items → k * n + length (joined (map f more)) ≡ length (joined (map f vs))
+  length_behind items held =
+      omega (arith, le, ap length held, length-append (drop (k * n) (joined (map f ks))) items, length-drop (k * n) (joined (map f ks)), ap length (held_behind items held), length-append (joined (map f ks)) items)
+
+-- one more item is copied, from the place i on
+pub one_copied : {X : Type 0} (xs all before after : List X) (i : ℕ) (x : X) → before ++ drop i xs ≡ all → slice_get xs i ≡ Some x → after ≡ before ++ x ∷ [] → after ++ drop (i + 1) xs ≡ all
+one_copied xs all before after i x held at next =
+    ap (λ (ys : List _). ys ++ drop (i + 1) xs) next
+    ∙ append_assoc before (x ∷ []) (drop (i + 1) xs)
+    ∙ ap (λ (ys : List _). before ++ ys) (sym (drop_more xs i x (slice_get_within xs i x at) ∙ ap (λ (y : _). y ∷ drop (i + 1) xs) (get_or_from_slice_get xs i x x at)))
+    ∙ held

@@ -6,4 +6,4 @@ mod owners;
 mod page;
 mod pages;
 
-pub use pages::Pages;
+pub use pages::{GROUP, Pages};

@@ -1,5 +1,5 @@
 //! `Pages`: a list of items in groups of pages.
-ghost use Rattle.std.specs.Prelude.{◌≡◌, ◌^◌, ◌<◌, length, slice_get, slice_set, IfOk, OnOk, OnErr, Some};
+ghost use Rattle.std.specs.Prelude.{◌≡◌, ◌+◌, ◌*◌, ◌/◌, ◌^◌, ◌<◌, ◌++◌, length, drop, slice_get, slice_set, IfOk, OnOk, OnErr, Some};
 
 use crate::group::Group;
 use crate::owners::share_all;
@@ -9,8 +9,8 @@ use std::alloc::Global;
 use std::marker::Model;
 use std::sync::Arc;
 
-/// How many items a group has at most.
-const GROUP: usize = 256 * PAGE;
+/// How many items a group has at most. Behind a list of a multiple of this length another list is put with no copy of an item.
+pub const GROUP: usize = 256 * PAGE;
 
 /// A list of items kept in pages of 1,024, which versions of the list share. No version changes another.
 #[derive(Drop)]
@@ -58,6 +58,58 @@ impl<T: Copy> Pages<T> {
         groups.push(Arc::new(alloc, Group::of_slice(alloc, &rest)?)?)?;
         groups.reverse();
         Ok(Pages { groups, len })
+    }
+
+    /// Copies the items from a place on behind those of a `Vec`.
+    fn copy_from(&self, start: u32, items: &mut Vec<T>) -> Result<(), NoMemory>
+        ensures { OnOk result (items.new.items ≡ items.old.items ++ drop start self.now) }
+    {
+        for i in start..self.len {
+            items.push(self.get(i))?;
+        }
+        Ok(())
+    }
+
+    /// Another list with what this one has in a group that is not full put before it. Nothing is copied where all groups are
+    /// full.
+    fn with_rest_before(&self, alloc: Global, other: Pages<T>) -> Result<Pages<T>, NoMemory>
+        requires { length self.now + length other < 2 ^ 32 }
+        ensures { IfOk result (λ p. p ≡ drop (length self.now / 262144 * 262144) self.now ++ other) }
+    {
+        let start = self.len / GROUP as u32 * GROUP as u32;
+        if start == self.len {
+            return Ok(other);
+        }
+        let count = (self.len - start) as usize + other.len as usize;
+        let mut items = Vec::with_capacity(alloc, count)?;
+        self.copy_from(start, &mut items)?;
+        other.copy_from(0, &mut items)?;
+        Pages::of_vec(alloc, items)
+    }
+
+    /// This list and another behind it. The groups of both are moved. Only where this list's length is no multiple of 262,144 are
+    /// items copied: those of its last group, and all of the other list.
+    ///
+    /// # Errors
+    ///
+    /// Memory ran out. Both lists are gone.
+    pub fn append(self, alloc: Global, other: Pages<T>) -> Result<Pages<T>, NoMemory>
+        requires room { length self + length other < 2 ^ 32 }
+        ensures { IfOk result (λ p. p ≡ self ++ other) }
+    {
+        let rest = self.with_rest_before(alloc, other)?;
+        let Pages { mut groups, len } = self;
+        let full = len / GROUP as u32;
+        groups.truncate(full as usize);
+        let Pages {
+            groups: mut more,
+            len: behind,
+        } = rest;
+        groups.append(&mut more)?;
+        Ok(Pages {
+            groups,
+            len: full * GROUP as u32 + behind,
+        })
     }
 
     /// How many items there are.

@@ -92,7 +92,7 @@ pub fn opening_totals<R: Threads + Sync>(
     settled_supports_give_strengths();
     one_strength();
     let front = Front::empty(alloc)?;
-    let strengths = strengths_alone(alloc, graph, &front)?;
+    let strengths = strengths_alone(rt, alloc, graph, &front)?;
     let totals = count_totals(rt, graph, &strengths);
     Ok(totals)
 }

@@ -1,6 +1,7 @@
 //! Whether a state is as one computed afresh.
+use hd_settled::is_settled;
 use hd_state::State;
-use hd_strength::{from_scratch, is_settled, strengths_alone};
+use hd_strength::{from_scratch, strengths_alone};
 use hd_supports::{PackedReached, Strengths, Supports};
 use hd_terms::{NoMemory, Strength};
 use hd_totals::GroupTotals;
@@ -86,7 +87,7 @@ pub fn is_as_afresh<R: Threads + Sync>(
     alloc: Global,
     state: &State,
 ) -> Result<bool, NoMemory> {
-    let found = from_scratch(alloc, state.graph(), state.front())?;
+    let found = from_scratch(rt, alloc, state.graph(), state.front())?;
     let supports = state.supports(alloc)?;
     let kept = kept_of(alloc, &supports)?;
     if !is_settled(alloc, state.graph(), state.front(), &kept)? {
@@ -95,7 +96,7 @@ pub fn is_as_afresh<R: Threads + Sync>(
     if !have_same_strengths(&found, &kept) {
         return Ok(false);
     }
-    let alone = strengths_alone(alloc, state.graph(), state.front())?;
+    let alone = strengths_alone(rt, alloc, state.graph(), state.front())?;
     if !are_kept(&alone, &kept) {
         return Ok(false);
     }

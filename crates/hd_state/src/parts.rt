@@ -66,8 +66,7 @@ impl KeptParts {
         ensures { IfOk result (IsKeptOf graph.now log.now.front) }
     {
         settled_supports_give_strengths();
-        let strengths = from_removed(alloc, graph, &log.front, &log.removed)?;
-        let supports = Supports::of(alloc, strengths)?;
+        let supports = from_removed(rt, alloc, graph, &log.front, &log.removed)?;
         let last_changes = LastChanges::none(alloc, graph.objects())?;
         let totals = GroupTotals::of(rt, alloc, graph, &supports)?;
         Ok(KeptParts {

@@ -140,7 +140,7 @@ fn support_in_a_row(o: u32) -> Support {
 fn supports_of_a_cycle(rt: HostRuntime) {
     let graph = graph_of(&rt, rt.alloc(), CYCLE).expect(&rt, "the dump opens");
     let front = Front::empty(rt.alloc()).expect(&rt, "a log is made");
-    let strengths = from_scratch(rt.alloc(), &graph, &front).expect(&rt, "the search ends");
+    let strengths = from_scratch(&rt, rt.alloc(), &graph, &front).expect(&rt, "the search ends");
     assert_eq!(rt; strengths.len(), 5);
     for o in 0..5u32 {
         assert!(rt; strengths.strength(o) == Strength::Strong);

@@ -13,6 +13,8 @@ mod graph_tests;
 #[cfg(test)]
 mod log_tests;
 pub mod looks;
+#[cfg(test)]
+mod part_tests;
 pub mod random;
 #[cfg(test)]
 mod repair_tests;

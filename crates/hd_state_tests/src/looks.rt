@@ -12,16 +12,22 @@ use hd_supports::Supports;
 use hd_terms::{Event, NoMemory};
 use hd_view::{AddedRoots, Edited};
 use std::alloc::Global;
+use std::thread::Threads;
 
 /// How many looks the repair takes from a graph under one log to the graph under the next.
-fn looks_over(alloc: Global, before: Edited<'_>, after: Edited<'_>) -> Result<u64, NoMemory>
+fn looks_over<R: Threads + Sync>(
+    rt: &R,
+    alloc: Global,
+    before: Edited<'_>,
+    after: Edited<'_>,
+) -> Result<u64, NoMemory>
     requires same { after.graph.now ≡ before.graph.now }
     requires next { IsNextLog before.front.now after.front.now }
     requires before { IsRemovedBy before.graph.now before.front.now before.removed.now }
     requires after { IsRemovedBy after.graph.now after.front.now after.removed.now }
 {
     let reverse = ReverseRows::of(alloc, after.graph)?;
-    let strengths = from_scratch(alloc, before.graph, before.front)?;
+    let strengths = from_scratch(rt, alloc, before.graph, before.front)?;
     let supports = Supports::of(alloc, strengths)?;
     supports.are_few();
     let added = AddedRoots::of(alloc, after.graph, after.front)?;
@@ -30,7 +36,8 @@ fn looks_over(alloc: Global, before: Edited<'_>, after: Edited<'_>) -> Result<u6
 }
 
 /// How many looks the repair from one log of a graph to the next takes.
-fn looks_between(
+fn looks_between<R: Threads + Sync>(
+    rt: &R,
     alloc: Global,
     graph: &Graph,
     before: &Front,
@@ -50,13 +57,19 @@ fn looks_between(
         front: after,
         removed: &taken_after,
     };
-    looks_over(alloc, before, after)
+    looks_over(rt, alloc, before, after)
 }
 
 /// How many looks the repair for one more event of a log takes, where the log takes the event.
-pub fn looks_of_event(alloc: Global, graph: &Graph, log: &Front, event: Event) -> Option<u64> {
+pub fn looks_of_event<R: Threads + Sync>(
+    rt: &R,
+    alloc: Global,
+    graph: &Graph,
+    log: &Front,
+    event: Event,
+) -> Option<u64> {
     let Ok(next) = log.extend(alloc, event) else {
         return None;
     };
-    looks_between(alloc, graph, log, &next).ok()
+    looks_between(rt, alloc, graph, log, &next).ok()
 }

@@ -7,6 +7,7 @@ use hd_terms::{Edit, Event, RefKind, Slot, What};
 use std::alloc::Global;
 use std::fmt::Write as _;
 use std::process::Abort;
+use std::thread::Threads;
 
 /// An array with two references to another.
 const TWICE: &str = "ids 4\nsegment\nroot 1\narray 1: 2 2\narray 2:\n";
@@ -26,18 +27,31 @@ const UNDO: Event = Event {
 };
 
 /// How many looks an event of an empty log takes, and how many its undo.
-fn looks_of_both<R: Abort>(rt: &R, alloc: Global, graph: &Graph, event: Event) -> (u64, u64) {
+fn looks_of_both<R: Abort + Threads + Sync>(
+    rt: &R,
+    alloc: Global,
+    graph: &Graph,
+    event: Event,
+) -> (u64, u64) {
     let empty = Front::empty(alloc).expect(rt, "a log is made");
     let with_event = empty
         .extend(alloc, event)
         .expect(rt, "the log takes the event");
-    let lost = looks_of_event(alloc, graph, &empty, event).expect(rt, "the event is repaired");
-    let gained = looks_of_event(alloc, graph, &with_event, UNDO).expect(rt, "the undo is repaired");
+    let lost = looks_of_event(rt, alloc, graph, &empty, event).expect(rt, "the event is repaired");
+    let gained = looks_of_event(rt, alloc, graph, &with_event, UNDO).expect(
+        rt,
+        "the undo is repaired",
+    );
     (lost, gained)
 }
 
 /// How many looks a cut of an element of the array 1 takes, and how many its undo.
-fn looks_of_cut<R: Abort>(rt: &R, alloc: Global, graph: &Graph, element: u32) -> (u64, u64) {
+fn looks_of_cut<R: Abort + Threads + Sync>(
+    rt: &R,
+    alloc: Global,
+    graph: &Graph,
+    element: u32,
+) -> (u64, u64) {
     looks_of_both(rt, alloc, graph, cut(element))
 }
 

@@ -2,10 +2,12 @@
 use crate::dumps::{CYCLE, TWO_ARRAYS, WEAK_AND_FINAL, graph_of};
 use hd_graph::Graph;
 use hd_log::Front;
-use hd_strength::{from_scratch, is_settled};
+use hd_settled::is_settled;
+use hd_strength::from_scratch;
 use hd_terms::{Edit, Event, Slot, What};
 use std::alloc::Global;
 use std::process::Abort;
+use std::thread::Threads;
 
 /// The log of one cut: of the first element of the array 1.
 fn one_cut<R: Abort>(rt: &R, alloc: Global) -> Front {
@@ -18,19 +20,19 @@ fn one_cut<R: Abort>(rt: &R, alloc: Global) -> Front {
 }
 
 /// Whether what a search finds in a graph under a log is settled for another graph under another log.
-fn found_is_settled<R: Abort>(
+fn found_is_settled<R: Abort + Threads + Sync>(
     rt: &R,
     alloc: Global,
     found: (&Graph, &Front),
     other: (&Graph, &Front),
 ) -> bool {
-    let strengths = from_scratch(alloc, found.0, found.1).expect(rt, "the search ends");
+    let strengths = from_scratch(rt, alloc, found.0, found.1).expect(rt, "the search ends");
     is_settled(alloc, other.0, other.1, &strengths).expect(rt, "the check ends")
 }
 
 /// Whether what a search finds under the empty log is settled under that, what it finds under a log under that, and what it
 /// finds under the empty log under the other.
-fn settled_by_log<R: Abort>(
+fn settled_by_log<R: Abort + Threads + Sync>(
     rt: &R,
     alloc: Global,
     graph: &Graph,

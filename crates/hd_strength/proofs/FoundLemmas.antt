@@ -46,3 +46,8 @@ strengths-alone (s ∷ ss) = ap (λ (ss : List Strength). s ∷ ss) (strengths-a
 pub list-strengths : (b : Bool) (ss : List Strength) (ks : List Reached) → (b ≡ true → ss ≡ map strength_of ks) → ss ≡ map strength_of (list_of b ss ks)
 list-strengths true ss ks h = h refl
 list-strengths false ss ks h = sym (strengths-alone ss)
+
+-- the strength that is seen is the strength
+pub seen-strength : (b : Bool) (k : Reached) → (seen b k).strength ≡ k.strength
+seen-strength true k = refl
+seen-strength false k = refl

@@ -1,6 +1,5 @@
-use Rattle.std.proofs.Common.{◌≡◌, ◌≢◌, ◌∙◌, ℕ, ◌+◌, ◌<◌, ◌≤◌, ◌⊎◌, inl, inr, List, [], ◌∷◌, ◌++◌, Contains, Option, Some, refl, sym, ap, subst, arith}
+use Rattle.std.proofs.Common.{◌≡◌, ◌≢◌, ◌∙◌, ℕ, ◌+◌, ◌<◌, ◌≤◌, ◌⊎◌, inl, inr, List, Contains, Option, Some, refl, sym, ap, subst, arith}
 use Rattle.std.proofs.lemmas.Bool.{cases_eq, cases_lt}
-use Rattle.std.proofs.lemmas.List.Elements.{Contains-push, Contains-push_cases, Contains-append_left}
 use Rattle.hd_terms.specs.declared.Strength.{Strength}
 use Rattle.hd_terms.specs.declared.Strength.TheVariants as strengths
 use Rattle.hd_terms.specs.declared.Support.{Support}
@@ -10,8 +9,7 @@ use Rattle.hd_terms.specs.Paths.{Edge, Standing}
 use Rattle.hd_terms.specs.Settled.{Reached, reached_at, PassesOn, IsSupported, SupportedBy, Settled}
 use Rattle.hd_terms.proofs.RankLemmas.{same_rank, weaker-le_left, least-positive}
 use Rattle.hd_strength.specs.declared.buckets.Offer.{Offer}
-use Rattle.hd_strength.specs.Growing.{rank_at, offered_strength, offer_at, IsBacked, IsHadOrOffered, IsGrowing}
-use Rattle.hd_strength.proofs.Lists.{Contains-nil, Contains-head, Contains-tail, Contains-cons_cases}
+use Rattle.hd_strength.specs.Growing.{rank_at, offered_strength, IsBacked, IsHadOrPromised, IsGrowing}
 
 -- indexes give the edges that stand, each from its own object
 pub record AreRows (g : Standing) (at : ℕ → ℕ → Option Edge) : Type 0 where
@@ -19,80 +17,62 @@ pub record AreRows (g : Standing) (at : ℕ → ℕ → Option Edge) : Type 0 wh
   pub source : (o i : ℕ) (e : Edge) → at o i ≡ Some e → e.source ≡ o
   pub all : (e : Edge) → Contains g.edges e → (i : ℕ) × (at e.source i ≡ Some e)
 
--- two strengths are one or not
-strength_cases : (t s : Strength) → (t ≡ s) ⊎ (t ≢ s)
-strength_cases t s = elim (cases_eq (rank t) (rank s)) [
-  | inl same ↦ inl (same_rank t s same)
-  | inr other ↦ inr (λ same. other (ap rank same))
-]
-
--- one list of offers has one more than the other
-pub record Extends (small big : Strength → List Offer) (s : Strength) (x : Offer) : Type 0 where
-  pub made : Contains (big s) x
-  pub within : (t : Strength) (y : Offer) → Contains (small t) y → Contains (big t) y
-  pub left : (t : Strength) (y : Offer) → Contains (big t) y → ((t ≡ s) × (y ≡ x)) ⊎ Contains (small t) y
-
--- by the bucket that has it
-extends-by : (small big : Strength → List Offer) (s : Strength) (x : Offer) → Contains (big s) x → ((y : Offer) → Contains (small s) y → Contains (big s) y)
-    → ((y : Offer) → Contains (big s) y → (y ≡ x) ⊎ Contains (small s) y) → ((t : Strength) → t ≢ s → small t ≡ big t) → Extends small big s x
-extends-by small big s x made kept parts others = record {
-  made = made;
-  within = λ t y c. elim (strength_cases t s) [
-    | inl same ↦ subst (λ (t : Strength). Contains (big t) y) (sym same) (kept y (subst (λ (t : Strength). Contains (small t) y) same c))
-    | inr other ↦ subst (λ (xs : List Offer). Contains xs y) (others t other) c
-  ];
-  left = λ t y c. elim (strength_cases t s) [
-    | inl same ↦ elim (parts y (subst (λ (t : Strength). Contains (big t) y) same c)) [
-      | inl is ↦ inl (same, is)
-      | inr before ↦ inr (subst (λ (t : Strength). Contains (small t) y) (sym same) before)
-    ]
-    | inr other ↦ inr (subst (λ (xs : List Offer). Contains xs y) (sym (others t other)) c)
-  ];
-}
-
--- as the last of its bucket
-pub extends : (small big : Strength → List Offer) (s : Strength) (x : Offer) → big s ≡ small s ++ x ∷ [] → ((t : Strength) → t ≢ s → small t ≡ big t) → Extends small big s x
-extends small big s x here others =
-    extends-by small big s x
-    (subst (λ (xs : List Offer). Contains xs x) (sym here) (Contains-push (small s) x))
-    (λ y c. subst (λ (xs : List Offer). Contains xs y) (sym here) (Contains-append_left (small s) (x ∷ []) y c))
-    (λ y c. elim (Contains-push_cases (small s) x y (subst (λ (xs : List Offer). Contains xs y) here c)) [
-      | inl before ↦ inr before
-      | inr is ↦ inl (sym is)
-    ])
-    others
-
--- as the first of its bucket
-pub extends-first : (small big : Strength → List Offer) (s : Strength) (x : Offer) → big s ≡ x ∷ small s → ((t : Strength) → t ≢ s → small t ≡ big t) → Extends small big s x
-extends-first small big s x here others =
-    extends-by small big s x
-    (subst (λ (xs : List Offer). Contains xs x) (sym here) (Contains-head x (small s)))
-    (λ y c. subst (λ (xs : List Offer). Contains xs y) (sym here) (Contains-tail x (small s) y c))
-    (λ y c. elim (Contains-cons_cases x (small s) y (subst (λ (xs : List Offer). Contains xs y) here c)) [
-      | inl is ↦ inl (sym is)
-      | inr later ↦ inr later
-    ])
-    others
+-- offers of all strengths
+abbrev pub Offers : Type 1
+Offers = Strength → Offer → Type 0
 
 -- an edge gives no more than its source has
 pub offered_strength-le : (ks : List Reached) (e : Edge) → rank (offered_strength ks e) ≤ rank_at ks e.source
 offered_strength-le ks e = weaker-le_left (reached_at ks e.source).strength (given_by e.kind)
 
--- the offer at an index is that of its edge
-module _ (at : ℕ → ℕ → Option Edge) (x : Offer) (e : Edge) (is : at x.source x.index ≡ Some e) where
-  one_edge : (f : Edge) → at x.source x.index ≡ Some f → f ≡ e
-  one_edge f there = let same : Some f ≡ Some e = sym there ∙ is in cc
+-- what has or is promised a rank, has or is promised each lesser one
+pub less_had : (at : ℕ → ℕ → Option Edge) (ks : List Reached) (offers : Offers) (given less o : ℕ) → less ≤ given → IsHadOrPromised at ks offers given o → IsHadOrPromised at ks offers less o
+less_had at ks offers given less o le (inl had) = inl (omega arith)
+less_had at ks offers given less o le (inr p) = inr (record {
+  strength = p.strength;
+  offer = p.offer;
+  edge = p.edge;
+  made = p.made;
+  is = p.is;
+  target = p.target;
+  enough = omega (arith, p.enough);
+})
 
-  pub edge_at_offer : (o i : ℕ) (f : Edge) → offer_at o i ≡ x → at o i ≡ Some f → f ≡ e
-  edge_at_offer o i f same there = one_edge f (subst (λ (y : Offer). at y.source y.index ≡ Some f) same there)
+-- where no rank falls and offers stay, as much is had or promised
+pub still_had : (at : ℕ → ℕ → Option Edge) (ks ks' : List Reached) (old new : Offers) → ((o : ℕ) → rank_at ks o ≤ rank_at ks' o) → ((t : Strength) (x : Offer) → old t x → new t x)
+    → (given o : ℕ) → IsHadOrPromised at ks old given o → IsHadOrPromised at ks' new given o
+still_had at ks ks' old new raises stay given o (inl had) = inl (omega (arith, raises o))
+still_had at ks ks' old new raises stay given o (inr p) = inr (record {
+  strength = p.strength;
+  offer = p.offer;
+  edge = p.edge;
+  made = stay p.strength p.offer p.made;
+  is = p.is;
+  target = p.target;
+  enough = p.enough;
+})
+
+-- and where one offer goes whose target has what it gives
+pub still_had_but : (at : ℕ → ℕ → Option Edge) (ks : List Reached) (old new : Offers) (s : Strength) (x : Offer) (e : Edge) → at x.source x.index ≡ Some e → rank s ≤ rank_at ks e.target
+    → ((t : Strength) (y : Offer) → old t y → ((t ≡ s) × (y ≡ x)) ⊎ new t y) → (given o : ℕ) → IsHadOrPromised at ks old given o → IsHadOrPromised at ks new given o
+still_had_but at ks old new s x e is has left given o (inl had) = inl had
+still_had_but at ks old new s x e is has left given o (inr p) = elim (left p.strength p.offer p.made) [
+  | inr still ↦ inr (record { strength = p.strength; offer = p.offer; edge = p.edge; made = still; is = p.is; target = p.target; enough = p.enough })
+  | inl both ↦
+      let there : at x.source x.index ≡ Some p.edge = subst (λ (y : Offer). at y.source y.index ≡ Some p.edge) both.1 p.is in
+      let same : Some p.edge ≡ Some e = sym there ∙ is in
+      let edge : p.edge ≡ e = cc in
+      let to : rank_at ks o ≡ rank_at ks e.target = ap (rank_at ks) (sym p.target ∙ ap (λ (f : Edge). f.target) edge) in
+      let gives : rank p.strength ≡ rank s = ap rank both.0 in
+      inl (omega (arith, p.enough))
+]
 
 -- a slot that is done was done before, or is by a fact of its own
-pub weaken : (g : Standing) (at : ℕ → ℕ → Option Edge) (ks : List Reached) (offers : Strength → List Offer) (count : ℕ) (s : Strength) (limit : ℕ) (D D' : ℕ → ℕ → Type 0)
-    → IsGrowing g at ks offers count s limit D → ((o i : ℕ) (e : Edge) → D' o i → at o i ≡ Some e → PassesOn g.mode (reached_at ks o) → D o i ⊎ IsHadOrOffered ks offers o i e) → IsGrowing g at ks offers count s limit D'
-weaken g at ks offers count s limit D D' h part = record {
+pub weaken : (g : Standing) (at : ℕ → ℕ → Option Edge) (ks : List Reached) (offers : Offers) (s : Strength) (limit : ℕ) (D D' : ℕ → ℕ → Type 0) → IsGrowing g at ks offers s limit D
+    → ((o i : ℕ) (e : Edge) → D' o i → at o i ≡ Some e → PassesOn g.mode (reached_at ks o) → D o i ⊎ IsHadOrPromised at ks offers (rank (offered_strength ks e)) e.target) → IsGrowing g at ks offers s limit D'
+weaken g at ks offers s limit D D' h part = record {
   supported = h.supported;
   by_roots = h.by_roots;
-  stamps = h.stamps;
   by_edges = λ o i f done there p. elim (part o i f done there p) [
     | inl before ↦ h.by_edges o i f before there p
     | inr fact ↦ fact
@@ -102,82 +82,58 @@ weaken g at ks offers count s limit D D' h part = record {
   ceiling = h.ceiling;
 }
 
--- an offer to an object that is reached is let go
-pub decline : (g : Standing) (at : ℕ → ℕ → Option Edge) (ks : List Reached) (old new : Strength → List Offer) (count : ℕ) (s : Strength) (limit : ℕ) (D : ℕ → ℕ → Type 0) (x : Offer) (e : Edge)
-    → IsGrowing g at ks old count s limit D → Extends new old s x → at x.source x.index ≡ Some e → 1 ≤ rank_at ks e.target → IsGrowing g at ks new count s limit D
-decline g at ks old new count s limit D x e h t is reached = record {
+-- other offers, as many or more, each backed, with a limit that is as great or greater
+pub offer : (g : Standing) (at : ℕ → ℕ → Option Edge) (ks : List Reached) (old new : Offers) (s : Strength) (limit limit' : ℕ) (D : ℕ → ℕ → Type 0) → IsGrowing g at ks old s limit D → limit ≤ limit'
+    → ((t : Strength) (x : Offer) → old t x → new t x) → ((t : Strength) (x : Offer) → new t x → old t x ⊎ (IsBacked g.mode at ks t x × (rank t < limit'))) → IsGrowing g at ks new s limit' D
+offer g at ks old new s limit limit' D h le stay parts = record {
   supported = h.supported;
   by_roots = h.by_roots;
-  stamps = h.stamps;
-  by_edges = λ o i f done there p. elim (h.by_edges o i f done there p) [
-    | inl le ↦ inl le
-    | inr c ↦ elim (t.left (offered_strength ks f) (offer_at o i) c) [
-      | inr still ↦ inr still
-      | inl both ↦
-          let same : f ≡ e = edge_at_offer at x e is o i f both.1 there in
-          let gives : rank (offered_strength ks f) ≡ rank s = ap rank both.0 in
-          let to : rank_at ks f.target ≡ rank_at ks e.target = ap (λ (f : Edge). rank_at ks f.target) same in
-          inl (omega (arith, h.floor e.target reached))
-    ]
+  by_edges = λ o i f done there p. still_had at ks ks old new (λ o. omega arith) stay (rank (offered_strength ks f)) f.target (h.by_edges o i f done there p);
+  backed = λ t x c. elim (parts t x c) [
+    | inl before ↦ h.backed t x before
+    | inr made ↦ made.0
   ];
-  backed = λ r y c. h.backed r y (t.within r y c);
   floor = h.floor;
-  ceiling = λ r y c. h.ceiling r y (t.within r y c);
+  ceiling = λ t x c. elim (parts t x c) [
+    | inl before ↦ omega (arith, h.ceiling t x before)
+    | inr made ↦ made.1
+  ];
 }
 
--- one more edge is offered
-pub offer : (g : Standing) (at : ℕ → ℕ → Option Edge) (ks : List Reached) (old new : Strength → List Offer) (count : ℕ) (s : Strength) (limit : ℕ) (D : ℕ → ℕ → Type 0) (t : Strength) (x : Offer)
-    → IsGrowing g at ks old count s limit D → Extends old new t x → IsBacked g.mode at ks t x → rank t < limit → IsGrowing g at ks new count s limit D
-offer g at ks old new count s limit D t x h more back below = record {
+-- an offer to an object that has what it gives is let go
+pub decline : (g : Standing) (at : ℕ → ℕ → Option Edge) (ks : List Reached) (old new : Offers) (s : Strength) (limit : ℕ) (D : ℕ → ℕ → Type 0) (x : Offer) (e : Edge)
+    → IsGrowing g at ks old s limit D → at x.source x.index ≡ Some e → 1 ≤ rank_at ks e.target
+    → ((t : Strength) (y : Offer) → new t y → old t y) → ((t : Strength) (y : Offer) → old t y → ((t ≡ s) × (y ≡ x)) ⊎ new t y) → IsGrowing g at ks new s limit D
+decline g at ks old new s limit D x e h is reached within left = record {
   supported = h.supported;
   by_roots = h.by_roots;
-  stamps = h.stamps;
-  by_edges = λ o i f done there p. elim (h.by_edges o i f done there p) [
-    | inl le ↦ inl le
-    | inr c ↦ inr (more.within (offered_strength ks f) (offer_at o i) c)
-  ];
-  backed = λ r y c. elim (more.left r y c) [
-    | inl both ↦ subst (λ (y : Offer). IsBacked g.mode at ks r y) (sym both.1) (subst (λ (r : Strength). IsBacked g.mode at ks r x) (sym both.0) back)
-    | inr before ↦ h.backed r y before
-  ];
+  by_edges = λ o i f done there p. still_had_but at ks old new s x e is (h.floor e.target reached) left (rank (offered_strength ks f)) f.target (h.by_edges o i f done there p);
+  backed = λ t y c. h.backed t y (within t y c);
   floor = h.floor;
-  ceiling = λ r y c. elim (more.left r y c) [
-    | inl both ↦ let same : rank r ≡ rank t = ap rank both.0 in omega arith
-    | inr before ↦ h.ceiling r y before
-  ];
+  ceiling = λ t y c. h.ceiling t y (within t y c);
 }
 
 -- once no offer of the strength is left each is of less
-pub none_left : (g : Standing) (at : ℕ → ℕ → Option Edge) (ks : List Reached) (old new : Strength → List Offer) (count : ℕ) (s : Strength) (D : ℕ → ℕ → Type 0)
-    → IsGrowing g at ks old count s (rank s + 1) D → old s ≡ [] → ((t : Strength) → new t ≡ old t) → IsGrowing g at ks new count s (rank s) D
-none_left g at ks old new count s D h none same =
-    let back : (t : Strength) (x : Offer) → Contains (new t) x → Contains (old t) x = λ t x c. subst (λ (xs : List Offer). Contains xs x) (same t) c in
-    record {
-      supported = h.supported;
-      by_roots = h.by_roots;
-      stamps = h.stamps;
-      by_edges = λ o i f done there p. elim (h.by_edges o i f done there p) [
-        | inl le ↦ inl le
-        | inr c ↦ inr (subst (λ (xs : List Offer). Contains xs (offer_at o i)) (sym (same (offered_strength ks f))) c)
-      ];
-      backed = λ t x c. h.backed t x (back t x c);
-      floor = h.floor;
-      ceiling = λ t x c. elim (strength_cases t s) [
-        | inl is ↦ absurd (Contains-nil x (subst (λ (xs : List Offer). Contains xs x) none (subst (λ (t : Strength). Contains (old t) x) is (back t x c))))
-        | inr other ↦ elim (cases_eq (rank t) (rank s)) [
-          | inl one ↦ absurd (other (same_rank t s one))
-          | inr less ↦ omega (arith, h.ceiling t x (back t x c))
-        ]
-      ];
-    }
-
--- what is reached has more than a lesser strength
-pub descend : (g : Standing) (at : ℕ → ℕ → Option Edge) (ks : List Reached) (offers : Strength → List Offer) (count : ℕ) (s next : Strength) (limit : ℕ) (D : ℕ → ℕ → Type 0)
-    → IsGrowing g at ks offers count s limit D → rank next ≤ rank s → IsGrowing g at ks offers count next limit D
-descend g at ks offers count s next limit D h le = record {
+pub none_left : (g : Standing) (at : ℕ → ℕ → Option Edge) (ks : List Reached) (offers : Offers) (s : Strength) (D : ℕ → ℕ → Type 0)
+    → IsGrowing g at ks offers s (rank s + 1) D → ((x : Offer) → offers s x → ⊥) → IsGrowing g at ks offers s (rank s) D
+none_left g at ks offers s D h none = record {
   supported = h.supported;
   by_roots = h.by_roots;
-  stamps = h.stamps;
+  by_edges = h.by_edges;
+  backed = h.backed;
+  floor = h.floor;
+  ceiling = λ t x c. elim (cases_eq (rank t) (rank s)) [
+    | inl one ↦ absurd (none x (subst (λ (t : Strength). offers t x) (same_rank t s one) c))
+    | inr less ↦ omega (arith, h.ceiling t x c)
+  ];
+}
+
+-- what is reached has more than a lesser strength
+pub descend : (g : Standing) (at : ℕ → ℕ → Option Edge) (ks : List Reached) (offers : Offers) (s next : Strength) (limit : ℕ) (D : ℕ → ℕ → Type 0)
+    → IsGrowing g at ks offers s limit D → rank next ≤ rank s → IsGrowing g at ks offers next limit D
+descend g at ks offers s next limit D h le = record {
+  supported = h.supported;
+  by_roots = h.by_roots;
   by_edges = h.by_edges;
   backed = h.backed;
   floor = λ o reached. omega (arith, h.floor o reached);
@@ -185,12 +141,13 @@ descend g at ks offers count s next limit D h le = record {
 }
 
 -- an object takes what an edge gives it, which is the strength that is spread
-module _ (g : Standing) (at : ℕ → ℕ → Option Edge) (rows : AreRows g at) (ks ks' : List Reached) (old new : Strength → List Offer) (count : ℕ) (s : Strength) (limit : ℕ) (D D' : ℕ → ℕ → Type 0) (x : Offer) (e : Edge)
-    (h : IsGrowing g at ks old count s limit D)
-    (within : (t : Strength) (y : Offer) → Contains (new t) y → Contains (old t) y)
-    (left : (t : Strength) (y : Offer) → Contains (old t) y → (y ≡ x) ⊎ Contains (new t) y)
+module _ (g : Standing) (at : ℕ → ℕ → Option Edge) (rows : AreRows g at) (ks ks' : List Reached) (old new : Offers) (s : Strength) (limit : ℕ) (D D' : ℕ → ℕ → Type 0) (x : Offer) (e : Edge)
+    (h : IsGrowing g at ks old s limit D)
+    (within : (t : Strength) (y : Offer) → new t y → old t y)
+    (stay : (t : Strength) (y : Offer) → old t y → new t y)
     (is : at x.source x.index ≡ Some e) (passes_on : PassesOn g.mode (reached_at ks x.source)) (gives : s ≡ offered_strength ks e) (low : rank_at ks e.target ≡ 0)
-    (here : reached_at ks' e.target ≡ record { strength = s; support = supports.Edge e.source e.slot; stamp = count + 1 })
+    (stamp : ℕ) (last : (reached_at ks x.source).stamp ≤ stamp)
+    (here : reached_at ks' e.target ≡ record { strength = s; support = supports.Edge e.source e.slot; stamp = stamp + 1 })
     (others : (o : ℕ) → o ≢ e.target → reached_at ks' o ≡ reached_at ks o)
     (part : (o i : ℕ) → D' o i → PassesOn g.mode (reached_at ks' o) → D o i × (o ≢ e.target)) where
   source : e.source ≡ x.source
@@ -200,7 +157,7 @@ module _ (g : Standing) (at : ℕ → ℕ → Option Edge) (rows : AreRows g at)
   passes = subst (λ (o : ℕ). PassesOn g.mode (reached_at ks o)) (sym source) passes_on
 
   -- what is reached stays
-  stays : (o : ℕ) → 1 ≤ rank_at ks o → reached_at ks' o ≡ reached_at ks o
+  pub stays : (o : ℕ) → 1 ≤ rank_at ks o → reached_at ks' o ≡ reached_at ks o
   stays o reached = others o (λ same. let l : rank_at ks o ≡ 0 = ap (rank_at ks) same ∙ low in omega arith)
 
   rank_here : rank_at ks' e.target ≡ rank s
@@ -239,7 +196,7 @@ module _ (g : Standing) (at : ℕ → ℕ → Option Edge) (rows : AreRows g at)
     strength = rw (here, source_stays) gives;
     earlier = rw (here, source_stays) (elim (cases_lt (rank s) (rank_at ks e.source)) [
       | inl less ↦ inl less
-      | inr more ↦ inr (omega (arith, less), omega (arith, h.stamps e.source))
+      | inr more ↦ inr (omega (arith, less), omega (arith, ap (λ (o : ℕ). (reached_at ks o).stamp) source))
     ]);
   }
 
@@ -249,14 +206,8 @@ module _ (g : Standing) (at : ℕ → ℕ → Option Edge) (rows : AreRows g at)
     | inr other ↦ rw (ap (λ (k : Reached). k.support) (others o other)) (kept_support o (reached_at ks o).support (others o other) (h.supported o))
   ]
 
-  stamps : (o : ℕ) → (reached_at ks' o).stamp ≤ count + 1
-  stamps o = elim (cases_eq o e.target) [
-    | inl same ↦ rw (same, here) (omega arith)
-    | inr other ↦ rw (others o other) (omega (arith, h.stamps o))
-  ]
-
   -- no rank falls
-  raises : (o : ℕ) → rank_at ks o ≤ rank_at ks' o
+  pub raises : (o : ℕ) → rank_at ks o ≤ rank_at ks' o
   raises o = elim (cases_eq o e.target) [
     | inl same ↦ let r : rank_at ks o ≡ 0 = ap (rank_at ks) same ∙ low in omega arith
     | inr other ↦ let r : rank_at ks' o ≡ rank_at ks o = ap (λ (k : Reached). rank k.strength) (others o other) in omega arith
@@ -272,7 +223,7 @@ module _ (g : Standing) (at : ℕ → ℕ → Option Edge) (rows : AreRows g at)
   same_offered_strength : (f : Edge) → reached_at ks' f.source ≡ reached_at ks f.source → offered_strength ks' f ≡ offered_strength ks f
   same_offered_strength f same = ap (λ (k : Reached). weaker_of k.strength (given_by f.kind)) same
 
-  still_backed : (r : Strength) (y : Offer) → IsBacked g.mode at ks r y → IsBacked g.mode at ks' r y
+  pub still_backed : (r : Strength) (y : Offer) → IsBacked g.mode at ks r y → IsBacked g.mode at ks' r y
   still_backed r y b =
       let there : reached_at ks' y.source ≡ reached_at ks y.source = stays y.source (omega (arith, b.passes_on, least-positive g.mode)) in
       let from : b.edge.source ≡ y.source = rows.source y.source y.index b.edge b.is in
@@ -283,28 +234,17 @@ module _ (g : Standing) (at : ℕ → ℕ → Option Edge) (rows : AreRows g at)
         gives = b.gives ∙ sym (same_offered_strength b.edge (subst (λ (o : ℕ). reached_at ks' o ≡ reached_at ks o) (sym from) there));
       }
 
-  still_done : (o i : ℕ) (f : Edge) → D o i → o ≢ e.target → at o i ≡ Some f → PassesOn g.mode (reached_at ks' o) → IsHadOrOffered ks' new o i f
+  still_done : (o i : ℕ) (f : Edge) → D o i → o ≢ e.target → at o i ≡ Some f → PassesOn g.mode (reached_at ks' o) → IsHadOrPromised at ks' new (rank (offered_strength ks' f)) f.target
   still_done o i f done other there p =
       let same : reached_at ks' o ≡ reached_at ks o = others o other in
-      let offered_strengths : offered_strength ks' f ≡ offered_strength ks f = same_offered_strength f (subst (λ (o : ℕ). reached_at ks' o ≡ reached_at ks o) (sym (rows.source o i f there)) same) in
-      let ranks : rank (offered_strength ks' f) ≡ rank (offered_strength ks f) = ap rank offered_strengths in
-      elim (h.by_edges o i f done there (rw (← same) p)) [
-        | inl le ↦ inl (omega (arith, raises f.target))
-        | inr c ↦ elim (left (offered_strength ks f) (offer_at o i) c) [
-          | inr still ↦ inr (subst (λ (r : Strength). Contains (new r) (offer_at o i)) (sym offered_strengths) still)
-          | inl taken ↦
-              let edge : f ≡ e = edge_at_offer at x e is o i f taken there in
-              let to : rank_at ks' f.target ≡ rank_at ks' e.target = ap (λ (f : Edge). rank_at ks' f.target) edge in
-              let gave : rank (offered_strength ks f) ≡ rank s = ap rank (ap (offered_strength ks) edge ∙ sym gives) in
-              inl (omega (arith, rank_here))
-        ]
-      ]
+      let from : offered_strength ks' f ≡ offered_strength ks f = same_offered_strength f (subst (λ (o : ℕ). reached_at ks' o ≡ reached_at ks o) (sym (rows.source o i f there)) same) in
+      subst (λ (r : Strength). IsHadOrPromised at ks' new (rank r) f.target) (sym from)
+      (still_had at ks ks' old new raises stay (rank (offered_strength ks f)) f.target (h.by_edges o i f done there (rw (← same) p)))
 
-  pub take : IsGrowing g at ks' new (count + 1) s limit D'
+  pub take : IsGrowing g at ks' new s limit D'
   take = record {
     supported = supported;
     by_roots = λ r c. let strong : (reached_at ks r.target).strength ≡ strengths.Strong = h.by_roots r c in rw (stays r.target (rw strong (omega arith))) strong;
-    stamps = stamps;
     by_edges = λ o i f done there p. let before : D o i × (o ≢ e.target) = part o i done p in still_done o i f before.0 before.1 there p;
     backed = λ r y c. still_backed r y (h.backed r y (within r y c));
     floor = floor;
@@ -312,15 +252,15 @@ module _ (g : Standing) (at : ℕ → ℕ → Option Edge) (rows : AreRows g at)
   }
 
 -- once no offer is left all is settled
-pub settled_in_the_end : (g : Standing) (at : ℕ → ℕ → Option Edge) → AreRows g at → (ks : List Reached) (offers : Strength → List Offer) (count : ℕ) (s : Strength) (limit : ℕ) (D : ℕ → ℕ → Type 0) → IsGrowing g at ks offers count s limit D
-    → ((t : Strength) (x : Offer) → Contains (offers t) x → ⊥) → ((o i : ℕ) → D o i) → Settled g ks
-settled_in_the_end g at rows ks offers count s limit D h none all = record {
+pub settled_in_the_end : (g : Standing) (at : ℕ → ℕ → Option Edge) → AreRows g at → (ks : List Reached) (offers : Offers) (s : Strength) (limit : ℕ) (D : ℕ → ℕ → Type 0) → IsGrowing g at ks offers s limit D
+    → ((t : Strength) (x : Offer) → offers t x → ⊥) → ((o i : ℕ) → D o i) → Settled g ks
+settled_in_the_end g at rows ks offers s limit D h none all = record {
   supported = h.supported;
   by_roots = h.by_roots;
   by_edges = λ e c p.
       let index : (i : ℕ) × (at e.source i ≡ Some e) = rows.all e c in
       elim (h.by_edges e.source index.0 e (all e.source index.0) index.1 p) [
         | inl le ↦ le
-        | inr offer ↦ absurd (none (offered_strength ks e) (offer_at e.source index.0) offer)
+        | inr offer ↦ absurd (none offer.strength offer.offer offer.made)
       ];
 }

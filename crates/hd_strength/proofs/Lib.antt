@@ -2,8 +2,14 @@ pub mod Lists
 pub mod FoundLemmas
 pub mod RemovedLemmas
 pub mod RowLemmas
+pub mod Weights
+pub mod Rowed
 pub mod Grow
-pub mod Holding
 pub mod Spreading
-pub mod SeenLemmas
-pub mod Checked
+pub mod Accepting
+pub mod Going
+pub mod Taking
+pub mod Ending
+pub mod Holding
+pub mod Joining
+pub mod Reading

@@ -1,4 +1,4 @@
-use Rattle.std.proofs.Common.{◌≡◌, ◌∙◌, ℕ, zero, suc, ◌+◌, ◌<◌, ◌⊎◌, inl, inr, List, [], ◌∷◌, ◌++◌, Contains, length, get_or, cond, zero-add, Option, None, Some, slice_get, map, replicate, Bool, true, false, refl, sym, ap, arith}
+use Rattle.std.proofs.Common.{◌≡◌, ◌∙◌, ℕ, zero, suc, ◌+◌, ◌<◌, ◌≤◌, ◌⊎◌, inl, inr, List, [], ◌∷◌, ◌++◌, Contains, length, get_or, cond, zero-add, Option, None, Some, slice_get, map, replicate, Bool, true, false, refl, sym, ap, arith}
 use Rattle.std.specs.List.{flat_map, filter, filter_map, cons_option, enumerate_from}
 use Rattle.std.proofs.lemmas.Option.{get_or_from_slice_get, slice_get-get_or, slice_get_within}
 use Rattle.std.proofs.lemmas.List.Elements.{Contains-append_left, Contains-append_right, Contains-append_cases}
@@ -137,3 +137,8 @@ read_is xs i d x lt is = get_or_default xs i d x lt ∙ sym is
 pub map-replicate : {X Y : Type 0} (f : X → Y) (n : ℕ) (x : X) → map f (replicate n x) ≡ replicate n (f x)
 map-replicate f zero x = refl
 map-replicate f (suc n) x = ap (λ (ys : List _). f x ∷ ys) (map-replicate f n x)
+
+-- a list without length has nothing
+pub none-long : {X : Type 0} (xs : List X) → length xs ≤ 0 → xs ≡ []
+none-long [] h = refl
+none-long (x ∷ xs) h = absurd (omega arith)

@@ -1,344 +1,164 @@
-use Rattle.std.proofs.Common.{◌≡◌, ◌≢◌, ◌∙◌, ℕ, ◌+◌, ◌<◌, ◌≤◌, ◌⊎◌, inl, inr, List, [], ◌∷◌, ◌++◌, Contains, length, length-append, Some, refl, sym, ap, subst, arith}
-use Rattle.std.proofs.lemmas.Bool.{cases_eq, cases_lt}
-use Rattle.std.proofs.lemmas.List.{get_or-set_same, get_or-set_other, length-set}
-use Rattle.std.proofs.lemmas.List.Elements.{Contains-push, Contains-push_cases, Contains-append_left}
-use Rattle.std.proofs.lemmas.List.Sums.{sum_by-set}
+use Rattle.std.proofs.Common.{◌≡◌, ◌≢◌, ◌∙◌, ℕ, ◌+◌, ◌-◌, ◌<◌, ◌≤◌, ◌⊎◌, inl, inr, Bool, true, List, Contains, length, set, get_or, Some, slice_get, sum_by, refl, sym, ap, subst, arith}
+use Rattle.std.proofs.lemmas.Bool.{cases_eq}
+use Rattle.std.proofs.lemmas.Option.{slice_get_within, get_or_from_slice_get}
+use Rattle.std.proofs.lemmas.List.Sums.{sum_by-set, get_or-le-sum_by}
 use Rattle.hd_terms.specs.declared.Event.{Event}
-use Rattle.hd_terms.specs.declared.Mode.{Mode}
 use Rattle.hd_terms.specs.declared.Slot.{Slot}
 use Rattle.hd_terms.specs.declared.Strength.{Strength}
-use Rattle.hd_terms.specs.declared.Strength.TheVariants as strengths
 use Rattle.hd_terms.specs.declared.Support.TheVariants as supports
-use Rattle.hd_terms.specs.Ranks.{rank, given_by, least_passed_on, IsPassedOn}
-use Rattle.hd_terms.proofs.RankLemmas.{least-positive, same_rank, weaker-greatest, given-positive}
+use Rattle.hd_terms.specs.Ranks.{rank, given_by}
+use Rattle.hd_terms.proofs.RankLemmas.{weaker-greatest, given-positive}
 use Rattle.hd_terms.specs.Paths.{Edge}
 use Rattle.hd_terms.specs.Dump.{Dump}
 use Rattle.hd_terms.specs.EditedDump.{standing}
-use Rattle.hd_terms.specs.Settled.{Reached, reached_at, unreached, PassesOn, Settled}
+use Rattle.hd_terms.specs.Settled.{Reached, reached_at}
 use Rattle.hd_strength.specs.declared.buckets.Offer.{Offer}
-use Rattle.hd_strength.specs.declared.buckets.Buckets.{Buckets}
-use Rattle.hd_strength.specs.declared.scratch.Search.{Search}
-use Rattle.hd_strength.specs.Buckets.{bucket, TakesFirst}
-use Rattle.hd_strength.specs.Found.{Findings}
-use Rattle.hd_strength.specs.Rows.{width, edge_at}
-use Rattle.hd_strength.specs.Growing.{rank_at, offered_strength, offer_at, IsBacked, IsHadOrOffered, IsGrowing, IsSearching, NotQueued, NotQueuedBelow, HasComeTo, HasAccepted, Reaches, IsPassedOver, IsAccepted, IsOffered, IsTakenOut, HasNoneQueued, unreached_count, to_do}
-use Rattle.hd_strength.proofs.Lists.{Contains-nil}
-use Rattle.hd_strength.proofs.RowLemmas.{edge_stands_at, at_source, edge_has_index, is_at, IsAt}
-use Rattle.hd_strength.proofs.Grow.{AreRows, Extends, extends, extends-first, weaken, decline, offer, none_left, descend, take, offered_strength-le, settled_in_the_end}
-use Rattle.hd_strength.proofs.Holding.{weight, weight-none, weight-some}
+use Rattle.hd_strength.specs.declared.part.Part.{Part}
+use Rattle.hd_strength.specs.Buckets.{bucket}
+use Rattle.hd_strength.specs.Found.{Findings, seen}
+use Rattle.hd_strength.specs.Rows.{edge_at}
+use Rattle.hd_strength.specs.Growing.{rank_at, offered_strength, IsHadOrPromised, IsGrowing, unreached_count}
+use Rattle.hd_strength.specs.Parts.{IsOwn, found_at, is_handed, unreached_of, unreached_in, IsOfferedIn, IsDoneIn, IsFit, IsPartOf, IsSearching}
+use Rattle.hd_strength.proofs.RowLemmas.{edge_stands_at, at_source, edge_has_index}
+use Rattle.hd_strength.proofs.FoundLemmas.{seen-strength}
+use Rattle.hd_strength.proofs.Rowed.{slice_get-set_same, slice_get-set_other, slice_get-set_cases, one_there, row-set, row-one}
+use Rattle.hd_strength.proofs.Grow.{AreRows}
 
 -- the rows of a dump
-rows_of : (dump : Dump) (log : List Event) → AreRows (standing dump log) (edge_at dump log)
+pub rows_of : (dump : Dump) (log : List Event) → AreRows (standing dump log) (edge_at dump log)
 rows_of dump log = record { stands = edge_stands_at dump log; source = at_source dump log; all = edge_has_index dump log }
 
 -- what is kept of the target of an edge
-abbrev kept_by : Strength → ℕ → Slot → ℕ → Reached
+abbrev pub kept_by : Strength → ℕ → Slot → ℕ → Reached
 kept_by s source slot stamp = record { strength = s; support = supports.Edge source slot; stamp = stamp }
 
 -- what an edge gives is something, where its source is reached
 pub offered_strength-some : (ks : List Reached) (e : Edge) → 1 ≤ rank_at ks e.source → 1 ≤ rank (offered_strength ks e)
 offered_strength-some ks e reached = weaker-greatest 1 (reached_at ks e.source).strength (given_by e.kind) reached (given-positive e.kind)
 
--- an object is reached
-module _ (mode : Mode) (old new : Search) (s : Strength) (source : ℕ) (slot : Slot) (target : ℕ) (r : Reaches (λ k. k) mode old new s source slot target) (lt : target < length old.found.list) where
-  here : reached_at new.found.list target ≡ kept_by s source slot (old.count + 1)
-  here = ap (λ (f : Findings). reached_at f.list target) r.kept ∙ get_or-set_same old.found.list target (kept_by s source slot (old.count + 1)) unreached lt
+-- a sum over parts of which one takes the place of another
+pub sum-set : (f : Part → ℕ) (parts : List Part) (k : ℕ) (old new : Part) → slice_get parts k ≡ Some old → sum_by f (set parts k new) + f old ≡ sum_by f parts + f new
+sum-set f parts k old new there =
+    let lt : k < length parts = slice_get_within parts k old there in
+    let here : get_or parts k old ≡ old = get_or_from_slice_get parts k old old there in
+    omega (arith, sum_by-set f parts k new old lt, ap f here)
 
-  others : (o : ℕ) → o ≢ target → reached_at new.found.list o ≡ reached_at old.found.list o
-  others o ne = ap (λ (f : Findings). reached_at f.list o) r.kept ∙ get_or-set_other old.found.list target o (kept_by s source slot (old.count + 1)) unreached ne
+-- no part counts more than all
+pub part-le-sum : (f : Part → ℕ) (parts : List Part) (k : ℕ) (p : Part) → slice_get parts k ≡ Some p → f p ≤ sum_by f parts
+part-le-sum f parts k p there =
+    let lt : k < length parts = slice_get_within parts k p there in
+    omega (arith, get_or-le-sum_by f parts k p lt, ap f (get_or_from_slice_get parts k p p there))
 
-  same_length : length new.found.list ≡ length old.found.list
-  same_length = ap (λ (f : Findings). length f.list) r.kept ∙ length-set old.found.list target (kept_by s source slot (old.count + 1))
+-- what a part says of its own is what is kept
+module _ (dump : Dump) (log : List Event) (parts : List Part) (ks : List Reached) (whole : Bool) (s : Strength) (limit : ℕ) (D : ℕ → ℕ → Type 0) (k : ℕ) (p : Part)
+    (h : IsSearching dump log parts ks whole s limit D) (there : slice_get parts k ≡ Some p) where
+  pub own_strength : (o : ℕ) → IsOwn p o → (found_at p o).strength ≡ (reached_at ks o).strength
+  own_strength o own = ap (λ (k : Reached). k.strength) ((h.each k p there).own o own) ∙ seen-strength whole (reached_at ks o)
 
-  fewer : rank_at old.found.list target ≡ 0 → 1 ≤ rank s → unreached_count new.found.list + 1 ≡ unreached_count old.found.list
-  fewer low some =
-      let k : Reached = kept_by s source slot (old.count + 1) in
-      omega (arith, ap (λ (f : Findings). unreached_count f.list) r.kept, sum_by-set weight old.found.list target k unreached lt, weight-none (reached_at old.found.list target) low, weight-some k some)
+  pub own_rank : (o : ℕ) → IsOwn p o → rank (found_at p o).strength ≡ rank_at ks o
+  own_rank o own = ap rank (own_strength o own)
 
-  -- an object of the strength that is spread still has it
-  still : (o : ℕ) → (reached_at old.found.list o).strength ≡ s → (reached_at new.found.list o).strength ≡ s
-  still o is = elim (cases_eq o target) [
-    | inl same ↦ ap (λ (o : ℕ). (reached_at new.found.list o).strength) same ∙ ap (λ (k : Reached). k.strength) here
-    | inr other ↦ ap (λ (k : Reached). k.strength) (others o other) ∙ is
+  pub own_within : (o : ℕ) → IsOwn p o → o < length ks
+  own_within o own = let f = (h.each k p there).fit in omega (arith, own.last, f.within, h.objects)
+
+-- one part takes the place of another
+module _ (parts : List Part) (k : ℕ) (old new : Part) (there : slice_get parts k ≡ Some old) where
+  abbrev after : List Part
+  after = set parts k new
+
+  pub here_after : slice_get after k ≡ Some new
+  here_after = slice_get-set_same parts k old new there
+
+  pub there_after : (j : ℕ) (p : Part) → j ≢ k → slice_get parts j ≡ Some p → slice_get after j ≡ Some p
+  there_after j p ne before = slice_get-set_other parts k j new ne ∙ before
+
+  -- what is offered is offered by the new part, or was
+  pub offered_cases : (t : Strength) (x : Offer) → IsOfferedIn after t x → Contains (bucket new.buckets t) x ⊎ ((j : ℕ) × (p : Part) × (j ≢ k) × (slice_get parts j ≡ Some p) × Contains (bucket p.buckets t) x)
+  offered_cases t x c = elim (slice_get-set_cases parts k c.index old new c.part there c.there) [
+    | inl both ↦ inl (subst (λ (p : Part). Contains (bucket p.buckets t) x) both.1 c.made)
+    | inr other ↦ inr (c.index, c.part, other.0, other.1, c.made)
   ]
 
-  still_queued : (o : ℕ) → Contains old.queue o → Contains new.queue o
-  still_queued o c = elim (cases_lt (rank s) (rank (least_passed_on mode))) [
-    | inl low ↦ subst (λ (xs : List ℕ). Contains xs o) (sym (r.not_queued (λ high. omega arith))) c
-    | inr high ↦ subst (λ (xs : List ℕ). Contains xs o) (sym (r.queued high)) (Contains-append_left old.queue (target ∷ []) o c)
+  -- no less is offered, where the new part has the old one's offers
+  pub offers_stay : ((t : Strength) (x : Offer) → Contains (bucket old.buckets t) x → Contains (bucket new.buckets t) x) → (t : Strength) (x : Offer) → IsOfferedIn parts t x → IsOfferedIn after t x
+  offers_stay stay t x c = elim (cases_eq c.index k) [
+    | inl same ↦
+        let is : c.part ≡ old = one_there parts k c.part old (subst (λ (j : ℕ). slice_get parts j ≡ Some c.part) same c.there) there in
+        record { index = k; part = new; there = here_after; made = stay t x (subst (λ (p : Part). Contains (bucket p.buckets t) x) is c.made) }
+    | inr other ↦ record { index = c.index; part = c.part; there = there_after c.index c.part other c.there; made = c.made }
   ]
 
-  -- what is not queued and passes its strength on is another object
-  another : (o : ℕ) → (Contains new.queue o → ⊥) → PassesOn mode (reached_at new.found.list o) → o ≢ target
-  another o apart p same =
-      let is : rank_at new.found.list o ≡ rank s = ap (rank_at new.found.list) same ∙ ap (λ (k : Reached). rank k.strength) here in
-      apart (subst (λ (xs : List ℕ). Contains xs o) (sym (r.queued (omega (arith, p)))) (subst (λ (t : ℕ). Contains (old.queue ++ t ∷ []) o) same (Contains-push old.queue o)))
-
-  queued_after : ((o : ℕ) → Contains old.queue o → ((reached_at old.found.list o).strength ≡ s) × IsPassedOn mode s) → (o : ℕ) → Contains new.queue o → ((reached_at new.found.list o).strength ≡ s) × IsPassedOn mode s
-  queued_after h o c = elim (cases_lt (rank s) (rank (least_passed_on mode))) [
-    | inl low ↦ let before = h o (subst (λ (xs : List ℕ). Contains xs o) (r.not_queued (λ high. omega arith)) c) in (still o before.0, before.1)
-    | inr high ↦ elim (Contains-push_cases old.queue target o (subst (λ (xs : List ℕ). Contains xs o) (r.queued high) c)) [
-      | inl before ↦ (still o (h o before).0, high)
-      | inr same ↦ (ap (λ (o : ℕ). (reached_at new.found.list o).strength) (sym same) ∙ ap (λ (k : Reached). k.strength) here, high)
-    ]
+  -- nothing more is offered, where the new part has no other offers
+  pub offers_within : ((t : Strength) (x : Offer) → Contains (bucket new.buckets t) x → Contains (bucket old.buckets t) x) → (t : Strength) (x : Offer) → IsOfferedIn after t x → IsOfferedIn parts t x
+  offers_within within t x c = elim (offered_cases t x c) [
+    | inl made ↦ record { index = k; part = old; there = there; made = within t x made }
+    | inr before ↦ record { index = before.0; part = before.1; there = before.3; made = before.4 }
   ]
 
-  queue_grows : length new.queue ≤ length old.queue + 1
-  queue_grows = elim (cases_lt (rank s) (rank (least_passed_on mode))) [
-    | inl low ↦ omega (arith, ap length (r.not_queued (λ high. omega arith)))
-    | inr high ↦ omega (arith, ap length (r.queued high), length-append old.queue (target ∷ []))
+  -- an object that is done was done, if it wasn't queued by the old part
+  pub done_before : (o : ℕ) → IsDoneIn after o → (Contains old.queue o → ⊥) → IsDoneIn parts o
+  done_before o done apart j p before c = elim (cases_eq j k) [
+    | inl same ↦
+        let is : p ≡ old = one_there parts k p old (subst (λ (j : ℕ). slice_get parts j ≡ Some p) same before) there in
+        apart (subst (λ (p : Part). Contains p.queue o) is c)
+    | inr other ↦ done j p (there_after j p other before) c
   ]
 
--- a search with other buckets
-abbrev pub with_buckets : Search → Buckets → Search
-with_buckets search b = record { found = search.found; buckets = b; queue = search.queue; count = search.count }
+  pub not_queued_after : (o : ℕ) → IsDoneIn after o → Contains new.queue o → ⊥
+  not_queued_after o done c = done k new here_after c
 
--- an object takes what an edge gives it
-module _ (dump : Dump) (log : List Event) (search new : Search) (b : Buckets) (s : Strength) (limit : ℕ) (D D' : ℕ → ℕ → Type 0) (x : Offer)
-    (h : IsSearching dump log search s limit D)
-    (within : (t : Strength) (y : Offer) → Contains (bucket b t) y → Contains (bucket search.buckets t) y)
-    (left : (t : Strength) (y : Offer) → Contains (bucket search.buckets t) y → (y ≡ x) ⊎ Contains (bucket b t) y)
-    (passes : PassesOn dump.mode (reached_at search.found.list x.source)) (some : 1 ≤ rank s)
-    (a : IsAccepted (λ k. k) dump.mode (edge_at dump log) (with_buckets search b) new s x.source x.index)
-    (part : (o i : ℕ) → D' o i → (Contains new.queue o → ⊥) × ((Contains search.queue o → ⊥) → D o i)) where
-  abbrev old : Search
-  old = with_buckets search b
+-- a search where one part takes the place of another
+module _ (dump : Dump) (log : List Event) (parts : List Part) (ks : List Reached) (whole : Bool) (s : Strength) (limit : ℕ) (D : ℕ → ℕ → Type 0) (k : ℕ) (old new : Part)
+    (h : IsSearching dump log parts ks whole s limit D) (there : slice_get parts k ≡ Some old) (same_first : new.first ≡ old.first) (same_length : length new.found.list ≡ length old.found.list) where
+  pub own_before : (o : ℕ) → IsOwn new o → IsOwn old o
+  own_before o own = record { first = omega (arith, own.first); last = omega (arith, own.last) }
 
-  abbrev e : Edge
-  e = a.edge
-
-  still_few : unreached_count new.found.list + 1 ≡ unreached_count search.found.list
-  still_few = fewer dump.mode old new s e.source e.slot e.target a.reaches a.object a.unreached some
-
-  grown : IsGrowing (standing dump log) (edge_at dump log) new.found.list (bucket b) (search.count + 1) s limit D'
-  grown = take (standing dump log) (edge_at dump log) (rows_of dump log) search.found.list new.found.list (bucket search.buckets) (bucket b) search.count s limit D D' x e
-      h.growing within left a.is passes a.gives a.unreached
-      (here dump.mode old new s e.source e.slot e.target a.reaches a.object)
-      (others dump.mode old new s e.source e.slot e.target a.reaches a.object)
-      (λ o i done p.
-      let both : (Contains new.queue o → ⊥) × ((Contains search.queue o → ⊥) → D o i) = part o i done in (
-        both.1 (λ c. both.0 (still_queued dump.mode old new s e.source e.slot e.target a.reaches a.object o c)),
-        another dump.mode old new s e.source e.slot e.target a.reaches a.object o both.0 p,
-      ))
-
-  accepted : IsSearching dump log new s limit D'
-  accepted = record {
-    growing = rw (a.reaches.same_buckets, a.reaches.counted) grown;
-    queued = queued_after dump.mode old new s e.source e.slot e.target a.reaches a.object h.queued;
-    objects = same_length dump.mode old new s e.source e.slot e.target a.reaches a.object ∙ h.objects;
-    few = h.few;
-    stamps = omega (arith, still_few, a.reaches.counted, h.stamps);
+  pub changed : (ks' : List Reached) (limit' : ℕ) (D' : ℕ → ℕ → Type 0)
+      → IsGrowing (standing dump log) (edge_at dump log) ks' (IsOfferedIn (set parts k new)) s limit' (λ o i. IsDoneIn (set parts k new) o × D' o i)
+      → IsFit dump s new → new.found.whole ≡ old.found.whole
+      → ((o : ℕ) → IsOwn new o → found_at new o ≡ seen whole (reached_at ks' o)) → ((o : ℕ) → IsOwn new o → (reached_at ks' o).stamp ≤ new.count)
+      → new.count + unreached_in (set parts k new) ≤ length dump.objects → unreached_in (set parts k new) ≤ unreached_in parts
+      → ((o : ℕ) → (IsOwn old o → ⊥) → reached_at ks' o ≡ reached_at ks o)
+      → ((given o : ℕ) → IsHadOrPromised (edge_at dump log) ks (IsOfferedIn parts) given o → IsHadOrPromised (edge_at dump log) ks' (IsOfferedIn (set parts k new)) given o)
+      → ((o : ℕ) → is_handed new o ≡ true → IsHadOrPromised (edge_at dump log) ks' (IsOfferedIn (set parts k new)) (rank s) o)
+      → length ks' ≡ length ks → IsSearching dump log (set parts k new) ks' whole s limit' D'
+  changed ks' limit' D' growing fit same_whole own stamps room fewer others had handed same_count = record {
+    growing = growing;
+    each = λ j p at. elim (slice_get-set_cases parts k j old new p there at) [
+      | inl both ↦ subst (λ (p : Part). IsPartOf dump (edge_at dump log) ks' whole s (unreached_in (set parts k new)) (IsOfferedIn (set parts k new)) p) (sym both.1) (record {
+        fit = fit;
+        alike = same_whole ∙ (h.each k old there).alike;
+        own = own;
+        stamps = stamps;
+        room = room;
+        handed = handed;
+      })
+      | inr other ↦
+          let q = h.each j p other.1 in
+          let apart : (o : ℕ) → IsOwn p o → reached_at ks' o ≡ reached_at ks o = λ o mine. others o (λ his. other.0 (row-one parts 0 (length dump.objects) j k o p old h.row other.1 there mine his)) in
+          record {
+            fit = q.fit;
+            alike = q.alike;
+            own = λ o mine. q.own o mine ∙ ap (seen whole) (sym (apart o mine));
+            stamps = λ o mine. omega (arith, q.stamps o mine, ap (λ (k : Reached). k.stamp) (apart o mine));
+            room = omega (arith, q.room);
+            handed = λ o flag. had (rank s) o (q.handed o flag);
+          }
+    ];
+    row = row-set parts 0 (length dump.objects) k old new h.row there same_first same_length;
+    objects = same_count ∙ h.objects;
   }
 
-  less : to_do new ≤ to_do search
-  less = omega (arith, still_few, queue_grows dump.mode old new s e.source e.slot e.target a.reaches a.object)
-
--- an offer is taken out, and let go or accepted
-module _ (dump : Dump) (log : List Event) (search : Search) (b : Buckets) (s : Strength) (x : Offer) (h : HasComeTo dump log search s) (first : TakesFirst search.buckets b s x) where
-  out : Extends (bucket b) (bucket search.buckets) s x
-  out = extends-first (bucket b) (bucket search.buckets) s x first.here (λ t other. first.others t other)
-
-  pub backing : IsBacked dump.mode (edge_at dump log) search.found.list s x
-  backing = h.growing.backed s x out.made
-
-  pub at_offer : IsAt dump log x.source x.index backing.edge
-  at_offer = is_at dump log x.source x.index backing.edge backing.is
-
-  -- what is offered is something
-  something : 1 ≤ rank s
-  something = let same : rank s ≡ rank (offered_strength search.found.list backing.edge) = ap rank backing.gives in
-      let from : rank_at search.found.list backing.edge.source ≡ rank_at search.found.list x.source = ap (rank_at search.found.list) (at_source dump log x.source x.index backing.edge backing.is) in
-      omega (arith, offered_strength-some search.found.list backing.edge (omega (arith, backing.passes_on, least-positive dump.mode)))
-
-  let_go : (new : Search) → IsPassedOver (edge_at dump log) (with_buckets search b) new x.source x.index → HasComeTo dump log new s
-  let_go new d = subst (λ (n : Search). HasComeTo dump log n s) (sym d.same) (record {
-    growing = decline (standing dump log) (edge_at dump log) search.found.list (bucket search.buckets) (bucket b) search.count s (rank s + 1) (NotQueued search.queue) x backing.edge h.growing out backing.is (d.reached backing.edge backing.is);
-    queued = h.queued;
-    objects = h.objects;
-    few = h.few;
-    stamps = h.stamps;
-  })
-
-  pub tried : (new : Search) → IsPassedOver (edge_at dump log) (with_buckets search b) new x.source x.index ⊎ IsAccepted (λ k. k) dump.mode (edge_at dump log) (with_buckets search b) new s x.source x.index → HasComeTo dump log new s
-  tried new (inl d) = let_go new d
-  tried new (inr a) = accepted dump log search new b s (rank s + 1) (NotQueued search.queue) (NotQueued new.queue) x h out.within
-      (λ t y c. elim (out.left t y c) [ inl both ↦ inl both.1 | inr before ↦ inr before ]) backing.passes_on something a (λ o i apart. (apart, λ before. before))
-
--- all offers of the strength are taken
-pub all_accepted : (dump : Dump) (log : List Event) (search : Search) (b : Buckets) (s : Strength) → HasComeTo dump log search s → bucket search.buckets s ≡ [] → ((t : Strength) → bucket b t ≡ bucket search.buckets t) → HasAccepted dump log (with_buckets search b) s
-all_accepted dump log search b s h none same = record {
-  growing = none_left (standing dump log) (edge_at dump log) search.found.list (bucket search.buckets) (bucket b) search.count s (NotQueued search.queue) h.growing none same;
-  queued = h.queued;
-  objects = h.objects;
-  few = h.few;
-  stamps = h.stamps;
-}
-
--- of an object that was queued the first n slots are looked at
-pub record HasRelaxed (dump : Dump) (log : List Event) (start search : Search) (s : Strength) (o n : ℕ) : Type 0 where
-  pub searching : IsSearching dump log search s (rank s) (NotQueuedBelow search.queue o n)
-  pub source : (reached_at search.found.list o).strength ≡ s
-  pub less : to_do search ≤ to_do start
-
--- one more slot is done, by a fact of its own
-module _ (dump : Dump) (log : List Event) (search : Search) (s : Strength) (o i : ℕ) (h : IsSearching dump log search s (rank s) (NotQueuedBelow search.queue o i)) where
-  one_done : ((e : Edge) → edge_at dump log o i ≡ Some e → IsHadOrOffered search.found.list (bucket search.buckets) o i e) → IsSearching dump log search s (rank s) (NotQueuedBelow search.queue o (i + 1))
-  one_done fact = record {
-    growing = weaken (standing dump log) (edge_at dump log) search.found.list (bucket search.buckets) search.count s (rank s) (NotQueuedBelow search.queue o i) (NotQueuedBelow search.queue o (i + 1)) h.growing
-        (λ p j e done is passes. elim (cases_eq p o) [
-          | inr other ↦ inl (done.0, λ same. absurd (other same))
-          | inl same ↦ elim (cases_eq j i) [
-            | inr before ↦ let lt : j < i + 1 = done.1 same in inl (done.0, λ same. omega arith)
-            | inl last ↦ inr (subst (λ (p : ℕ). IsHadOrOffered search.found.list (bucket search.buckets) p j e) (sym same)
-                (subst (λ (j : ℕ). IsHadOrOffered search.found.list (bucket search.buckets) o j e) (sym last) (fact e (subst (λ (j : ℕ). edge_at dump log o j ≡ Some e) last (subst (λ (p : ℕ). edge_at dump log p j ≡ Some e) same is)))))
-          ]
-        ]);
-    queued = h.queued;
-    objects = h.objects;
-    few = h.few;
-    stamps = h.stamps;
-  }
-
-  -- its target is reached
-  reached_done : (reached_at search.found.list o).strength ≡ s → ((e : Edge) → edge_at dump log o i ≡ Some e → 1 ≤ rank_at search.found.list e.target) → IsSearching dump log search s (rank s) (NotQueuedBelow search.queue o (i + 1))
-  reached_done source reached = one_done (λ e is.
-      let from : rank_at search.found.list e.source ≡ rank s = ap (rank_at search.found.list) (at_source dump log o i e is) ∙ ap rank source in
-      inl (omega (arith, offered_strength-le search.found.list e, h.growing.floor e.target (reached e is))))
-
--- one edge is one
-one_edge : (dump : Dump) (log : List Event) (o i : ℕ) (e f : Edge) → edge_at dump log o i ≡ Some e → edge_at dump log o i ≡ Some f → f ≡ e
-one_edge dump log o i e f is there = let same : Some f ≡ Some e = sym there ∙ is in cc
-
--- one more slot is looked at
-module _ (dump : Dump) (log : List Event) (start old new : Search) (s : Strength) (o i : ℕ) (h : HasRelaxed dump log start old s o i) (passes : IsPassedOn dump.mode s) where
-  passed_over : IsPassedOver (edge_at dump log) old new o i → HasRelaxed dump log start new s o (i + 1)
-  passed_over d = subst (λ (n : Search). HasRelaxed dump log start n s o (i + 1)) (sym d.same) (record {
-    searching = reached_done dump log old s o i h.searching h.source d.reached;
-    source = h.source;
-    less = h.less;
-  })
-
-  source_passes : PassesOn dump.mode (reached_at old.found.list o)
-  source_passes = rw h.source passes
-
-  some : 1 ≤ rank s
-  some = omega (arith, passes, least-positive dump.mode)
-
-  module _ (a : IsAccepted (λ k. k) dump.mode (edge_at dump log) old new s o i) where
-    taken : IsSearching dump log new s (rank s) (NotQueuedBelow new.queue o i)
-    taken = accepted dump log old new old.buckets s (rank s) (NotQueuedBelow old.queue o i) (NotQueuedBelow new.queue o i) (offer_at o i) h.searching (λ t y c. c) (λ t y c. inr c) source_passes some a
-        (λ p j done. (done.0, λ apart. (apart, done.1)))
-
-    source_after : (reached_at new.found.list o).strength ≡ s
-    source_after = still dump.mode old new s a.edge.source a.edge.slot a.edge.target a.reaches a.object o h.source
-
-    target_after : (e : Edge) → edge_at dump log o i ≡ Some e → 1 ≤ rank_at new.found.list e.target
-    target_after e is =
-        let same : rank_at new.found.list e.target ≡ rank_at new.found.list a.edge.target = ap (λ (e : Edge). rank_at new.found.list e.target) (one_edge dump log o i a.edge e a.is is) in
-        let one : rank_at new.found.list a.edge.target ≡ rank s = ap (λ (k : Reached). rank k.strength) (here dump.mode old new s a.edge.source a.edge.slot a.edge.target a.reaches a.object) in
-        omega (arith, some)
-
-    accepted_at_once : HasRelaxed dump log start new s o (i + 1)
-    accepted_at_once = record {
-      searching = reached_done dump log new s o i taken source_after target_after;
-      source = source_after;
-      less = omega (
-        arith,
-        h.less,
-        less dump log old new old.buckets s (rank s) (NotQueuedBelow old.queue o i) (NotQueuedBelow new.queue o i) (offer_at o i) h.searching (λ t y c. c) (λ t y c. inr c) source_passes some a
-            (λ p j done. (done.0, λ apart. (apart, done.1))),
-      );
-    }
-
-  module _ (a : IsOffered (edge_at dump log) old new s o i) where
-    abbrev t : Strength
-    t = offered_strength old.found.list a.edge
-
-    more : Extends (bucket old.buckets) (bucket new.buckets) t (offer_at o i)
-    more = extends (bucket old.buckets) (bucket new.buckets) t (offer_at o i) a.adds.here (λ r other. sym (a.adds.others r other))
-
-    waiting : IsSearching dump log new s (rank s) (NotQueuedBelow new.queue o i)
-    waiting = record {
-      growing = rw (a.same_found, a.same_queue, a.same_count) (offer (standing dump log) (edge_at dump log) old.found.list (bucket old.buckets) (bucket new.buckets) old.count s (rank s) (NotQueuedBelow old.queue o i) t (offer_at o i) h.searching.growing more
-          (record { edge = a.edge; is = a.is; passes_on = source_passes; gives = refl }) a.less);
-      queued = rw (a.same_found, a.same_queue) h.searching.queued;
-      objects = rw a.same_found h.searching.objects;
-      few = h.searching.few;
-      stamps = rw (a.same_found, a.same_count) h.searching.stamps;
-    }
-
-    waits : HasRelaxed dump log start new s o (i + 1)
-    waits = record {
-      searching = one_done dump log new s o i waiting (λ e is. inr (rw (a.same_found, one_edge dump log o i a.edge e a.is is) more.made));
-      source = rw a.same_found h.source;
-      less = rw (a.same_found, a.same_queue) h.less;
-    }
-
-  pub relaxed : IsPassedOver (edge_at dump log) old new o i ⊎ IsAccepted (λ k. k) dump.mode (edge_at dump log) old new s o i ⊎ IsOffered (edge_at dump log) old new s o i → HasRelaxed dump log start new s o (i + 1)
-  relaxed (inl d) = passed_over d
-  relaxed (inr (inl a)) = accepted_at_once a
-  relaxed (inr (inr a)) = waits a
-
--- all slots of the object are looked at
-pub row_done : (dump : Dump) (log : List Event) (start search : Search) (s : Strength) (o n : ℕ) → HasRelaxed dump log start search s o n → width dump o ≤ n → HasAccepted dump log search s
-row_done dump log start search s o n h le = record {
-  growing = weaken (standing dump log) (edge_at dump log) search.found.list (bucket search.buckets) search.count s (rank s) (NotQueuedBelow search.queue o n) (NotQueued search.queue) h.searching.growing
-      (λ p i e apart is passes. inl (
-        apart,
-        λ same.
-            let lt : i < width dump o = (is_at dump log o i e (subst (λ (p : ℕ). edge_at dump log p i ≡ Some e) same is)).within in
-            omega arith,
-      ));
-  queued = h.searching.queued;
-  objects = h.searching.objects;
-  few = h.searching.few;
-  stamps = h.searching.stamps;
-}
-
--- an object is taken out of the queue
-module _ (dump : Dump) (log : List Event) (search popped : Search) (s : Strength) (o : ℕ) (h : HasAccepted dump log search s) (t : IsTakenOut search popped o) where
-  pub was_queued : ((reached_at search.found.list o).strength ≡ s) × IsPassedOn dump.mode s
-  was_queued = h.queued o t.taken.was
-
-  pub taken_out : IsSearching dump log popped s (rank s) (NotQueuedBelow popped.queue o 0)
-  taken_out = record {
-    growing = rw (t.same_found, t.same_buckets, t.same_count) (weaken (standing dump log) (edge_at dump log) search.found.list (bucket search.buckets) search.count s (rank s) (NotQueued search.queue) (NotQueuedBelow popped.queue o 0) h.growing
-        (λ p i e done is passes. inl (λ c. elim (t.taken.left p c) [
-          | inl same ↦ let lt : i < 0 = done.1 same in absurd (omega arith)
-          | inr later ↦ done.0 later
-        ])));
-    queued = λ p c. rw t.same_found (h.queued p (t.taken.before p c));
-    objects = rw t.same_found h.objects;
-    few = h.few;
-    stamps = rw (t.same_found, t.same_count) h.stamps;
-  }
-
--- the queue is empty
-pub none_taken : (dump : Dump) (log : List Event) (search popped : Search) (s : Strength) → HasAccepted dump log search s → HasNoneQueued search popped → HasAccepted dump log popped s
-none_taken dump log search popped s h n = record {
-  growing = rw (n.same_found, n.same_buckets, n.same_count) (subst (λ (xs : List ℕ). IsGrowing (standing dump log) (edge_at dump log) search.found.list (bucket search.buckets) search.count s (rank s) (NotQueued xs)) (n.none ∙ sym n.still) h.growing);
-  queued = λ o c. absurd (Contains-nil o (subst (λ (xs : List ℕ). Contains xs o) n.still c));
-  objects = rw n.same_found h.objects;
-  few = h.few;
-  stamps = rw (n.same_found, n.same_count) h.stamps;
-}
-
--- nothing is left of the strength
-pub comes_to : (dump : Dump) (log : List Event) (search : Search) (s next : Strength) → HasAccepted dump log search s → search.queue ≡ [] → rank s ≡ rank next + 1 → HasComeTo dump log search next
-comes_to dump log search s next h empty below = record {
-  growing = subst (λ (limit : ℕ). IsGrowing (standing dump log) (edge_at dump log) search.found.list (bucket search.buckets) search.count next limit (NotQueued search.queue)) below
-      (descend (standing dump log) (edge_at dump log) search.found.list (bucket search.buckets) search.count s next (rank s) (NotQueued search.queue) h.growing (omega arith));
-  queued = λ o c. absurd (Contains-nil o (subst (λ (xs : List ℕ). Contains xs o) empty c));
-  objects = h.objects;
-  few = h.few;
-  stamps = h.stamps;
-}
-
--- nothing is left of any strength
-pub ends : (dump : Dump) (log : List Event) (search : Search) → HasComeTo dump log search strengths.Unreachable → Settled (standing dump log) search.found.list
-ends dump log search h =
-    settled_in_the_end (standing dump log) (edge_at dump log) (rows_of dump log) search.found.list (bucket search.buckets) search.count strengths.Unreachable (rank strengths.Unreachable + 1) (NotQueued search.queue) h.growing
-    (λ t x c.
-    let none : t ≡ strengths.Unreachable = same_rank t strengths.Unreachable (omega (arith, h.growing.ceiling t x c)) in
-    Contains-nil x (subst (λ (t : Strength). Contains (bucket search.buckets t) x) none c))
-    (λ o i c. absurd (omega (arith, (h.queued o c).1, least-positive dump.mode)))
+  -- what is kept stays
+  pub unchanged : (limit' : ℕ) (D' : ℕ → ℕ → Type 0) → new.found ≡ old.found → new.count ≡ old.count
+      → IsGrowing (standing dump log) (edge_at dump log) ks (IsOfferedIn (set parts k new)) s limit' (λ o i. IsDoneIn (set parts k new) o × D' o i)
+      → IsFit dump s new
+      → ((given o : ℕ) → IsHadOrPromised (edge_at dump log) ks (IsOfferedIn parts) given o → IsHadOrPromised (edge_at dump log) ks (IsOfferedIn (set parts k new)) given o)
+      → ((o : ℕ) → is_handed new o ≡ true → IsHadOrPromised (edge_at dump log) ks (IsOfferedIn (set parts k new)) (rank s) o)
+      → IsSearching dump log (set parts k new) ks whole s limit' D'
+  unchanged limit' D' same_found same_count growing fit had handed =
+      let q = h.each k old there in
+      let unreached : unreached_in (set parts k new) ≡ unreached_in parts = omega (arith, sum-set unreached_of parts k old new there, ap (λ (f : Findings). unreached_count f.list) same_found) in
+      changed ks limit' D' growing fit (ap (λ (f : Findings). f.whole) same_found)
+      (λ o own. ap (λ (f : Findings). reached_at f.list (o - new.first)) same_found ∙ ap (λ (n : ℕ). reached_at old.found.list (o - n)) same_first ∙ q.own o (own_before o own))
+      (λ o own. omega (arith, q.stamps o (own_before o own), same_count)) (omega (arith, q.room, same_count, unreached)) (omega (arith, unreached)) (λ o apart. refl) had handed refl

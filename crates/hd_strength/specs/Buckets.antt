@@ -6,14 +6,14 @@ use Rattle.hd_terms.specs.declared.Strength.TheVariants as strengths
 use Rattle.hd_strength.specs.declared.buckets.Offer.{Offer}
 use Rattle.hd_strength.specs.declared.buckets.Buckets.{Buckets}
 
--- the offers of a strength, the first made first; of the greatest strength none ever waits
+-- the offers of a strength, the first made first
 abbrev pub bucket : Buckets → Strength → List Offer
 bucket b strengths.Unreachable = []
 bucket b strengths.Phantom = b.phantom.items
 bucket b strengths.Final = b.finals.items
 bucket b strengths.Weak = b.weak.items
 bucket b strengths.Soft = b.soft.items
-bucket b strengths.Strong = []
+bucket b strengths.Strong = b.strong.items
 
 -- an offer is added, behind those of its strength
 pub record AddsTo (old new : Buckets) (s : Strength) (x : Offer) : Type 0 where

@@ -5,4 +5,4 @@ pub mod Rows
 pub mod Found
 pub mod Queue
 pub mod Growing
-pub mod Checking
+pub mod Parts

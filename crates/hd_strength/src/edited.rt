@@ -13,10 +13,10 @@ use hd_terms::{EdgeKind, Edit};
 
 /// A graph, a log, and what the log's live edits take away from the graph.
 #[derive(Clone, Copy)]
-pub(crate) struct Edited<'a> {
-    pub(crate) graph: &'a Graph,
-    pub(crate) front: &'a Front,
-    pub(crate) removed: &'a Removed,
+pub struct Edited<'a> {
+    pub graph: &'a Graph,
+    pub front: &'a Front,
+    pub removed: &'a Removed,
 }
 
 /// The object that a root of the dump holds, where the root stands.
@@ -61,7 +61,7 @@ pub(crate) fn added_object(edited: Edited<'_>, live: &[bool], k: u32) -> Option<
 
 /// The object that the root of a number holds, where there is such a root and it stands. The flags say which events are
 /// live.
-pub(crate) fn held_object(edited: Edited<'_>, live: &[bool], r: u64) -> Option<u32>
+pub fn held_object(edited: Edited<'_>, live: &[bool], r: u64) -> Option<u32>
     requires removed { IsRemovedBy edited.graph.now edited.front.now edited.removed.now }
     requires flags { live.now ≡ live_flags edited.front.now }
     ensures held { result ≡ option_map (λ (x : RootEntry). x.target) (root_at edited.entry.graph.now edited.entry.front.now r) }
@@ -101,13 +101,13 @@ pub fn root_target(
 
 /// A reference that stands: what it goes through, and the object that it leads to.
 #[derive(Clone, Copy)]
-pub(crate) struct StandingRead {
-    pub(crate) kind: EdgeKind,
-    pub(crate) target: u32,
+pub struct StandingRead {
+    pub kind: EdgeKind,
+    pub target: u32,
 }
 
 /// The reference at an index of an object's slots, where it stands.
-pub(crate) fn standing_read(edited: Edited<'_>, o: u32, index: u32) -> Option<StandingRead>
+pub fn standing_read(edited: Edited<'_>, o: u32, index: u32) -> Option<StandingRead>
     requires removed { IsRemovedBy edited.graph.now edited.front.now edited.removed.now }
     requires object { o < length edited.graph.now.objects }
     requires index { index < width edited.graph.now o }

@@ -1,5 +1,5 @@
 //! What a search has found so far.
-ghost use Rattle.std.specs.Prelude.{◌≡◌, ◌<◌, length, map, replicate, set, true, false, IfOk};
+ghost use Rattle.std.specs.Prelude.{◌≡◌, ◌<◌, [], length, map, replicate, set, true, false, IfOk};
 ghost use Rattle.hd_terms.specs.Settled.{reached_at, unreached};
 ghost use Rattle.hd_strength.specs.Found.{is_found, only_strength, seen, strength_of};
 
@@ -51,6 +51,19 @@ impl Model for Found {
 }
 
 impl Found {
+    /// There are no objects. The flag says whether all will be kept of objects, or strengths alone.
+    pub(crate) fn empty(alloc: Global, whole: bool) -> Found
+        ensures { result ≡ record { whole = whole; list = [] } }
+    {
+        Found {
+            strengths: Vec::new(alloc),
+            kept: Vec::new(alloc),
+            whole,
+            ahead: 0,
+            read: 0,
+        }
+    }
+
     /// Nothing reaches any of so many objects. The flag says whether all will be kept, or strengths alone.
     pub(crate) fn none(alloc: Global, objects: u32, whole: bool) -> Result<Found, NoMemory>
         ensures { IfOk result (λ f. f ≡ record { whole = whole; list = replicate objects unreached }) }
@@ -72,6 +85,13 @@ impl Found {
         ensures { result ≡ self.now.whole }
     {
         self.whole
+    }
+
+    /// How many objects there are.
+    pub(crate) fn len(&self) -> usize
+        ensures { result ≡ length self.now.list }
+    {
+        self.strengths.len()
     }
 
     /// Whether anything reaches an object.

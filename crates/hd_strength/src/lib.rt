@@ -3,15 +3,17 @@
 
 mod ahead;
 mod buckets;
-mod checking;
 mod cleared;
 mod edited;
 mod found;
+mod part;
 mod queue;
+mod relaxing;
 mod removed;
+mod roots;
+mod rounds;
 mod scratch;
 
-pub use checking::is_settled;
-pub use edited::root_target;
+pub use edited::{Edited, StandingRead, held_object, root_target, standing_read};
 pub use removed::{Removed, live_edit};
 pub use scratch::{from_removed, from_scratch, strengths_alone};

@@ -1,5 +1,5 @@
 //! The objects that wait to pass their strength on.
-ghost use Rattle.std.specs.Prelude.{◌≡◌, ◌++◌, [], ◌∷◌, IfNone, IfSome, OnOk};
+ghost use Rattle.std.specs.Prelude.{◌≡◌, ◌<◌, ◌++◌, [], ◌∷◌, length, IfNone, IfSome, OnOk};
 ghost use Rattle.hd_strength.specs.Queue.{Begins, IsTaken};
 
 use hd_terms::NoMemory;
@@ -72,6 +72,28 @@ impl Queue {
         match &mut self.order {
             Order::FirstCome(objects) => objects.pop_front(),
             Order::LastCome(objects) => objects.pop(),
+        }
+    }
+
+    /// How many objects are taken in a round: those that wait now where the one that came first is taken next, and else at most
+    /// so many. It is at least one, though none may wait.
+    pub(crate) fn round_len(&self, most: usize) -> usize
+        requires { 0 < most }
+        ensures { 0 < result }
+    {
+        match &self.order {
+            Order::FirstCome(objects) => objects.len().max(1),
+            Order::LastCome(_) => most,
+        }
+    }
+
+    /// How many objects wait.
+    pub(crate) fn len(&self) -> usize
+        ensures { result ≡ length self.now }
+    {
+        match &self.order {
+            Order::FirstCome(objects) => objects.len(),
+            Order::LastCome(objects) => objects.len(),
         }
     }
 

@@ -115,6 +115,10 @@ fn take_root(roots: &mut IndexSet<u64>, edit: Edit) -> Result<(), NoMemory>
 
 impl Removed {
     /// What the live edits of a log take away.
+    ///
+    /// # Errors
+    ///
+    /// Memory ran out.
     pub fn of(alloc: Global, graph: &Graph, front: &Front) -> Result<Removed, NoMemory>
         ensures { IfOk result (λ t. IsRemovedBy graph.now front.now t) }
     {

@@ -5,6 +5,7 @@ mod packed_reached;
 mod strengths;
 mod supports;
 
+pub use hd_pages::GROUP;
 pub use packed_reached::PackedReached;
 pub use strengths::Strengths;
 pub use supports::Supports;

@@ -1,6 +1,6 @@
 //! Strengths, supports and stamps of which there are versions.
-ghost use Rattle.std.specs.Prelude.{◌≡◌, ◌≢◌, ℕ, ◌^◌, ◌<◌, length, slice_set, IfOk, OnOk, OnErr};
-ghost use Rattle.hd_terms.specs.Settled.{reached_at};
+ghost use Rattle.std.specs.Prelude.{◌≡◌, ◌≢◌, ℕ, ◌+◌, ◌^◌, ◌<◌, List, ◌++◌, length, flat_map, slice_set, IfOk, OnOk, OnErr};
+ghost use Rattle.hd_terms.specs.Settled.{Reached, reached_at};
 
 use crate::packed_reached::PackedReached;
 use crate::strengths::Strengths;
@@ -8,6 +8,7 @@ use hd_pages::Pages;
 use hd_terms::{NoMemory, Strength, Support};
 use std::alloc::Global;
 use std::marker::Model;
+use std::thread::{Threads, map_vec};
 
 /// The strengths, supports and stamps of objects, in pages that versions share. No version changes another.
 #[derive(Drop)]
@@ -34,6 +35,46 @@ impl Supports {
         ensures { IfOk result (λ s. s ≡ strengths) }
     {
         let kept = Pages::of_vec(alloc, strengths.into_kept())?;
+        Ok(Supports { kept })
+    }
+
+    /// The lists of parts, one behind the other. Each is put into pages by a thread of its own; where the system refuses a
+    /// thread, one after the other. Then pages are moved. Only where the objects so far are no multiple of
+    /// 262,144 are some copied: those behind the last multiple, and those of the next part.
+    ///
+    /// # Errors
+    ///
+    /// Memory ran out.
+    pub fn of_parts<R: Threads + Sync>(
+        rt: &R,
+        alloc: Global,
+        parts: Vec<Strengths>,
+    ) -> Result<Supports, NoMemory>
+        requires few { length (flat_map (λ (part : List Reached). part) parts.items) < 2 ^ 32 }
+        ensures { IfOk result (λ s. s ≡ flat_map (λ (part : List Reached). part) parts.items) }
+    {
+        let lists = map_vec(
+            rt,
+            parts,
+            &|part: Strengths| -> Result<Supports, NoMemory>
+                ensures { IfOk result (λ s. s ≡ part) }
+            { Supports::of(alloc, part) },
+        )?;
+        let mut all = Supports::of(alloc, Strengths::of(Vec::new(alloc)))?;
+        for list in lists {
+            all = all.append(alloc, list?)?;
+        }
+        Ok(all)
+    }
+
+    /// These objects, and others behind them.
+    fn append(self, alloc: Global, others: Supports) -> Result<Supports, NoMemory>
+        requires { length self + length others < 2 ^ 32 }
+        ensures { IfOk result (λ s. s ≡ self ++ others) }
+    {
+        let Supports { kept } = self;
+        let Supports { kept: more } = others;
+        let kept = kept.append(alloc, more)?;
         Ok(Supports { kept })
     }
 

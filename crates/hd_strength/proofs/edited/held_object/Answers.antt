@@ -1,6 +1,6 @@
 use Rattle.std.proofs.Common.{◌≡◌, ◌∙◌, ◌+◌, ◌-◌, length, ap, arith}
 use Rattle.hd_strength.proofs.RowLemmas.{held_at}
-use Rattle.hd_strength.proofs.Checked.{no_root_past, held_within_option}
+use Rattle.hd_strength.proofs.Reading.{no_root_past, held_within_option}
 use Rattle.hd_strength.proofs.edited.held_object.Goals as goal
 
 pub returns-then-r-roots-clause-object : goal.returns-then-r-roots-clause-object

@@ -3,7 +3,7 @@ use Rattle.hd_terms.specs.Dump.{SlotEntry, object_at}
 use Rattle.hd_terms.specs.EditedDump.{is_untouched}
 use Rattle.hd_terms.specs.Edges.{index_of}
 use Rattle.hd_strength.proofs.RowLemmas.{at_none, at_cut, at_some, not-true, not-false}
-use Rattle.hd_strength.proofs.Checked.{read_none, read_some}
+use Rattle.hd_strength.proofs.Reading.{read_none, read_some}
 use Rattle.hd_strength.proofs.edited.standing_read.Goals as goal
 
 pub returns-in_err-target-clause-edge : goal.returns-in_err-target-clause-edge

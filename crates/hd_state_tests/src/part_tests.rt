@@ -1,0 +1,141 @@
+//! Searches by several parts of the objects: a row of arrays that goes to and fro between parts, and a round of many objects.
+use crate::dumps::graph_of;
+use hd_graph::Graph;
+use hd_log::Front;
+use hd_strength::{from_scratch, strengths_alone};
+use hd_terms::{Slot, Strength, Support};
+use std::alloc::Global;
+use std::fmt::Write as _;
+use std::process::Abort;
+
+/// How many arrays the row has: more than four parts of 4,096 objects hold.
+const ARRAYS: u32 = 20_000;
+
+/// The number of the array behind another in the row, where there is one.
+fn behind(o: u32) -> Option<u32> {
+    if o < ARRAYS / 2 {
+        Some((ARRAYS - 1).saturating_sub(o))
+    } else if o > ARRAYS / 2 {
+        Some(ARRAYS.saturating_sub(o))
+    } else {
+        None
+    }
+}
+
+/// The number of the array before another in the row, as far as there is one.
+fn before(o: u32) -> u32 {
+    if o < ARRAYS / 2 {
+        ARRAYS.saturating_sub(o)
+    } else {
+        (ARRAYS - 1).saturating_sub(o)
+    }
+}
+
+/// The dump of the row: the first array, the last, the second, the last but one, and so on to the middle, so that each lies in
+/// another part than the next. Each refers to the next, and a root holds the first. The array of a number has the ID behind it.
+fn to_and_fro<R: Abort>(rt: &R, alloc: Global) -> String {
+    let mut text = String::new(alloc);
+    text.push_str("ids 4\nsegment\nroot 1\n")
+        .expect(rt, "the text begins");
+    for o in 0..ARRAYS {
+        write!(text, "array {:x}:", o + 1).expect(rt, "the text grows");
+        if let Some(next) = behind(o) {
+            write!(text, " {:x}", u64::from(next) + 1).expect(rt, "the text grows");
+        }
+        writeln!(text).expect(rt, "the text grows");
+    }
+    text
+}
+
+#[test]
+fn row_through_all_parts(rt: HostRuntime) {
+    let text = to_and_fro(&rt, rt.alloc());
+    let graph = graph_of(&rt, rt.alloc(), text.as_str()).expect(&rt, "the dump opens");
+    let front = Front::empty(rt.alloc()).expect(&rt, "a log is made");
+    let strengths = from_scratch(&rt, rt.alloc(), &graph, &front).expect(&rt, "the search ends");
+    assert_eq!(rt; strengths.len(), ARRAYS);
+    assert!(rt; strengths.strength(0) == Strength::Strong);
+    assert!(rt; strengths.support(0) == Support::Root(0));
+    for o in 1..ARRAYS {
+        let source = before(o);
+        let slot = Slot::Element(0);
+        assert!(rt; strengths.strength(o) == Strength::Strong);
+        assert!(rt; strengths.support(o) == Support::Edge { source, slot });
+        assert!(rt; source < ARRAYS);
+        assert!(rt; strengths.stamp(source) < strengths.stamp(o));
+    }
+}
+
+/// How many arrays of a crowd the first array refers to. So many wait at once that a round has several threads.
+const FAN: u32 = 8_192;
+
+/// Writes all arrays of a crowd but the first one. Those of IDs from 0x1000 on refer to those from 0x4000 on, the first to the
+/// last, the second to the last but one, and so on. Each of those from 0x8000 on refers to the next.
+fn write_crowd<R: Abort>(rt: &R, text: &mut String) {
+    for k in 0..FAN {
+        writeln!(text, "array {:x}: {:x}", 0x1000 + k, 0x4000 + (FAN - 1 - k)).expect(
+            rt,
+            "the text grows",
+        );
+        writeln!(text, "array {:x}:", 0x4000 + k).expect(rt, "the text grows");
+        writeln!(text, "array {:x}: {:x}", 0x8000 + k, 0x8000 + k + 1).expect(rt, "the text grows");
+    }
+}
+
+/// The dump of a crowd: an array that a root holds and that refers to the arrays of IDs from 0x1000 on, and to a weak reference.
+/// The referent of this has the ID 0x9ffe: the last but one of those from 0x8000 on, which nothing else reaches.
+fn crowd<R: Abort>(rt: &R, alloc: Global) -> String {
+    let mut text = String::new(alloc);
+    text.push_str("ids 4\nreference-names\nsegment\nreference-classes\nroot 1\narray 1: 21")
+        .expect(rt, "the text begins");
+    for k in 0..FAN {
+        write!(text, " {:x}", 0x1000 + k).expect(rt, "the text grows");
+    }
+    text.push_str("\nreference 21 of 13: 9ffe\n")
+        .expect(rt, "the text grows");
+    write_crowd(rt, &mut text);
+    text
+}
+
+/// How many objects of IDs in a row have a strength.
+fn counted(graph: &Graph, strengths: &[Strength], first: u64, strength: Strength) -> u32 {
+    let mut count = 0u32;
+    for id in first..first.saturating_add(u64::from(FAN)) {
+        if let Some(o) = graph.index_of(id) {
+            if strengths.get(o as usize).copied() == Some(strength) {
+                count = count.saturating_add(1);
+            }
+        }
+    }
+    count
+}
+
+#[test]
+fn crowd_in_all_parts(rt: HostRuntime) {
+    let text = crowd(&rt, rt.alloc());
+    let graph = graph_of(&rt, rt.alloc(), text.as_str()).expect(&rt, "the dump opens");
+    let front = Front::empty(rt.alloc()).expect(&rt, "a log is made");
+    let alone = strengths_alone(&rt, rt.alloc(), &graph, &front).expect(&rt, "the search ends");
+    assert_eq!(rt; counted(&graph, &alone, 0x1000, Strength::Strong), 8_192);
+    assert_eq!(rt; counted(&graph, &alone, 0x4000, Strength::Strong), 8_192);
+    assert_eq!(rt;
+        counted(&graph, &alone, 0x8000, Strength::Unreachable),
+        8_190
+    );
+    assert_eq!(rt; counted(&graph, &alone, 0x8000, Strength::Weak), 2);
+}
+
+#[test]
+fn supports_of_a_crowd(rt: HostRuntime) {
+    let text = crowd(&rt, rt.alloc());
+    let graph = graph_of(&rt, rt.alloc(), text.as_str()).expect(&rt, "the dump opens");
+    let front = Front::empty(rt.alloc()).expect(&rt, "a log is made");
+    let strengths = from_scratch(&rt, rt.alloc(), &graph, &front).expect(&rt, "the search ends");
+    for k in [0u64, 1, 4_095, 8_190, 8_191] {
+        let o = graph.index_of(0x4000 + k).expect(&rt, "the array is there");
+        let source = graph.index_of(0x2fff - k).expect(&rt, "its array is there");
+        let slot = Slot::Element(0);
+        assert!(rt; o < strengths.len());
+        assert!(rt; strengths.support(o) == Support::Edge { source, slot });
+    }
+}

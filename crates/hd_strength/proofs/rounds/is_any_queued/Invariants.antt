@@ -1,0 +1,7 @@
+use Rattle.std.proofs.Common.{◌≡◌, ℕ, ◌<◌, [], Some, slice_get}
+use Rattle.hd_strength.specs.declared.part.Part.{Part}
+use Rattle.hd_strength.proofs.rounds.is_any_queued.Given as goal
+
+-- none waits so far
+abbrev pub invariant-loop-k : goal.invariant-loop-k
+invariant-loop-k l = (j : ℕ) (p : Part) → j < l.k → slice_get l.fn.parts j ≡ Some p → p.queue ≡ []

@@ -1,0 +1,170 @@
+//! The beginning of a search: the parts of the objects, and what roots hold.
+ghost use Rattle.std.specs.Prelude.{◌≡◌, ◌+◌, ◌-◌, ◌^◌, ◌<◌, ◌≤◌, min, false, [], length, IfOk, OnOk};
+ghost use Rattle.hd_terms.specs.declared.Strength.TheVariants as strengths;
+ghost use Rattle.hd_strength.specs.Rows.{root_count};
+ghost use Rattle.hd_strength.specs.Parts.{AreBlank, AreFilled, AreHolding, IsNew, HasQueued, HaveComeTo, IsHeldBy, IsHeldIn};
+ghost use Rattle.hd_strength.specs.Removed.{IsRemovedBy};
+
+use crate::edited::{Edited, added_object, root_object};
+use crate::part::Part;
+use crate::rounds::{PARTS, Search, has_failed, holder};
+use hd_supports::{GROUP, PackedReached};
+use hd_terms::NoMemory;
+use std::alloc::Global;
+use std::thread::{Threads, for_each_mut};
+
+/// How many objects a part has at least, but for the last one.
+const LEAST: u32 = 4096;
+
+/// From this length on, parts whose supports are kept end where a group of pages ends: pages of such parts are put one behind
+/// the other with no copy. They are longer by an eighth for that, at most.
+const LONG: u32 = 8 * GROUP as u32;
+
+/// How many objects each part of so many has, but for the last one. The flag says whether all will be kept of them.
+fn part_len(objects: u32, whole: bool) -> u32
+    ensures { 0 < result }
+{
+    let len = objects.div_ceil(PARTS as u32).max(LEAST);
+    if !whole || len < LONG {
+        return len;
+    }
+    len.div_ceil(GROUP as u32) * GROUP as u32
+}
+
+/// The parts of so many objects, one behind the other, each with as many but for the last, before they have room for these. The
+/// flag says whether all will be kept of the objects, or their strengths alone.
+fn blank_parts(alloc: Global, objects: u32, len: u32, whole: bool) -> Result<Vec<Part>, NoMemory>
+    requires { 0 < len }
+    ensures { IfOk result (λ parts. AreBlank len objects whole parts.items objects) }
+{
+    let mut parts = Vec::new(alloc);
+    let mut first = 0;
+    while first < objects {
+        parts.push(Part::new(alloc, first, whole))?;
+        first += len.min(objects - first);
+    }
+    Ok(parts)
+}
+
+/// Makes room in each part for its objects, so many or what is left of all objects, in a thread for each.
+fn fill_parts<R: Threads + Sync>(rt: &R, parts: &mut [Part], len: u32, objects: u32, whole: bool)
+    requires { AreBlank len objects whole parts.old objects }
+    ensures count { length parts.new ≡ length parts.old }
+    ensures each { AreFilled len objects whole parts.old parts.new }
+{
+    for_each_mut(
+        rt,
+        parts,
+        PARTS,
+        &|_: usize, part: &mut Part|
+            requires { IsNew part.now.first 0 whole part.now × (part.now.first ≤ objects) }
+            ensures { part.exit.now.failed ≡ false → IsNew part.entry.now.first (min len (objects - part.entry.now.first)) whole part.exit.now }
+        { part.fill(len.min(objects - part.first), whole) },
+    );
+}
+
+/// The parts of the objects: one behind the other, at most `PARTS`, each with as many objects but for the last. Nothing
+/// reaches any object. The flag says whether all will be kept of them, or their strengths alone.
+fn parts_of<R: Threads + Sync>(
+    rt: &R,
+    alloc: Global,
+    edited: Edited<'_>,
+    whole: bool,
+) -> Result<Vec<Part>, NoMemory>
+    ensures few { length edited.entry.graph.now.objects < 2 ^ 32 }
+    ensures held { IfOk result (λ parts. AreHolding edited.entry.graph.now edited.entry.front.now whole 0 parts.items) }
+{
+    let objects = edited.graph.objects();
+    let len = part_len(objects, whole);
+    let mut parts = blank_parts(alloc, objects, len, whole)?;
+    fill_parts(rt, &mut parts, len, objects, whole);
+    if has_failed(&parts) {
+        return Err(NoMemory);
+    }
+    Ok(parts)
+}
+
+/// A root holds an object.
+fn hold(parts: &mut [Part], o: u32, root: u64)
+    requires { IsHeldIn parts.old o }
+    ensures { IsHeldBy parts.old parts.new o root }
+{
+    let k = holder(parts, o);
+    let place = o - parts[k].first;
+    parts[k].found.put(place, PackedReached::by_root(root));
+}
+
+/// The parts where only the roots of the dump hold their objects, so far as they stand.
+fn apply_dump_roots<R: Threads + Sync>(
+    rt: &R,
+    alloc: Global,
+    edited: Edited<'_>,
+    whole: bool,
+) -> Result<Vec<Part>, NoMemory>
+    requires removed { IsRemovedBy edited.graph.now edited.front.now edited.removed.now }
+    ensures few { length edited.entry.graph.now.objects < 2 ^ 32 }
+    ensures held { IfOk result (λ parts. AreHolding edited.entry.graph.now edited.entry.front.now whole (length edited.entry.graph.now.roots) parts.items) }
+{
+    let mut parts = parts_of(rt, alloc, edited, whole)?;
+    for r in 0..edited.graph.roots_len() {
+        if let Some(o) = root_object(edited, r) {
+            hold(&mut parts, o, u64::from(r));
+        }
+    }
+    Ok(parts)
+}
+
+/// The parts where only the roots hold their objects: those of the dump and those that were added, so far as they stand. An
+/// added root has the number of the event after those of the dump's roots.
+fn apply_roots<R: Threads + Sync>(
+    rt: &R,
+    alloc: Global,
+    edited: Edited<'_>,
+    whole: bool,
+) -> Result<Vec<Part>, NoMemory>
+    requires removed { IsRemovedBy edited.graph.now edited.front.now edited.removed.now }
+    ensures few { length edited.entry.graph.now.objects < 2 ^ 32 }
+    ensures held { IfOk result (λ parts. AreHolding edited.entry.graph.now edited.entry.front.now whole (root_count edited.entry.graph.now edited.entry.front.now) parts.items) }
+{
+    let mut parts = apply_dump_roots(rt, alloc, edited, whole)?;
+    let live = edited.front.live(alloc)?;
+    for k in 0..edited.front.len() {
+        if let Some(o) = added_object(edited, &live, k) {
+            let root = u64::from(edited.graph.roots_len()) + u64::from(k);
+            hold(&mut parts, o, root);
+        }
+    }
+    Ok(parts)
+}
+
+/// Queues the objects of a part that are reached, in the order of their numbers.
+fn queue_reached(part: &mut Part) -> Result<(), NoMemory>
+    requires few { part.old.first + length part.old.found.list < 2 ^ 32 }
+    requires none { part.old.queue ≡ [] }
+    ensures { OnOk result (HasQueued part.old part.new) }
+{
+    for place in 0..part.found.len() as u32 {
+        if part.found.is_reached(place) {
+            part.queue.push(part.first + place)?;
+        }
+    }
+    Ok(())
+}
+
+/// A search that begins: of the objects only those are reached that roots hold, and they are queued.
+pub(crate) fn begin<R: Threads + Sync>(
+    rt: &R,
+    alloc: Global,
+    edited: Edited<'_>,
+    whole: bool,
+) -> Result<Search, NoMemory>
+    requires removed { IsRemovedBy edited.graph.now edited.front.now edited.removed.now }
+    ensures whole { IfOk result (λ search. search.whole ≡ whole) }
+    ensures searching { IfOk result (λ search. HaveComeTo edited.entry.graph.now edited.entry.front.now whole strengths.Strong search.parts.items) }
+{
+    let mut parts = apply_roots(rt, alloc, edited, whole)?;
+    for k in 0..parts.len() {
+        queue_reached(&mut parts[k])?;
+    }
+    Ok(Search { parts, whole })
+}
