@@ -12,7 +12,7 @@ use Rattle.hd_terms.specs.Classes.{KnownClasses, ResolvedClass}
 use Rattle.hd_slots.specs.Table.{Table}
 use Rattle.hd_classes.specs.Firsts.{firsts, firsts_from}
 use Rattle.hd_classes.proofs.FirstLemmas.{is_known, firsts-le, firsts-map, filter_map-le}
-use Rattle.hd_graph.specs.Shapes.{ObjectShape}
+use Rattle.hd_shapes.specs.Shapes.{ObjectShape}
 use Rattle.hd_graph.specs.ArrayRows.{ObjectEntry, fitting, instance_entry, object_ids, entry_of, entry_of_item, shape_of_item, entries_of, item_weight}
 use Rattle.hd_graph.specs.Building.{columns, AddsRowOf, AddsItemRow, HasAllRows, HasAllShapes, HasRowsOf}
 use Rattle.hd_graph.proofs.NumberLemmas.{take-next}

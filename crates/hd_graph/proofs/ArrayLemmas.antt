@@ -4,7 +4,8 @@ use Rattle.std.specs.List.{position, prefix_len, AllZip}
 use Rattle.std.specs.Prelude.{not}
 use Rattle.hd_terms.specs.Dump.{Object, SlotEntry, no_object}
 use Rattle.hd_terms.specs.Edges.{index_of}
-use Rattle.hd_graph.specs.Shapes.{ObjectShape, ObjectArray, shape_slots, shape_group, row_object, row_objects, HasShape, AreColumns}
+use Rattle.hd_shapes.specs.Shapes.{ObjectShape, ObjectArray}
+use Rattle.hd_graph.specs.Shapes.{shape_slots, shape_group, row_object, row_objects, HasShape, AreColumns}
 use Rattle.hd_graph.proofs.ShapeLemmas.{length-shape_slots}
 
 -- a shape, where it doesn't matter which

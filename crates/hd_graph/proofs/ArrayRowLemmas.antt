@@ -20,7 +20,8 @@ use Rattle.hd_terms.specs.Classes.{ClassTable}
 use Rattle.hd_terms.specs.Objects.{object_of}
 use Rattle.hd_slots.specs.Table.{HasIdAt}
 use Rattle.hd_graph.specs.Arrays.{row_slots}
-use Rattle.hd_graph.specs.Shapes.{ObjectArray, row_object}
+use Rattle.hd_shapes.specs.Shapes.{ObjectArray}
+use Rattle.hd_graph.specs.Shapes.{row_object}
 use Rattle.hd_graph.specs.ArrayRows.{ObjectEntry, array_row, ids_in, id_count}
 use Rattle.hd_slots.proofs.CutLemmas.{last_from-push}
 

@@ -21,7 +21,8 @@ use Rattle.hd_terms.specs.Classes.{ClassTable}
 use Rattle.hd_terms.specs.Objects.{object_of}
 use Rattle.hd_terms.specs.Dump.{Object, SlotEntry}
 use Rattle.hd_slots.specs.Table.{id_at}
-use Rattle.hd_graph.specs.Shapes.{ClassObject, named_slots, row_object}
+use Rattle.hd_shapes.specs.Shapes.{ClassObject}
+use Rattle.hd_graph.specs.Shapes.{named_slots, row_object}
 use Rattle.hd_graph.specs.ArrayRows.{IsValueWithin, IsClassWithin, HasLinks, values_of_statics, values_of_constants, value_ids, value_names, static_bytes, class_row, class_names, class_weight}
 use Rattle.hd_graph.proofs.ArrayRowLemmas.{id-behind}
 use Rattle.hd_graph.proofs.RisingLemmas.{as-many-names}

@@ -25,7 +25,8 @@ use Rattle.hd_terms.specs.Objects.{object_of}
 use Rattle.hd_slots.specs.Table.{HasIdAt}
 use Rattle.hd_classes.specs.Fits.{IsMisfit, FitsClass, SizedClasses}
 use Rattle.hd_classes.specs.Known.{known_at, known_by_number}
-use Rattle.hd_graph.specs.Shapes.{shape_bytes, named_slots, with_kind, referent_kind, HasShape, ComesBefore, IsRising}
+use Rattle.hd_shapes.specs.Shapes.{shape_bytes}
+use Rattle.hd_graph.specs.Shapes.{named_slots, with_kind, referent_kind, HasShape, ComesBefore, IsRising}
 use Rattle.hd_graph.specs.ArrayRows.{placed_fields, value_ids, field_names, layout_names, fitting, instance_entry}
 use Rattle.hd_classes.proofs.FieldLemmas.{layout_len-cons}
 use Rattle.hd_slots.proofs.CutLemmas.{last_from-push}

@@ -23,7 +23,8 @@ use Rattle.hd_terms.specs.Slots.{strong_slot}
 use Rattle.hd_graph.specs.declared.kinds.KeptEdge.{KeptEdge}
 use Rattle.hd_graph.specs.declared.kinds.KindLists.{KindLists}
 use Rattle.hd_graph.specs.Arrays.{row_slots}
-use Rattle.hd_graph.specs.Shapes.{ObjectShape, ObjectArray, PrimitiveArray, ClassObject, Instance, named_slots, with_kind, referent_kind, shape_slots, shape_index, shape_referent, slot_name, slot_kind, row_objects, ComesBefore, IsRising, HasShape, HasFewNames, AreColumns}
+use Rattle.hd_shapes.specs.Shapes.{ObjectShape, ObjectArray, PrimitiveArray, ClassObject, Instance}
+use Rattle.hd_graph.specs.Shapes.{named_slots, with_kind, referent_kind, shape_slots, shape_index, shape_referent, slot_name, slot_kind, row_objects, ComesBefore, IsRising, HasShape, HasFewNames, AreColumns}
 use Rattle.hd_graph.specs.Kinds.{kept_of, kept_edge, of_kind, AreKept, edges_at, IsOnlyEdge, IsReferentEdge, KeepsEdgesOf, edges_between, AreKindsBetween, AreKindsOfPart, AreKinds, part_start}
 use Rattle.hd_graph.proofs.ShapeLemmas.{differs, slot-at, slot_of, few-names}
 use Rattle.hd_graph.proofs.ArrayLemmas.{any_shape, length-row_objects, slots-at, fit-at, index_of-row_objects}

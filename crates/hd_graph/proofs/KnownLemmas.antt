@@ -6,8 +6,8 @@ use Rattle.std.specs.List.{slice_get}
 use Rattle.hd_terms.specs.declared.IdSize.{IdSize}
 use Rattle.hd_terms.specs.Classes.{ResolvedClass, layout_len}
 use Rattle.hd_classes.specs.Fits.{IsMisfit}
-use Rattle.hd_graph.specs.Shapes.{ObjectShape}
-use Rattle.hd_graph.specs.PackedShapes.{shape_at}
+use Rattle.hd_shapes.specs.Shapes.{ObjectShape}
+use Rattle.hd_shapes.specs.PackedShapes.{shape_at}
 
 abbrev second : ℕ × ResolvedClass → ResolvedClass
 second p = p.1

@@ -1,6 +1,5 @@
 pub mod RowSlots
 pub mod ShapeLemmas
-pub mod PackedLemmas
 pub mod MadeLemmas
 pub mod RisingLemmas
 pub mod ClassLemmas

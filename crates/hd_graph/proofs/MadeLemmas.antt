@@ -6,8 +6,8 @@ use Rattle.std.proofs.lemmas.List.{length-replicate}
 use Rattle.hd_terms.specs.declared.IdSize.{IdSize}
 use Rattle.hd_terms.specs.Classes.{ResolvedClass, layout_len}
 use Rattle.hd_classes.specs.Known.{Known, known_by_number}
-use Rattle.hd_graph.specs.Shapes.{ObjectShape, shape_bytes}
-use Rattle.hd_graph.specs.PackedShapes.{made_layout}
+use Rattle.hd_shapes.specs.Shapes.{ObjectShape, shape_bytes}
+use Rattle.hd_shapes.specs.PackedShapes.{made_layout}
 use Rattle.hd_graph.specs.ArrayRows.{layout_shape}
 use Rattle.hd_graph.specs.Building.{AreFewAndShort, AreLayouts, shape_by_number}
 use Rattle.hd_graph.proofs.KnownLemmas.{shape-of-number}

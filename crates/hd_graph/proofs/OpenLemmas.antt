@@ -26,7 +26,8 @@ use Rattle.hd_graph.specs.declared.number.Tally.{Tally}
 use Rattle.hd_graph.specs.GraphInside.{root_of_row}
 use Rattle.hd_slots.specs.Table.{Table}
 use Rattle.hd_classes.specs.Firsts.{firsts}
-use Rattle.hd_graph.specs.Shapes.{ObjectShape, IsSmall, AreColumns, row_objects, HasShape}
+use Rattle.hd_shapes.specs.Shapes.{ObjectShape}
+use Rattle.hd_graph.specs.Shapes.{IsSmall, AreColumns, row_objects, HasShape}
 use Rattle.hd_graph.specs.ArrayRows.{ObjectEntry, object_id, entry_of, entries_of, weight, item_weight, AreWithin, root_of_item, roots_in}
 use Rattle.hd_terms.specs.Classes.{bytes_of_span}
 use Rattle.hd_decode.specs.Bodies.{AreBodies, ReadsBodies, IsBodiesFault, IsBodiesFaultOrMemory}

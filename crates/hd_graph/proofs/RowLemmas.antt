@@ -11,7 +11,7 @@ use Rattle.hd_terms.specs.declared.Span.{Span}
 use Rattle.hd_terms.specs.SubRecords.{Sub, Item, ObjArray, PrimArray}
 use Rattle.hd_terms.specs.SubRecords as subs
 use Rattle.hd_slots.specs.Table.{Table, id_at}
-use Rattle.hd_graph.specs.Shapes.{ObjectShape, ObjectArray, PrimitiveArray, ClassObject}
+use Rattle.hd_shapes.specs.Shapes.{ObjectShape, ObjectArray, PrimitiveArray, ClassObject}
 use Rattle.hd_terms.specs.Types.{element_len}
 use Rattle.hd_terms.specs.FirstRecords.{id_of_item}
 use Rattle.hd_terms.specs.Classes.{ResolvedClass, KnownClasses}

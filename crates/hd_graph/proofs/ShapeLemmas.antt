@@ -13,7 +13,8 @@ use Rattle.hd_terms.specs.Dump.{SlotEntry}
 use Rattle.hd_terms.specs.EditedDump.{same_slot, slot_code}
 use Rattle.hd_terms.specs.Slots.{strong_slot}
 use Rattle.hd_graph.specs.Arrays.{row_slots}
-use Rattle.hd_graph.specs.Shapes.{ObjectShape, ObjectArray, PrimitiveArray, ClassObject, Instance, named_slots, with_kind, shape_slots, slot_name, slot_kind, shape_index, ComesBefore, IsRising, HasShape, IsNamedAt, HasFewNames}
+use Rattle.hd_shapes.specs.Shapes.{ObjectShape, ObjectArray, PrimitiveArray, ClassObject, Instance}
+use Rattle.hd_graph.specs.Shapes.{named_slots, with_kind, shape_slots, slot_name, slot_kind, shape_index, ComesBefore, IsRising, HasShape, IsNamedAt, HasFewNames}
 use Rattle.hd_graph.proofs.RowSlots.{length-row_slots, row_slots-class, row_slots-element, index-of-slot, first-index}
 
 -- as many slots as IDs

@@ -9,11 +9,12 @@ use Rattle.hd_terms.specs.declared.EdgeKind.{EdgeKind}
 use Rattle.hd_terms.specs.declared.EdgeKind.TheVariants as kinds
 use Rattle.hd_terms.specs.declared.Slot.{Slot}
 use Rattle.hd_terms.specs.declared.Slot.TheVariants as slots
-use Rattle.hd_graph.specs.declared.layouts.LayoutShape.{LayoutShape}
-use Rattle.hd_graph.specs.declared.shape.Shape as declared_shape
-use Rattle.hd_graph.specs.declared.shape.Shape.TheVariants as read
-use Rattle.hd_graph.specs.PackedShapes.{shape_view, layout_view}
-use Rattle.hd_graph.specs.Shapes.{ObjectShape, HasShape, IsNamedAt, referent_kind, slot_name, slot_kind, row_objects, AreColumns}
+use Rattle.hd_shapes.specs.declared.shape.LayoutShape.{LayoutShape}
+use Rattle.hd_shapes.specs.declared.shape.Shape as declared_shape
+use Rattle.hd_shapes.specs.declared.shape.Shape.TheVariants as read
+use Rattle.hd_shapes.specs.PackedShapes.{shape_view, layout_view}
+use Rattle.hd_shapes.specs.Shapes.{ObjectShape}
+use Rattle.hd_graph.specs.Shapes.{HasShape, IsNamedAt, referent_kind, slot_name, slot_kind, row_objects, AreColumns}
 use Rattle.hd_graph.proofs.ArrayLemmas.{length-row_objects, index_of-row_objects, slots-at, length-slots-at, fit-at, any_shape}
 use Rattle.hd_graph.proofs.ShapeLemmas.{slot_of, slot-at, named-there}
 

@@ -7,7 +7,7 @@ use Rattle.hd_terms.specs.Records.{largest_file}
 use Rattle.hd_terms.specs.SubRecords.{Sub, Item, ObjArray, PrimArray}
 use Rattle.hd_terms.specs.SubRecords as subs
 use Rattle.hd_terms.specs.Classes.{KnownClasses}
-use Rattle.hd_graph.specs.Shapes.{ObjectShape}
+use Rattle.hd_shapes.specs.Shapes.{ObjectShape}
 use Rattle.hd_classes.specs.Firsts.{firsts_from}
 use Rattle.hd_graph.specs.Shapes.{IsSmall, HasShape}
 use Rattle.hd_graph.specs.ArrayRows.{ObjectEntry, fitting, entry_of, entry_of_item, entries_of, IsItemWithin, IsSubWithin, AreWithin}

@@ -16,7 +16,7 @@ use Rattle.hd_terms.specs.Classes.{LayoutField, ResolvedClass, layout_len, Known
 use Rattle.hd_terms.specs.Dump.{Root}
 use Rattle.hd_terms.specs.declared.Slot.{Slot}
 use Rattle.hd_terms.specs.declared.Slot.TheVariants as slots
-use Rattle.hd_graph.specs.Shapes.{ObjectShape, ObjectArray, PrimitiveArray, ClassObject, Instance}
+use Rattle.hd_shapes.specs.Shapes.{ObjectShape, ObjectArray, PrimitiveArray, ClassObject, Instance}
 use Rattle.hd_classes.specs.Firsts.{firsts}
 use Rattle.hd_slots.specs.Table.{id_at, HasIdAt}
 

@@ -8,8 +8,8 @@ use Rattle.hd_terms.specs.SubRecords.{Sub, Item}
 use Rattle.hd_terms.specs.Classes.{ResolvedClass, KnownClasses}
 use Rattle.hd_terms.specs.ReadFaults.{fault, IsReadFault}
 use Rattle.hd_classes.specs.Known.{Known}
-use Rattle.hd_graph.specs.Shapes.{ObjectShape}
-use Rattle.hd_graph.specs.PackedShapes.{shape_at, made_layout}
+use Rattle.hd_shapes.specs.Shapes.{ObjectShape}
+use Rattle.hd_shapes.specs.PackedShapes.{shape_at, made_layout}
 use Rattle.hd_slots.specs.Table.{Table}
 use Rattle.hd_graph.specs.ArrayRows.{ObjectEntry, object_ids, entry_of, entry_of_item, shape_of_item, entries_of, item_weight, weight, layout_shape}
 

@@ -1,6 +1,5 @@
 pub mod Arrays
 pub mod Shapes
-pub mod PackedShapes
 pub mod Kinds
 pub mod GraphInside
 pub mod ArrayRows

@@ -12,24 +12,8 @@ use Rattle.hd_terms.specs.declared.EdgeKind.{EdgeKind}
 use Rattle.hd_terms.specs.declared.EdgeKind.TheVariants as kinds
 use Rattle.hd_terms.specs.EditedDump.{slot_code, same_slot, is_slot}
 use Rattle.hd_slots.specs.Cuts.{last_from}
+use Rattle.hd_shapes.specs.Shapes.{ObjectShape, ObjectArray, PrimitiveArray, ClassObject, Instance, shape_bytes}
 use Rattle.hd_graph.specs.Arrays.{row_slots, row_index}
-
-pub data ObjectShape : Type 0 where
-  -- an object array, or an instance of a class that isn't known, and its recorded bytes
-  ObjectArray : (bytes : ℕ) → ObjectShape
-  -- a primitive array: the type of its elements, and its recorded bytes
-  PrimitiveArray : (element bytes : ℕ) → ObjectShape
-  -- a class object: its recorded bytes, and the names of its slots
-  ClassObject : (bytes : ℕ) → (names : List Slot) → ObjectShape
-  -- an instance of a class that is known: its recorded bytes, the names of its slots, the one that is its referent, and the
-  -- kind of the reference there
-  Instance : (bytes : ℕ) → (names : List Slot) → (referent : Option Slot) → (kind : EdgeKind) → ObjectShape
-
-abbrev pub shape_bytes : ObjectShape → ℕ
-shape_bytes (ObjectArray bytes) = bytes
-shape_bytes (PrimitiveArray element bytes) = bytes
-shape_bytes (ClassObject bytes names) = bytes
-shape_bytes (Instance bytes names referent kind) = bytes
 
 -- what an object is counted under: an instance or an object array under its class, the last ID of its row
 abbrev pub shape_group : ObjectShape → List ℕ → Group

@@ -3,10 +3,10 @@ ghost use Rattle.std.specs.Prelude.{◌≡◌, ◌<◌, ◌^◌, ◌-◌, ◌∷
 ghost use Rattle.hd_terms.specs.Types.{is_id_type};
 ghost use Rattle.hd_terms.specs.declared.Slot.TheVariants as slots;
 ghost use Rattle.hd_subs.specs.Views.{static_view, constant_view, class_view};
-ghost use Rattle.hd_graph.specs.Shapes.{ClassObject};
+ghost use Rattle.hd_shapes.specs.Shapes.{ClassObject};
 ghost use Rattle.hd_graph.specs.ArrayRows.{values_of_statics, values_of_constants, value_names, static_bytes, class_names, class_weight};
 
-use crate::shape::{ClassShape, Shapes};
+use hd_shapes::{ClassShape, Shapes};
 use hd_subs::{ClassDump, Constant, Static};
 use hd_terms::{Slot, is_id_type};
 use std::alloc::{AllocError, Global};

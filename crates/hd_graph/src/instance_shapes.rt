@@ -6,8 +6,8 @@ ghost use Rattle.hd_graph.specs.ArrayRows.{fitting, instance_entry};
 ghost use Rattle.hd_graph.specs.Building.{AreLayouts, shape_by_number};
 
 use crate::layouts::shape_of_class;
-use crate::shape::Shapes;
 use hd_classes::{Fit, LayoutBytes};
+use hd_shapes::Shapes;
 use hd_terms::Span;
 use std::alloc::{AllocError, Global};
 

@@ -8,7 +8,7 @@ ghost use Rattle.hd_graph.specs.Shapes.{AreColumns, row_objects};
 ghost use Rattle.hd_graph.specs.Kinds.{kept_of, IsReferentEdge, AreKindsOfPart, AreKinds};
 
 use crate::graph::{Graph, index_in, kind_of_slot, referent_in};
-use crate::shape::Shapes;
+use hd_shapes::Shapes;
 use hd_slots::SlotTable;
 use hd_terms::{EdgeKind, RefKind, Slot};
 use std::alloc::{AllocError, Global};

@@ -4,22 +4,13 @@ ghost use Rattle.hd_terms.specs.Classes as classes_of;
 ghost use Rattle.hd_classes.specs.Fits.{length_by_number};
 ghost use Rattle.hd_classes.specs.Known.{field_view};
 ghost use Rattle.hd_graph.specs.ArrayRows.{field_names, layout_names};
-ghost use Rattle.hd_graph.specs.PackedShapes.{layout_view};
+ghost use Rattle.hd_shapes.specs.PackedShapes.{layout_view};
 ghost use Rattle.hd_graph.specs.Building.{shape_by_number};
 
 use hd_classes::{Layout, LayoutBytes, LayoutField};
-use hd_terms::{EdgeKind, Slot, is_id_type};
+use hd_shapes::LayoutShape;
+use hd_terms::{Slot, is_id_type};
 use std::alloc::{AllocError, Global};
-
-/// What all instances of a class have alike: their recorded bytes, the names of their slots in their order, the slot that is
-/// their referent, and the kind of the reference in it.
-#[derive(Drop)]
-pub(crate) struct LayoutShape {
-    pub(crate) bytes: u32,
-    pub(crate) names: Vec<Slot>,
-    pub(crate) referent: Option<Slot>,
-    pub(crate) kind: EdgeKind,
-}
 
 /// Adds the names of those fields of one class that are references. Its first field has this number.
 fn push_names(names: &mut Vec<Slot>, first: u32, fields: &[LayoutField]) -> Result<(), AllocError>

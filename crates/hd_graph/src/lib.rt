@@ -13,7 +13,6 @@ mod kinds;
 mod layouts;
 mod number;
 mod opening;
-mod shape;
 
 pub use graph::{Graph, RootRead, SlotName, SlotRead};
 pub use opening::open_dump;

@@ -8,8 +8,8 @@ use std::alloc::Global;
 use std::fmt::Write as _;
 use std::process::Abort;
 
-/// How many arrays the row has: more than four parts of 4,096 objects hold.
-const ARRAYS: u32 = 20_000;
+/// How many arrays the row has: more than one part holds, whose pages fill a group of 262,144 objects.
+const ARRAYS: u32 = 300_000;
 
 /// The number of the array behind another in the row, where there is one.
 fn behind(o: u32) -> Option<u32> {
@@ -67,31 +67,35 @@ fn row_through_all_parts(rt: HostRuntime) {
 }
 
 /// How many arrays of a crowd the first array refers to. So many wait at once that a round has several threads.
-const FAN: u32 = 8_192;
+const FAN: u32 = 100_000;
 
-/// Writes all arrays of a crowd but the first one. Those of IDs from 0x1000 on refer to those from 0x4000 on, the first to the
-/// last, the second to the last but one, and so on. Each of those from 0x8000 on refers to the next.
+/// Writes all arrays of a crowd but the first one. Those of IDs from 0x100000 on refer to those from 0x200000 on, the first to
+/// the last, the second to the last but one, and so on. Each of those from 0x300000 on refers to the next.
 fn write_crowd<R: Abort>(rt: &R, text: &mut String) {
     for k in 0..FAN {
-        writeln!(text, "array {:x}: {:x}", 0x1000 + k, 0x4000 + (FAN - 1 - k)).expect(
+        let last = FAN - 1 - k;
+        writeln!(text, "array {:x}: {:x}", 0x10_0000 + k, 0x20_0000 + last).expect(
             rt,
             "the text grows",
         );
-        writeln!(text, "array {:x}:", 0x4000 + k).expect(rt, "the text grows");
-        writeln!(text, "array {:x}: {:x}", 0x8000 + k, 0x8000 + k + 1).expect(rt, "the text grows");
+        writeln!(text, "array {:x}:", 0x20_0000 + k).expect(rt, "the text grows");
+        writeln!(text, "array {:x}: {:x}", 0x30_0000 + k, 0x30_0000 + k + 1).expect(
+            rt,
+            "the text grows",
+        );
     }
 }
 
-/// The dump of a crowd: an array that a root holds and that refers to the arrays of IDs from 0x1000 on, and to a weak reference.
-/// The referent of this has the ID 0x9ffe: the last but one of those from 0x8000 on, which nothing else reaches.
+/// The dump of a crowd: an array that a root holds and that refers to the arrays of IDs from 0x100000 on, and to a weak
+/// reference. The referent of this has the ID 0x31869e: the last but one of those from 0x300000 on, which nothing else reaches.
 fn crowd<R: Abort>(rt: &R, alloc: Global) -> String {
     let mut text = String::new(alloc);
     text.push_str("ids 4\nreference-names\nsegment\nreference-classes\nroot 1\narray 1: 21")
         .expect(rt, "the text begins");
     for k in 0..FAN {
-        write!(text, " {:x}", 0x1000 + k).expect(rt, "the text grows");
+        write!(text, " {:x}", 0x10_0000 + k).expect(rt, "the text grows");
     }
-    text.push_str("\nreference 21 of 13: 9ffe\n")
+    text.push_str("\nreference 21 of 13: 31869e\n")
         .expect(rt, "the text grows");
     write_crowd(rt, &mut text);
     text
@@ -116,13 +120,12 @@ fn crowd_in_all_parts(rt: HostRuntime) {
     let graph = graph_of(&rt, rt.alloc(), text.as_str()).expect(&rt, "the dump opens");
     let front = Front::empty(rt.alloc()).expect(&rt, "a log is made");
     let alone = strengths_alone(&rt, rt.alloc(), &graph, &front).expect(&rt, "the search ends");
-    assert_eq!(rt; counted(&graph, &alone, 0x1000, Strength::Strong), 8_192);
-    assert_eq!(rt; counted(&graph, &alone, 0x4000, Strength::Strong), 8_192);
-    assert_eq!(rt;
-        counted(&graph, &alone, 0x8000, Strength::Unreachable),
-        8_190
-    );
-    assert_eq!(rt; counted(&graph, &alone, 0x8000, Strength::Weak), 2);
+    let strong = Strength::Strong;
+    assert_eq!(rt; counted(&graph, &alone, 0x10_0000, strong), 100_000);
+    assert_eq!(rt; counted(&graph, &alone, 0x20_0000, strong), 100_000);
+    let unreachable = Strength::Unreachable;
+    assert_eq!(rt; counted(&graph, &alone, 0x30_0000, unreachable), 99_998);
+    assert_eq!(rt; counted(&graph, &alone, 0x30_0000, Strength::Weak), 2);
 }
 
 #[test]
@@ -131,9 +134,13 @@ fn supports_of_a_crowd(rt: HostRuntime) {
     let graph = graph_of(&rt, rt.alloc(), text.as_str()).expect(&rt, "the dump opens");
     let front = Front::empty(rt.alloc()).expect(&rt, "a log is made");
     let strengths = from_scratch(&rt, rt.alloc(), &graph, &front).expect(&rt, "the search ends");
-    for k in [0u64, 1, 4_095, 8_190, 8_191] {
-        let o = graph.index_of(0x4000 + k).expect(&rt, "the array is there");
-        let source = graph.index_of(0x2fff - k).expect(&rt, "its array is there");
+    for k in [0u64, 1, 4_095, 99_998, 99_999] {
+        let o = graph
+            .index_of(0x20_0000 + k)
+            .expect(&rt, "the array is there");
+        let source = graph
+            .index_of(0x11_869f - k)
+            .expect(&rt, "its array is there");
         let slot = Slot::Element(0);
         assert!(rt; o < strengths.len());
         assert!(rt; strengths.support(o) == Support::Edge { source, slot });

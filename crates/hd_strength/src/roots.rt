@@ -13,22 +13,20 @@ use hd_terms::NoMemory;
 use std::alloc::Global;
 use std::thread::{Threads, for_each_mut};
 
-/// How many objects a part has at least, but for the last one.
+/// How many objects a part has at least, but for the last one, where strengths alone are asked for.
 const LEAST: u32 = 4096;
 
-/// From this length on, parts whose supports are kept end where a group of pages ends: pages of such parts are put one behind
-/// the other with no copy. They are longer by an eighth for that, at most.
-const LONG: u32 = 8 * GROUP as u32;
-
-/// How many objects each part of so many has, but for the last one. The flag says whether all will be kept of them.
+/// How many objects each part of so many has, but for the last one. The flag says whether all will be kept of them: then parts
+/// end where a group of pages ends, so that pages are put one behind the other with no copy.
 fn part_len(objects: u32, whole: bool) -> u32
     ensures { 0 < result }
 {
-    let len = objects.div_ceil(PARTS as u32).max(LEAST);
-    if !whole || len < LONG {
-        return len;
+    let parts = PARTS as u32;
+    if whole {
+        objects.div_ceil(parts * GROUP as u32).max(1) * GROUP as u32
+    } else {
+        objects.div_ceil(parts).max(LEAST)
     }
-    len.div_ceil(GROUP as u32) * GROUP as u32
 }
 
 /// The parts of so many objects, one behind the other, each with as many but for the last, before they have room for these. The

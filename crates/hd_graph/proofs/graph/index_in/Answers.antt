@@ -3,7 +3,7 @@ use Rattle.std.specs.List.{position}
 use Rattle.hd_terms.specs.declared.Slot.{Slot}
 use Rattle.hd_terms.specs.EditedDump.{same_slot}
 use Rattle.hd_graph.specs.Shapes.{shape_index}
-use Rattle.hd_graph.specs.PackedShapes.{shape_view}
+use Rattle.hd_shapes.specs.PackedShapes.{shape_view}
 use Rattle.hd_graph.proofs.graph.index_in.Goals as goal
 
 pub returns-in-Class : goal.returns-in-Class

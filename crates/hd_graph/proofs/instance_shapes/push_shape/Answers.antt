@@ -1,7 +1,7 @@
 use Rattle.std.proofs.Common.{◌∙◌, List, Option, [], ◌∷◌, ◌++◌, ap, sym, subst}
 use Rattle.std.specs.Prelude.{not}
-use Rattle.hd_graph.specs.Shapes.{ObjectShape}
-use Rattle.hd_graph.specs.PackedShapes.{ShapeLists, made_layout}
+use Rattle.hd_shapes.specs.Shapes.{ObjectShape}
+use Rattle.hd_shapes.specs.PackedShapes.{ShapeLists, made_layout}
 use Rattle.hd_graph.specs.Building.{AreLayouts}
 use Rattle.hd_graph.proofs.MadeLemmas.{some-made, made-more, some-bytes}
 use Rattle.hd_graph.proofs.instance_shapes.push_shape.Goals as goal

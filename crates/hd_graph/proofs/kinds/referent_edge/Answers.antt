@@ -1,5 +1,5 @@
 use Rattle.std.proofs.Common.{◌∙◌, arith, refl, sym}
-use Rattle.hd_graph.specs.PackedShapes.{shape_view}
+use Rattle.hd_shapes.specs.PackedShapes.{shape_view}
 use Rattle.hd_graph.proofs.KindLemmas.{none-from_not, few-there, no-referent, no-slot, within, no-object, an-object}
 use Rattle.hd_graph.proofs.kinds.referent_edge.Goals as goal
 

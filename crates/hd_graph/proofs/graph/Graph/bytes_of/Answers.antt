@@ -2,8 +2,8 @@ use Rattle.std.proofs.Common.{◌≡◌, ◌∙◌, ℕ, ◌<◌, ◌≤◌, len
 use Rattle.hd_terms.specs.Dump.{Object, Dump, object_at}
 use Rattle.hd_graph.specs.Shapes.{row_objects}
 use Rattle.hd_terms.specs.Records.{largest_file}
-use Rattle.hd_graph.specs.Shapes.{ObjectShape, shape_bytes}
-use Rattle.hd_graph.specs.PackedShapes.{shape_view}
+use Rattle.hd_shapes.specs.Shapes.{ObjectShape, shape_bytes}
+use Rattle.hd_shapes.specs.PackedShapes.{shape_view}
 use Rattle.std.proofs.lemmas.Option.{get_or_from_slice_get}
 use Rattle.hd_graph.proofs.ArrayLemmas.{length-row_objects, row_objects-at, any_shape}
 use Rattle.hd_graph.proofs.SmallLemmas.{small-at}

@@ -3,8 +3,9 @@ use Rattle.hd_terms.specs.Dump.{Dump, object_at}
 use Rattle.hd_slots.specs.Table.{row_at}
 use Rattle.hd_graph.specs.Shapes.{row_objects}
 use Rattle.hd_terms.specs.declared.Group.TheVariants as groups
-use Rattle.hd_graph.specs.Shapes.{ObjectShape, shape_group}
-use Rattle.hd_graph.specs.PackedShapes.{shape_view}
+use Rattle.hd_shapes.specs.Shapes.{ObjectShape}
+use Rattle.hd_graph.specs.Shapes.{shape_group}
+use Rattle.hd_shapes.specs.PackedShapes.{shape_view}
 use Rattle.std.proofs.lemmas.Option.{get_or_from_slice_get}
 use Rattle.hd_graph.proofs.ArrayLemmas.{length-row_objects, group-at, any_shape}
 use Rattle.hd_graph.proofs.graph.Graph.group_of.Goals as goal

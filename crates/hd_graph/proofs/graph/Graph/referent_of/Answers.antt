@@ -1,8 +1,9 @@
 use Rattle.std.proofs.Common.{◌≡◌, ◌∙◌, ◌<◌, length, get_or, ap, sym, arith}
 use Rattle.std.proofs.lemmas.Option.{get_or_from_slice_get}
 use Rattle.hd_terms.specs.Dump.{Object, Dump, object_at}
-use Rattle.hd_graph.specs.Shapes.{ObjectShape, shape_referent, row_objects}
-use Rattle.hd_graph.specs.PackedShapes.{shape_view}
+use Rattle.hd_shapes.specs.Shapes.{ObjectShape}
+use Rattle.hd_graph.specs.Shapes.{shape_referent, row_objects}
+use Rattle.hd_shapes.specs.PackedShapes.{shape_view}
 use Rattle.hd_graph.proofs.ArrayLemmas.{length-row_objects, row_objects-at, any_shape}
 use Rattle.hd_graph.proofs.graph.Graph.referent_of.Goals as goal
 

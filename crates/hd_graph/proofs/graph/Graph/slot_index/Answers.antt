@@ -3,8 +3,9 @@ use Rattle.std.specs.List.{position, slice_get}
 use Rattle.hd_terms.specs.Dump.{Dump, object_at, SlotEntry}
 use Rattle.hd_terms.specs.EditedDump.{same_slot}
 use Rattle.hd_slots.specs.Table.{row_at}
-use Rattle.hd_graph.specs.Shapes.{ObjectShape, HasShape, HasFewNames, shape_index, shape_slots, row_objects}
-use Rattle.hd_graph.specs.PackedShapes.{shape_view}
+use Rattle.hd_shapes.specs.Shapes.{ObjectShape}
+use Rattle.hd_graph.specs.Shapes.{HasShape, HasFewNames, shape_index, shape_slots, row_objects}
+use Rattle.hd_shapes.specs.PackedShapes.{shape_view}
 use Rattle.std.proofs.lemmas.Option.{get_or_from_slice_get}
 use Rattle.hd_graph.proofs.ArrayLemmas.{length-row_objects, slots-at, fit-at, any_shape}
 use Rattle.hd_graph.proofs.ShapeLemmas.{few-names, first-slot_index, slot_index-of}

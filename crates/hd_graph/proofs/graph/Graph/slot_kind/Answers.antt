@@ -4,7 +4,7 @@ use Rattle.hd_terms.specs.Dump.{Dump, object_at, no_object}
 use Rattle.hd_terms.specs.declared.Slot.{Slot}
 use Rattle.hd_slots.specs.Table.{row_at}
 use Rattle.hd_graph.specs.Shapes.{slot_name, slot_kind, row_objects}
-use Rattle.hd_graph.specs.PackedShapes.{shape_view, layout_view}
+use Rattle.hd_shapes.specs.PackedShapes.{shape_view, layout_view}
 use Rattle.hd_graph.proofs.ArrayLemmas.{length-row_objects}
 use Rattle.hd_graph.proofs.SlotLemmas.{named-here, kind-here, strong-elsewhere, strong-instance, name-of-instance}
 use Rattle.hd_graph.proofs.graph.Graph.slot_kind.Goals as goal

@@ -3,8 +3,9 @@ use Rattle.std.specs.List.{slice_get}
 use Rattle.hd_terms.specs.Dump.{Dump, SlotEntry, object_at, no_object}
 use Rattle.hd_terms.specs.declared.Slot.{Slot}
 use Rattle.hd_slots.specs.Table.{row_at}
-use Rattle.hd_graph.specs.Shapes.{ObjectShape, IsNamedAt, slot_name, slot_kind, row_objects}
-use Rattle.hd_graph.specs.PackedShapes.{shape_view}
+use Rattle.hd_shapes.specs.Shapes.{ObjectShape}
+use Rattle.hd_graph.specs.Shapes.{IsNamedAt, slot_name, slot_kind, row_objects}
+use Rattle.hd_shapes.specs.PackedShapes.{shape_view}
 use Rattle.std.proofs.lemmas.Option.{get_or_from_slice_get}
 use Rattle.hd_graph.proofs.ArrayLemmas.{length-row_objects, any_shape}
 use Rattle.hd_graph.proofs.ShapeLemmas.{named-there}

@@ -1,8 +1,8 @@
 use Rattle.std.proofs.Common.{◌<◌, length, arith}
 use Rattle.std.proofs.lemmas.List.{length-map}
-use Rattle.hd_graph.specs.PackedShapes.{numbered_layout}
-use Rattle.hd_graph.proofs.PackedLemmas.{bytes-made}
-use Rattle.hd_graph.proofs.shape.Shapes.instance_bytes.Goals as goal
+use Rattle.hd_shapes.specs.PackedShapes.{numbered_layout}
+use Rattle.hd_shapes.proofs.PackedLemmas.{bytes-made}
+use Rattle.hd_shapes.proofs.shape.Shapes.instance_bytes.Goals as goal
 
 pub returns-in_default : goal.returns-in_default
 returns-in_default c =

@@ -1,24 +1,35 @@
 //! What is kept of each object beside its references: its kind, its recorded bytes and the names of its slots.
 ghost use Rattle.std.specs.Prelude.{◌≡◌, ◌<◌, ◌-◌, ◌^◌, [], ◌∷◌, ◌++◌, length, replicate, set, slice_get, IsSome, Some, None, IfOk, OnOk};
 ghost use Rattle.std.specs.Option.{option_map};
-ghost use Rattle.hd_graph.specs.Shapes.{ObjectShape, ObjectArray, PrimitiveArray, shape_bytes};
-ghost use Rattle.hd_graph.specs.PackedShapes.{shape_view, class_shape_view, layout_view, made_layout, IsPackedOver, kept_shape};
+ghost use Rattle.hd_shapes.specs.Shapes.{ObjectShape, ObjectArray, PrimitiveArray, shape_bytes};
+ghost use Rattle.hd_shapes.specs.PackedShapes.{shape_view, class_shape_view, layout_view, made_layout, IsPackedOver, kept_shape};
 
-use crate::layouts::LayoutShape;
-use hd_terms::Slot;
+use crate::packed_shape::PackedShape;
+use crate::packed_shapes::PackedShapes;
+use hd_terms::{EdgeKind, Slot};
 use std::alloc::{AllocError, Global};
 use std::marker::Model;
 
 /// A class object: its recorded bytes, and the names of its slots in their order.
 #[derive(Drop)]
-pub(crate) struct ClassShape {
-    pub(crate) bytes: u32,
-    pub(crate) names: Vec<Slot>,
+pub struct ClassShape {
+    pub bytes: u32,
+    pub names: Vec<Slot>,
+}
+
+/// What all instances of a class have alike: their recorded bytes, the names of their slots in their order, the slot that is
+/// their referent, and the kind of the reference in it.
+#[derive(Drop)]
+pub struct LayoutShape {
+    pub bytes: u32,
+    pub names: Vec<Slot>,
+    pub referent: Option<Slot>,
+    pub kind: EdgeKind,
 }
 
 /// What an object is, and how many bytes are recorded of it.
 #[derive(Clone, Copy)]
-pub(crate) enum Shape<'a> {
+pub enum Shape<'a> {
     /// An object array, or an instance of a class that isn't known.
     ObjectArray { bytes: u32 },
     /// A primitive array, with the type of its elements, 4 to 11.
@@ -27,22 +38,10 @@ pub(crate) enum Shape<'a> {
     Instance(&'a LayoutShape),
 }
 
-/// A shape in eight bytes. Of a class it is its index among the classes, of an instance the index of its class's layout among
-/// those that were made.
-#[derive(Clone, Copy)]
-pub(crate) enum PackedShape {
-    ObjectArray { bytes: u32 },
-    PrimitiveArray { element: u8, bytes: u32 },
-    Class { index: u32 },
-    Instance { index: u32 },
-}
-
-const _: () = prove!(size_of::<PackedShape>() <= 8);
-
 /// The shapes of objects, in the order of their numbers. The shape that all instances of a class share is made with the first
 /// of them, so a class without instances takes four bytes.
-pub(crate) struct Shapes {
-    kept: Vec<PackedShape>,
+pub struct Shapes {
+    kept: PackedShapes,
     classes: Vec<ClassShape>,
     layouts: Vec<LayoutShape>,
     /// Of each class that is known: 0 if no shape of its instances was made, and else the index of that shape plus one.
@@ -63,13 +62,13 @@ impl Drop for Shapes {
 
 impl Model for Shapes {
     ghost use Rattle.std.specs.Prelude.{map, length};
-    ghost use Rattle.hd_graph.specs.PackedShapes.{ShapeLists, kept_shape, numbered_layout, ArePacked};
+    ghost use Rattle.hd_shapes.specs.PackedShapes.{ShapeLists, kept_shape, numbered_layout, ArePacked};
 
     ghost Value = { ShapeLists };
 
-    ghost view = { λ s. record { objects = map (kept_shape s.classes.items s.layouts.items) s.kept.items; layouts = map (numbered_layout s.layouts.items) s.numbers.items } };
+    ghost view = { λ s. record { objects = map (kept_shape s.classes.items s.layouts.items) s.kept; layouts = map (numbered_layout s.layouts.items) s.numbers.items } };
 
-    ghost invariant = { λ s. ArePacked s.kept.items (length s.classes.items) (length s.layouts.items) s.numbers.items };
+    ghost invariant = { λ s. ArePacked s.kept (length s.classes.items) (length s.layouts.items) s.numbers.items };
 }
 
 /// What is kept says, over the classes and the layouts.
@@ -91,14 +90,10 @@ fn shape_of<'a>(
 
 impl Shapes {
     /// No objects yet, with room for so many, and no shape of the instances of any of so many classes.
-    pub(crate) fn with_capacity(
-        alloc: Global,
-        objects: usize,
-        known: usize,
-    ) -> Result<Shapes, AllocError>
+    pub fn with_capacity(alloc: Global, objects: usize, known: usize) -> Result<Shapes, AllocError>
         ensures { IfOk result (λ s. s ≡ record { objects = []; layouts = replicate known None }) }
     {
-        let kept = Vec::with_capacity(alloc, objects)?;
+        let kept = PackedShapes::with_capacity(alloc, objects)?;
         let mut numbers = Vec::with_capacity(alloc, known)?;
         numbers.resize(known, 0)?;
         Ok(Shapes {
@@ -110,26 +105,26 @@ impl Shapes {
     }
 
     /// How many objects there are.
-    pub(crate) fn len(&self) -> usize
+    pub fn len(&self) -> usize
         ensures { result ≡ length self.now.objects }
     {
         self.kept.len()
     }
 
     /// The shape of the object of a number.
-    pub(crate) fn get(&self, o: u32) -> Shape<'_>
+    pub fn get(&self, o: u32) -> Shape<'_>
         requires { o < length self.now.objects }
         ensures { slice_get self.now.objects o ≡ Some (shape_view result) }
     {
         shape_of(
-            self.kept[o as usize],
+            self.kept.get(o as usize),
             self.classes.as_slice(),
             self.layouts.as_slice(),
         )
     }
 
     /// An object array of so many bytes comes next.
-    pub(crate) fn push_object_array(&mut self, bytes: u32) -> Result<(), AllocError>
+    pub fn push_object_array(&mut self, bytes: u32) -> Result<(), AllocError>
         ensures { OnOk result (self.new ≡ record self.old { objects = self.old.objects ++ ObjectArray bytes ∷ [] }) }
     {
         self.kept.push(PackedShape::ObjectArray { bytes })?;
@@ -137,7 +132,7 @@ impl Shapes {
     }
 
     /// A primitive array of so many bytes comes next, with elements of a type.
-    pub(crate) fn push_primitive_array(&mut self, element: u8, bytes: u32) -> Result<(), AllocError>
+    pub fn push_primitive_array(&mut self, element: u8, bytes: u32) -> Result<(), AllocError>
         ensures { OnOk result (self.new ≡ record self.old { objects = self.old.objects ++ PrimitiveArray element bytes ∷ [] }) }
     {
         self.kept
@@ -146,7 +141,7 @@ impl Shapes {
     }
 
     /// How many bytes the values of instances of the class of a number have, if the shape of these instances was made.
-    pub(crate) fn instance_bytes(&self, class: usize) -> Option<u32>
+    pub fn instance_bytes(&self, class: usize) -> Option<u32>
         requires { class < length self.now.layouts }
         ensures { result ≡ option_map shape_bytes (made_layout self.now.layouts class) }
     {
@@ -157,7 +152,7 @@ impl Shapes {
     }
 
     /// An instance of the class of a number comes next, with the shape that was made for the class.
-    pub(crate) fn push_instance(&mut self, class: usize) -> Result<(), AllocError>
+    pub fn push_instance(&mut self, class: usize) -> Result<(), AllocError>
         requires { IsSome (made_layout self.old.layouts class) }
         ensures { OnOk result ((shape : ObjectShape) → made_layout self.old.layouts class ≡ Some shape → self.new ≡ record self.old { objects = self.old.objects ++ shape ∷ [] }) }
     {
@@ -167,7 +162,7 @@ impl Shapes {
     }
 
     /// An instance comes next, with the shape of its class's instances, which is kept by the number of the class.
-    pub(crate) fn push_first_instance(
+    pub fn push_first_instance(
         &mut self,
         class: usize,
         shape: LayoutShape,
@@ -180,22 +175,22 @@ impl Shapes {
         }) }
     {
         let index = self.layouts.len() as u32;
-        self.kept.reserve(1)?;
-        self.layouts.push(shape)?;
-        self.kept.push_reserved(PackedShape::Instance { index });
+        self.layouts.reserve(1)?;
+        self.kept.push(PackedShape::Instance { index })?;
+        self.layouts.push_reserved(shape);
         self.numbers[class] = index + 1;
         Ok(())
     }
 
     /// A class object comes next.
-    pub(crate) fn push_class(&mut self, class: ClassShape) -> Result<(), AllocError>
+    pub fn push_class(&mut self, class: ClassShape) -> Result<(), AllocError>
         requires { length self.old.objects < 2 ^ 32 - 1 }
         ensures { OnOk result (self.new ≡ record self.old { objects = self.old.objects ++ class_shape_view class ∷ [] }) }
     {
         let index = self.classes.len() as u32;
-        self.kept.reserve(1)?;
-        self.classes.push(class)?;
-        self.kept.push_reserved(PackedShape::Class { index });
+        self.classes.reserve(1)?;
+        self.kept.push(PackedShape::Class { index })?;
+        self.classes.push_reserved(class);
         Ok(())
     }
 }

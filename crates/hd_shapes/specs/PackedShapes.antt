@@ -2,13 +2,13 @@
 -- instances of its class share.
 use Rattle.std.specs.Prelude.{ℕ, zero, suc, ◌+◌, ◌<◌, ◌≤◌, List, [], length, map, Option, Some, None, All}
 use Rattle.std.specs.List.{slice_index_or}
-use Rattle.hd_graph.specs.declared.shape.ClassShape.{ClassShape}
-use Rattle.hd_graph.specs.declared.layouts.LayoutShape.{LayoutShape}
-use Rattle.hd_graph.specs.declared.shape.PackedShape.{PackedShape}
-use Rattle.hd_graph.specs.declared.shape.PackedShape.TheVariants as kept
-use Rattle.hd_graph.specs.declared.shape.Shape as declared_shape
-use Rattle.hd_graph.specs.declared.shape.Shape.TheVariants as read
-use Rattle.hd_graph.specs.Shapes.{ObjectShape, ObjectArray, PrimitiveArray, ClassObject, Instance}
+use Rattle.hd_shapes.specs.declared.shape.ClassShape.{ClassShape}
+use Rattle.hd_shapes.specs.declared.shape.LayoutShape.{LayoutShape}
+use Rattle.hd_shapes.specs.declared.packed_shape.PackedShape.{PackedShape}
+use Rattle.hd_shapes.specs.declared.packed_shape.PackedShape.TheVariants as kept
+use Rattle.hd_shapes.specs.declared.shape.Shape as declared_shape
+use Rattle.hd_shapes.specs.declared.shape.Shape.TheVariants as read
+use Rattle.hd_shapes.specs.Shapes.{ObjectShape, ObjectArray, PrimitiveArray, ClassObject, Instance}
 
 -- a class's shape
 abbrev pub class_shape_view : ClassShape → ObjectShape

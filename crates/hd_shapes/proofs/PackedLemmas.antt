@@ -4,12 +4,12 @@ use Rattle.std.specs.Prelude.{is_some}
 use Rattle.std.specs.Option.{option_map}
 use Rattle.std.proofs.lemmas.List.{map-append, map-set, get_or-map}
 use Rattle.std.proofs.lemmas.List.Elements.{All-head, All-tail, All-push, All-get_or}
-use Rattle.hd_graph.specs.declared.shape.ClassShape.{ClassShape}
-use Rattle.hd_graph.specs.declared.layouts.LayoutShape.{LayoutShape}
-use Rattle.hd_graph.specs.declared.shape.PackedShape.{PackedShape}
-use Rattle.hd_graph.specs.declared.shape.PackedShape.TheVariants as kept
-use Rattle.hd_graph.specs.Shapes.{ObjectShape, ClassObject, shape_bytes}
-use Rattle.hd_graph.specs.PackedShapes.{class_shape_view, layout_view, shape_at, made_layout, kept_shape, numbered_layout, ShapeLists, IsPackedOver, ArePacked}
+use Rattle.hd_shapes.specs.declared.shape.ClassShape.{ClassShape}
+use Rattle.hd_shapes.specs.declared.shape.LayoutShape.{LayoutShape}
+use Rattle.hd_shapes.specs.declared.packed_shape.PackedShape.{PackedShape}
+use Rattle.hd_shapes.specs.declared.packed_shape.PackedShape.TheVariants as kept
+use Rattle.hd_shapes.specs.Shapes.{ObjectShape, ClassObject, shape_bytes}
+use Rattle.hd_shapes.specs.PackedShapes.{class_shape_view, layout_view, shape_at, made_layout, kept_shape, numbered_layout, ShapeLists, IsPackedOver, ArePacked}
 
 -- two functions that agree on the elements of a list
 map-same : {X Y : Type 0} (P : X → Type 0) (f g : X → Y) → ((x : X) → P x → f x ≡ g x) → (xs : List X) → All P xs → map f xs ≡ map g xs

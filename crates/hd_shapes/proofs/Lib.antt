@@ -1,0 +1,2 @@
+pub mod CodeLemmas
+pub mod PackedLemmas
