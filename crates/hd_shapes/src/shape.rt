@@ -10,7 +10,7 @@ use hd_terms::{EdgeKind, Slot};
 use std::alloc::{AllocError, Global};
 use std::marker::Model;
 
-/// A class object: its recorded bytes, and the names of its slots in their order.
+/// A class object: how many bytes are recorded of it, and the names of its slots in their order.
 #[derive(Drop)]
 pub struct ClassShape {
     pub bytes: u32,
@@ -34,12 +34,17 @@ pub enum Shape<'a> {
     ObjectArray { bytes: u32 },
     /// A primitive array, with the type of its elements, 4 to 11.
     PrimitiveArray { element: u8, bytes: u32 },
+    /// A class object.
     Class(&'a ClassShape),
+    /// An instance of a class that is known.
     Instance(&'a LayoutShape),
 }
 
 /// The shapes of objects, in the order of their numbers. The shape that all instances of a class share is made with the first
 /// of them, so a class without instances takes four bytes.
+///
+/// An object takes four bytes. A class, an object array of 2^30 bytes or more, and a primitive array of 2^26 bytes or more take
+/// eight more; there can be 2^30 of these.
 pub struct Shapes {
     kept: PackedShapes,
     classes: Vec<ClassShape>,
@@ -90,6 +95,10 @@ fn shape_of<'a>(
 
 impl Shapes {
     /// No objects yet, with room for so many, and no shape of the instances of any of so many classes.
+    ///
+    /// # Errors
+    ///
+    /// Out of memory.
     pub fn with_capacity(alloc: Global, objects: usize, known: usize) -> Result<Shapes, AllocError>
         ensures { IfOk result (λ s. s ≡ record { objects = []; layouts = replicate known None }) }
     {
@@ -124,6 +133,10 @@ impl Shapes {
     }
 
     /// An object array of so many bytes comes next.
+    ///
+    /// # Errors
+    ///
+    /// Out of memory, or 2^30 shapes that take eight bytes more are there already.
     pub fn push_object_array(&mut self, bytes: u32) -> Result<(), AllocError>
         ensures { OnOk result (self.new ≡ record self.old { objects = self.old.objects ++ ObjectArray bytes ∷ [] }) }
     {
@@ -132,6 +145,10 @@ impl Shapes {
     }
 
     /// A primitive array of so many bytes comes next, with elements of a type.
+    ///
+    /// # Errors
+    ///
+    /// Out of memory, or 2^30 shapes that take eight bytes more are there already.
     pub fn push_primitive_array(&mut self, element: u8, bytes: u32) -> Result<(), AllocError>
         ensures { OnOk result (self.new ≡ record self.old { objects = self.old.objects ++ PrimitiveArray element bytes ∷ [] }) }
     {
@@ -152,6 +169,10 @@ impl Shapes {
     }
 
     /// An instance of the class of a number comes next, with the shape that was made for the class.
+    ///
+    /// # Errors
+    ///
+    /// Out of memory, or 2^30 shapes that take eight bytes more are there already.
     pub fn push_instance(&mut self, class: usize) -> Result<(), AllocError>
         requires { IsSome (made_layout self.old.layouts class) }
         ensures { OnOk result ((shape : ObjectShape) → made_layout self.old.layouts class ≡ Some shape → self.new ≡ record self.old { objects = self.old.objects ++ shape ∷ [] }) }
@@ -162,6 +183,10 @@ impl Shapes {
     }
 
     /// An instance comes next, with the shape of its class's instances, which is kept by the number of the class.
+    ///
+    /// # Errors
+    ///
+    /// Out of memory, or 2^30 shapes that take eight bytes more are there already.
     pub fn push_first_instance(
         &mut self,
         class: usize,
@@ -183,6 +208,10 @@ impl Shapes {
     }
 
     /// A class object comes next.
+    ///
+    /// # Errors
+    ///
+    /// Out of memory, or 2^30 shapes that take eight bytes more are there already.
     pub fn push_class(&mut self, class: ClassShape) -> Result<(), AllocError>
         requires { length self.old.objects < 2 ^ 32 - 1 }
         ensures { OnOk result (self.new ≡ record self.old { objects = self.old.objects ++ class_shape_view class ∷ [] }) }
