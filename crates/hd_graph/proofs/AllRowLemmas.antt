@@ -1,8 +1,10 @@
 -- Filling the rows and shapes of the objects of all sub-records, and what they are where no ID is repeated.
-use Rattle.std.proofs.Common.{◌≡◌, ◌∙◌, ℕ, suc, ◌+◌, ◌≤◌, List, [], ◌∷◌, ◌++◌, length, map, take, Option, Some, None, Bool, true, false, cond, refl, sym, ap, subst, arith}
+use Rattle.std.proofs.Common.{◌≡◌, ◌∙◌, ℕ, suc, ◌+◌, ◌-◌, ◌≤◌, List, [], ◌∷◌, ◌++◌, length, map, take, drop, Option, Some, None, Bool, true, false, cond, refl, sym, ap, subst, arith}
 use Rattle.std.specs.Option.{option_map}
 use Rattle.std.specs.List.{filter_map, cons_option, slice_get}
-use Rattle.std.proofs.lemmas.List.{append-nil, map-append, length-map}
+use Rattle.std.proofs.lemmas.List.{append-nil, map-append, length-map, length-drop, get_or-drop, take_all, take-append-drop}
+use Rattle.std.proofs.lemmas.List.Sums.{sum_by-append}
+use Rattle.std.proofs.lemmas.Option.{get_or_from_slice_get, slice_get_within, slice_get-get_or}
 use Rattle.std.proofs.lemmas.List.Elements.{filter_map-append}
 use Rattle.hd_terms.specs.declared.IdSize.{IdSize}
 use Rattle.hd_terms.specs.declared.Span.{Span}
@@ -13,10 +15,10 @@ use Rattle.hd_slots.specs.Table.{Table}
 use Rattle.hd_classes.specs.Firsts.{firsts, firsts_from}
 use Rattle.hd_classes.proofs.FirstLemmas.{is_known, firsts-le, firsts-map, filter_map-le}
 use Rattle.hd_shapes.specs.Shapes.{ObjectShape}
-use Rattle.hd_graph.specs.ArrayRows.{ObjectEntry, fitting, instance_entry, object_ids, entry_of, entry_of_item, shape_of_item, entries_of, item_weight}
-use Rattle.hd_graph.specs.Building.{columns, AddsRowOf, AddsItemRow, HasAllRows, HasAllShapes, HasRowsOf}
+use Rattle.hd_graph.specs.ArrayRows.{ObjectEntry, fitting, instance_entry, object_ids, entry_of, entry_of_item, shape_of_item, entries_of, item_weight, weight}
+use Rattle.hd_graph.specs.Building.{columns, AddsRowOf, AddsItemRow, HasAllRows, HasAllShapes, HasRowsOf, stretch}
 use Rattle.hd_graph.proofs.NumberLemmas.{take-next}
-use Rattle.hd_graph.proofs.RowLemmas.{same, id_of_entry, row_of_entry, shape_of_entry, ids-of-entries, weight-push}
+use Rattle.hd_graph.proofs.RowLemmas.{same, id_of_entry, row_of_entry, shape_of_entry, ids-of-entries, weight-at, weight-push}
 
 -- one more sub-record
 module _ (known : KnownClasses) (bytes : List ℕ) (size : IdSize) (front : List Sub) (s : Sub) (old new : Table) (h : HasAllRows known bytes size front old) where
@@ -52,6 +54,48 @@ all-next known bytes size list i s is old new h adds =
     let added : AddsItemRow known bytes size s.item old new =
     subst (λ (n : IdSize). AddsItemRow known bytes n s.item old new) h.size_is (subst (λ (bs : List ℕ). AddsItemRow known bs old.size s.item old new) h.bytes_are adds) in
     subst (λ (front : List Sub). HasAllRows known bytes size front new) (sym (take-next list i s is)) (all-push known bytes size (take i list) s old new h added)
+
+-- what stands at an index of the rest of a list
+at-later : (list : List Sub) (first i : ℕ) (s : Sub) → slice_get list (first + i) ≡ Some s → slice_get (drop first list) i ≡ Some s
+at-later list first i s is =
+    let lt = slice_get_within list (first + i) s is in
+    slice_get-get_or (drop first list) i s (omega (arith, length-drop first list, lt)) ∙ ap (λ (x : Sub). Some x) (get_or-drop first list i s ∙ get_or_from_slice_get list (first + i) s s is)
+
+-- the same of a stretch of the sub-records
+pub stretch-next : (known : KnownClasses) (bytes : List ℕ) (size : IdSize) (list : List Sub) (first i : ℕ) (s : Sub) → slice_get list (first + i) ≡ Some s → (old new : Table)
+    → HasAllRows known bytes size (stretch first i list) old → AddsItemRow known old.bytes old.size s.item old new → HasAllRows known bytes size (stretch first (i + 1) list) new
+stretch-next known bytes size list first i s is = all-next known bytes size (drop first list) i s (at-later list first i s is)
+
+-- it weighs no more than all
+pub stretch-weight : (list : List Sub) (first i : ℕ) (s : Sub) → slice_get list (first + i) ≡ Some s → weight (stretch first i list) + item_weight s.item ≤ weight list
+stretch-weight list first i s is =
+    let rest = weight-at (drop first list) i s (at-later list first i s is) in
+    omega (arith, rest, sum_by-append (λ (x : Sub). item_weight x.item) (take first list) (drop first list), ap weight (take-append-drop first list))
+
+-- the rows of two stretches, one behind the other
+module _ (known : KnownClasses) (bytes : List ℕ) (size : IdSize) (front back : List Sub) (t u : Table) (h : HasAllRows known bytes size front t) (k : HasAllRows known bytes size back u) where
+  pub all-both : HasAllRows known bytes size (front ++ back) (record t { rows = t.rows ++ u.rows; count = t.count + u.count })
+  all-both = record {
+    bytes_are = h.bytes_are;
+    size_is = h.size_is;
+    ids_are = h.ids_are;
+    rows_are = ap (λ (rs : List (List ℕ)). rs ++ u.rows) h.rows_are
+        ∙ ap (λ (rs : List (List ℕ)). map row_of_entry (filter_map (entry_of known bytes size) front) ++ rs) k.rows_are
+        ∙ sym (map-append row_of_entry (filter_map (entry_of known bytes size) front) (filter_map (entry_of known bytes size) back))
+        ∙ ap (map row_of_entry) (sym (filter_map-append (entry_of known bytes size) front back));
+    filled = h.filled;
+    few = omega (arith, h.few, k.few, sum_by-append (λ (x : Sub). item_weight x.item) front back);
+  }
+
+-- a list is its stretches up to an index and from it on
+pub stretches : (list : List Sub) (split len : ℕ) → length list ≤ len → stretch 0 split list ++ stretch split (len - split) list ≡ list
+stretches list split len long =
+    ap (λ (back : List Sub). take split list ++ back) (take_all (len - split) (drop split list) (omega (arith, length-drop split list, long)))
+    ∙ take-append-drop split list
+
+pub stretches-weight : (list : List Sub) (split len : ℕ) → length list ≤ len → weight (stretch 0 split list) + weight (stretch split (len - split) list) ≡ weight list
+stretches-weight list split len long =
+    sym (sum_by-append (λ (x : Sub). item_weight x.item) (stretch 0 split list) (stretch split (len - split) list)) ∙ ap weight (stretches list split len long)
 
 -- one more shape, or none
 pub shapes-next : (known : KnownClasses) (size : IdSize) (list : List Sub) (i : ℕ) (s : Sub) → slice_get list i ≡ Some s → (old new : List ObjectShape)

@@ -1,5 +1,5 @@
 -- What filling the rows and shapes of objects, sub-record by sub-record, comes to.
-use Rattle.std.specs.Prelude.{◌≡◌, ◌⊎◌, ◌<◌, ◌≤◌, ◌+◌, ◌^◌, ◌≢◌, ℕ, List, length, slice_get, [], ◌∷◌, ◌++◌, map, Option, Some, None, All}
+use Rattle.std.specs.Prelude.{◌≡◌, ◌⊎◌, ◌<◌, ◌≤◌, ◌+◌, ◌^◌, ◌≢◌, ℕ, List, length, slice_get, take, drop, [], ◌∷◌, ◌++◌, map, Option, Some, None, All}
 use Rattle.std.specs.List.{filter_map}
 use Rattle.hd_terms.specs.declared.IdSize.{IdSize}
 use Rattle.hd_terms.specs.declared.errors.Cause.TheVariants as causes
@@ -77,6 +77,10 @@ pub record HasAllRows (known : KnownClasses) (bytes : List ℕ) (size : IdSize) 
   pub rows_are : t.rows ≡ map (λ (a : ObjectEntry). a.1) (filter_map (entry_of known bytes size) list)
   pub filled : t.filling ≡ []
   pub few : t.count ≤ weight list
+
+-- so many of a list, from an index on
+abbrev pub stretch : {X : Type 0} → ℕ → ℕ → List X → List X
+stretch first count list = take count (drop first list)
 
 -- the shapes are those of the objects of all sub-records
 abbrev pub HasAllShapes : KnownClasses → IdSize → List Sub → List ObjectShape → Type 0

@@ -5,7 +5,7 @@ ghost use Rattle.hd_terms.specs.FirstRecords.{id_of_item};
 ghost use Rattle.hd_classes.specs.Known.{known_at};
 ghost use Rattle.hd_subs.specs.Views.{item_view, sub_view};
 ghost use Rattle.hd_graph.specs.ArrayRows.{AreWithin, IsSubWithin, object_ids, item_weight, shape_of_item, weight};
-ghost use Rattle.hd_graph.specs.Building.{HasNoRows, HasRowsOf, HasAllRows, HasAllShapes, AddsItemRow, FillsItem, columns, AreLayouts, AreFewAndShort};
+ghost use Rattle.hd_graph.specs.Building.{HasNoRows, HasRowsOf, HasAllRows, HasAllShapes, AddsItemRow, FillsItem, columns, stretch, AreLayouts, AreFewAndShort};
 
 use crate::array_rows::{bytes_of_elements, push_array};
 use crate::class_rows::push_class_row;
@@ -142,28 +142,34 @@ fn fill_first_rows(
     requires classes { AreLayouts layouts.old.size layouts.old.classes shapes.old.layouts }
     ensures { OnOk result (HasRowsOf (known_at layouts.old.classes) slot_table.old.bytes slot_table.old.size list.now (columns slot_table.new shapes.new.objects)) }
 {
+    let subs = list.as_list();
     for i in 0..list.len() {
-        fill_next(alloc, slot_table, shapes, layouts, list.get(i))?;
+        fill_next(alloc, slot_table, shapes, layouts, subs.get(i))?;
     }
     Ok(())
 }
 
-/// Adds the row of the object of each sub-record that is one, whether its ID is an earlier one's or not.
+/// Adds the row of the object of each of some sub-records that is one, whether its ID is an earlier one's or not: so many from
+/// the first on.
 fn fill_all_rows(
     slot_table: &mut UnresolvedSlots<'_>,
     layouts: &mut LayoutBytes<'_>,
     list: &DumpSubs<'_>,
+    first: usize,
+    count: usize,
 ) -> Result<(), AllocError>
     requires size { layouts.old.size ≡ slot_table.old.size }
     requires within { AreWithin slot_table.old.size slot_table.old.bytes list.now }
+    requires there { first + count ≤ length list.now }
     requires no_ids { slot_table.old.ids ≡ [] }
     requires rows { slot_table.old.rows ≡ [] }
     requires filled { slot_table.old.filling ≡ [] }
     requires count { slot_table.old.count ≡ 0 }
-    ensures { OnOk result (HasAllRows (known_at layouts.old.classes) slot_table.old.bytes slot_table.old.size list.now slot_table.new) }
+    ensures { OnOk result (HasAllRows (known_at layouts.old.classes) slot_table.old.bytes slot_table.old.size (stretch first count list.now) slot_table.new) }
 {
-    for i in 0..list.len() {
-        fill_row(slot_table, layouts, list.get(i))?;
+    let subs = list.as_list();
+    for i in 0..count {
+        fill_row(slot_table, layouts, subs.get(first + i))?;
     }
     Ok(())
 }
@@ -180,29 +186,35 @@ fn fill_all_shapes(
     requires classes { AreLayouts layouts.old.size layouts.old.classes shapes.old.layouts }
     ensures { OnOk result (HasAllShapes (known_at layouts.old.classes) layouts.old.size list.now shapes.new.objects) }
 {
+    let subs = list.as_list();
     for i in 0..list.len() {
-        fill_shape(alloc, shapes, layouts, list.get(i))?;
+        fill_shape(alloc, shapes, layouts, subs.get(i))?;
     }
     Ok(())
 }
 
-/// The references of the objects of all sub-records, whether their IDs are repeated or not, over no IDs.
-pub(crate) fn all_rows_of<'a>(
+/// The references of the objects of some sub-records, whether their IDs are repeated or not, over no IDs: of so many
+/// sub-records from the first on. There is room for the rows of all that follow.
+pub(crate) fn rows_of_stretch<'a>(
     alloc: Global,
     classes: &Classes,
     id_size: IdSize,
     bytes: &'a [u8],
     list: &DumpSubs<'_>,
+    first: usize,
+    count: usize,
 ) -> Result<UnresolvedSlots<'a>, AllocError>
     requires within { AreWithin id_size bytes.now list.now }
     requires small { length bytes.now < 2 ^ 31 }
     requires classes { AreFewAndShort classes.now }
-    ensures { IfOk result (HasAllRows (known_at classes.now) bytes.now id_size list.now) }
+    requires there { first + count ≤ length list.now }
+    ensures { IfOk result (HasAllRows (known_at classes.now) bytes.now id_size (stretch first count list.now)) }
 {
     let mut layouts = LayoutBytes::new(alloc, classes, id_size)?;
     let no_ids = ObjectIds::with_capacity(alloc, 0, 0)?;
-    let mut slot_table = UnresolvedSlots::new(alloc, bytes, id_size, no_ids, list.len())?;
-    fill_all_rows(&mut slot_table, &mut layouts, list)?;
+    let room = list.len() - first;
+    let mut slot_table = UnresolvedSlots::new(alloc, bytes, id_size, no_ids, room)?;
+    fill_all_rows(&mut slot_table, &mut layouts, list, first, count)?;
     Ok(slot_table)
 }
 

@@ -5,10 +5,10 @@ ghost use Rattle.hd_terms.specs.Edges.{index_of};
 ghost use Rattle.hd_terms.specs.EditedDump.{same_slot};
 ghost use Rattle.hd_terms.specs.Dump.{SlotEntry, object_at, name_in};
 ghost use Rattle.hd_terms.specs.declared.Slot.{Slot};
-ghost use Rattle.hd_graph.specs.Arrays.{row_index};
 ghost use Rattle.hd_shapes.specs.Shapes.{shape_bytes};
-ghost use Rattle.hd_graph.specs.Shapes.{slot_name, slot_kind, shape_index, shape_referent, IsNamedAt, HasFewNames};
 ghost use Rattle.hd_shapes.specs.PackedShapes.{shape_view};
+ghost use Rattle.hd_graph.specs.Arrays.{row_index};
+ghost use Rattle.hd_graph.specs.Shapes.{slot_name, slot_kind, shape_index, shape_referent, IsNamedAt, HasFewNames};
 
 use crate::kinds::KindLists;
 use hd_classes::ClassNames;

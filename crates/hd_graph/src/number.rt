@@ -144,8 +144,9 @@ pub(crate) fn number(
         repeated: 0,
         opaque: 0,
     };
+    let subs = list.as_list();
     for i in 0..list.len() {
-        let sub = list.get(i);
+        let sub = subs.get(i);
         number_one(&mut ids, &mut roots, &mut tally, &mut layouts, sub)?;
     }
     Ok(Numbered { ids, roots, tally })

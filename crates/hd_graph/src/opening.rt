@@ -1,5 +1,5 @@
 //! Opening a heap dump: the passes over its records and sub-records that make its graph.
-ghost use Rattle.std.specs.Prelude.{◌≡◌, ◌<◌, ◌≤◌, ◌^◌, [], length, IfOk, IfErr};
+ghost use Rattle.std.specs.Prelude.{◌-◌, ◌≡◌, ◌<◌, ◌≤◌, ◌^◌, [], length, IfOk, IfErr};
 ghost use Rattle.std.specs.Arc.{arc_value};
 ghost use Rattle.hd_terms.specs.Workers.{IsWorkers};
 ghost use Rattle.hd_terms.specs.Objects.{IsDumpOf};
@@ -10,9 +10,9 @@ ghost use Rattle.hd_decode.specs.Bodies.{ReadsBodies};
 ghost use Rattle.hd_classes.specs.Known.{AreClassesOf, known_at};
 ghost use Rattle.hd_graph.specs.ArrayRows.{AreWithin, weight};
 ghost use Rattle.hd_graph.specs.Numbering.{IsNumbered, IsObjectFaultOrMemory};
-ghost use Rattle.hd_graph.specs.Building.{HasAllRows, HasAllShapes, AreFewAndShort, IsReadFaultOrMemory};
+ghost use Rattle.hd_graph.specs.Building.{HasAllRows, HasAllShapes, AreFewAndShort, IsReadFaultOrMemory, stretch};
 
-use crate::filling::{Rows, all_rows_of, all_shapes_of, rows_of};
+use crate::filling::{Rows, all_shapes_of, rows_of, rows_of_stretch};
 use crate::graph::{Graph, Repeats};
 use crate::kinds::kinds_of;
 use crate::number::{Numbered, number};
@@ -28,6 +28,51 @@ use std::alloc::{AllocError, Global};
 use std::random::RandomSource;
 use std::sync::Arc;
 use std::thread::{Threads, join};
+
+/// From how many sub-records on two threads make the rows.
+const MANY: usize = 1 << 18;
+
+/// The references of the objects of all sub-records of a file, whether their IDs are repeated or not, over no IDs. Where there
+/// are many, those of the last quarter are made beside the others, or, where the system refuses a thread, after them.
+///
+/// The rows take half as long again as the numbers, so the others are done about when these are. A larger part would be held
+/// twice while it is put behind the others.
+fn all_rows_of<'a, R: Threads + Sync>(
+    rt: &R,
+    alloc: Global,
+    bytes: &'a [u8],
+    list: &DumpSubs<'_>,
+    classes: &Classes,
+    id_size: IdSize,
+) -> Result<UnresolvedSlots<'a>, AllocError>
+    requires within { AreWithin id_size bytes.now list.now }
+    requires small { length bytes.now < 2 ^ 31 }
+    requires classes { AreFewAndShort classes.now }
+    ensures { IfOk result (HasAllRows (known_at classes.now) bytes.now id_size list.now) }
+{
+    let len = list.len();
+    let split = if len < MANY { len } else { len - len / 4 };
+    let front = || -> Result<UnresolvedSlots<'_>, AllocError>
+        requires within { AreWithin id_size bytes.now list.now }
+        requires small { length bytes.now < 2 ^ 31 }
+        requires classes { AreFewAndShort classes.now }
+        requires there { split ≤ length list.now }
+        ensures { IfOk result (HasAllRows (known_at classes.entry.now) bytes.entry.now id_size (stretch 0 split list.entry.now)) }
+    { rows_of_stretch(alloc, classes, id_size, bytes, list, 0, split) };
+    if split == len {
+        return front();
+    }
+    let back = || -> Result<UnresolvedSlots<'_>, AllocError>
+        requires within { AreWithin id_size bytes.now list.now }
+        requires small { length bytes.now < 2 ^ 31 }
+        requires classes { AreFewAndShort classes.now }
+        requires there { split ≤ len × (len ≤ length list.now) }
+        ensures { IfOk result (HasAllRows (known_at classes.entry.now) bytes.entry.now id_size (stretch split (len - split) list.entry.now)) }
+    { rows_of_stretch(alloc, classes, id_size, bytes, list, split, len - split) };
+    let (front, back) = join(rt, front, back);
+    let all = front?.with_rows_of(&back?)?;
+    Ok(all)
+}
 
 /// The references and the shapes of the objects of all sub-records of a file. Neither need the other, so they are made side by
 /// side; where the system refuses a thread, one after the other.
@@ -50,7 +95,7 @@ fn all_of<'a, R: Threads + Sync>(
         requires small { length bytes.now < 2 ^ 31 }
         requires classes { AreFewAndShort classes.now }
         ensures { IfOk result (HasAllRows (known_at classes.entry.now) bytes.entry.now id_size list.entry.now) }
-    { all_rows_of(alloc, classes, id_size, bytes, list) };
+    { all_rows_of(rt, alloc, bytes, list, classes, id_size) };
     let shapes = || -> Result<Shapes, AllocError>
         requires few { weight list.now ≤ 2147483647 }
         requires classes { AreFewAndShort classes.now }

@@ -1,3 +1,4 @@
+pub mod AtHand
 pub mod FoundBy
 pub mod IdHash
 pub mod Index

@@ -12,7 +12,8 @@ pub(crate) enum FoundBy<'a> {
     Plain(&'a PlainIds),
 }
 
-/// Finds the numbers of IDs, one after another. An ID that lies near the one before is found quicker; no answer depends on that.
+/// Finds the numbers of IDs, one after another. An ID that lies near one that was asked for is found quicker; no answer depends
+/// on that.
 #[derive(Drop)]
 pub struct Finder<'a> {
     pub(crate) by: FoundBy<'a>,

@@ -1,45 +1,95 @@
 //! Finding IDs by pages of the heap, one after another.
-ghost use Rattle.std.specs.Prelude.{◌≡◌, ◌==◌, ℕ, position};
+ghost use Rattle.std.specs.Prelude.{◌≡◌, ◌==◌, ◌≤◌, ℕ, All, length, position};
+ghost use Rattle.hd_ids.specs.Rows as rows;
+ghost use Rattle.hd_ids.specs.AtHand.{HasRow};
 
 use crate::numbers::Numbers;
 use crate::page_hasher::PageHasher;
-use crate::rows::{number_in, page_of, row_after};
+use crate::rows::{number_in, page_of, row_of};
 use indexmap::IndexSet;
 use std::marker::Model;
 
-/// Finds IDs by pages of the heap. The row of a page is looked up once for all IDs of the page that follow one another.
+/// How many rows are at hand.
+const AT_HAND: usize = 1024;
+
+/// A page, and its row, one past the last where it has none.
+#[derive(Clone, Copy)]
+pub(crate) struct PageRow {
+    page: u64,
+    row: usize,
+}
+
+/// Finds IDs by pages of the heap. Rows that were looked up are at hand for further IDs of their pages: references lead to
+/// few pages for a while.
 #[derive(Drop)]
 pub(crate) struct NearIds<'a> {
-    pub(crate) ids: &'a [u64],
-    pub(crate) pages: &'a IndexSet<u64, PageHasher>,
-    pub(crate) numbers: &'a Numbers,
-    /// The page that was looked up last, and its row.
-    pub(crate) last_page: u64,
-    pub(crate) last_row: usize,
+    ids: &'a [u64],
+    pages: &'a IndexSet<u64, PageHasher>,
+    numbers: &'a Numbers,
+    /// The rows at hand, each at the place of its page. Of pages that have one place it is that of the last one.
+    at_hand: [PageRow; AT_HAND],
+}
+
+/// The row of a page, one past the last where it has none. It is at hand afterwards.
+#[inline(always)]
+fn row_by_hand(
+    pages: &IndexSet<u64, PageHasher>,
+    at_hand: &mut [PageRow; AT_HAND],
+    page: u64,
+) -> usize
+    requires { All (HasRow pages.now.keys) at_hand.old }
+    ensures row { result ≡ rows.row_of pages.now.keys page }
+    ensures within { result ≤ length pages.now.keys }
+    ensures at_hand { All (HasRow pages.now.keys) at_hand.new }
+{
+    let place = (page / 8) as usize % AT_HAND;
+    let kept = at_hand[place];
+    if kept.page == page {
+        return kept.row;
+    }
+    let row = row_of(pages, page);
+    at_hand[place] = PageRow { page, row };
+    row
 }
 
 impl<'a> Model for NearIds<'a> {
     ghost use Rattle.std.specs.Prelude.{ℕ, List};
-    ghost use Rattle.hd_ids.specs.Rows.{AreRows};
+    ghost use Rattle.hd_ids.specs.AtHand.{AreAtHand};
 
     ghost Value = { List ℕ };
 
     ghost view = { λ a. a.ids.now };
 
-    ghost invariant = { λ a. AreRows a.pages.now.keys a.numbers.now a.ids.now a.last_page a.last_row };
+    ghost invariant = { λ a. AreAtHand a.pages.now.keys a.numbers.now a.ids.now a.at_hand };
 }
 
 impl<'a> NearIds<'a> {
+    /// Finds these IDs by rows of numbers. One row is at hand at first, that of a page.
+    pub(crate) fn new(
+        ids: &'a [u64],
+        pages: &'a IndexSet<u64, PageHasher>,
+        numbers: &'a Numbers,
+        page: u64,
+        row: usize,
+    ) -> NearIds<'a>
+        requires { rows.AreRows pages.now.keys numbers.now ids.now page row }
+        ensures { result ≡ ids.now }
+    {
+        NearIds {
+            ids,
+            pages,
+            numbers,
+            at_hand: [PageRow { page, row }; AT_HAND],
+        }
+    }
+
     /// The number of an ID, if it is one of them.
     #[inline(always)]
     pub(crate) fn index_of(&mut self, id: u64) -> Option<usize>
         ensures first { result ≡ position (λ x. id == x) self.old }
         ensures same { self.new ≡ self.old }
     {
-        let page = page_of(id);
-        let row = row_after(self.pages, self.last_page, self.last_row, page);
-        self.last_page = page;
-        self.last_row = row;
+        let row = row_by_hand(self.pages, &mut self.at_hand, page_of(id));
         (number_in(self.numbers, row, id) as usize).checked_sub(1)
     }
 }

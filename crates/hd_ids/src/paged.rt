@@ -105,13 +105,13 @@ impl PagedIds {
     pub(crate) fn near(&self) -> NearIds<'_>
         ensures { result ≡ self.now }
     {
-        NearIds {
-            ids: self.ids.as_slice(),
-            pages: &self.pages,
-            numbers: &self.numbers,
-            last_page: self.last_page,
-            last_row: self.last_row,
-        }
+        NearIds::new(
+            self.ids.as_slice(),
+            &self.pages,
+            &self.numbers,
+            self.last_page,
+            self.last_row,
+        )
     }
 
     /// Notes an ID, and answers whether it is new, or `None` where rows don't serve: a further row would have too few IDs,

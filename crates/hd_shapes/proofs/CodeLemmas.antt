@@ -6,6 +6,7 @@ use Rattle.std.proofs.lemmas.List.Elements.{All-head, All-tail}
 use Rattle.hd_shapes.specs.declared.packed_shape.PackedShape.{PackedShape}
 use Rattle.hd_shapes.specs.declared.packed_shape.PackedShape.TheVariants as shapes
 use Rattle.hd_shapes.specs.Codes.{shape_of_code, AreCodes}
+use Rattle.hd_shapes.proofs.PackedLemmas.{map-same}
 
 module _ (others : List PackedShape) (shape : PackedShape) where
   -- a code that was there stands for what it did
@@ -24,10 +25,7 @@ module _ (others : List PackedShape) (shape : PackedShape) where
       (get_or-append_right others (shape ∷ []) (length others) (code - 3 * 2 ^ 30) (shapes.Class 0) refl (omega arith) ∙ ap (λ (n : ℕ). get_or (shape ∷ []) n (shapes.Class 0)) first)
 
   codes-kept : (codes : List ℕ) → AreCodes codes others → map (shape_of_code (others ++ shape ∷ [])) codes ≡ map (shape_of_code others) codes
-  codes-kept [] all = refl
-  codes-kept (code ∷ codes) all =
-      ap (λ (s : PackedShape). s ∷ map (shape_of_code (others ++ shape ∷ [])) codes) (code-kept code (All-head (λ code. code < 3 * 2 ^ 30 + length others) code codes all))
-      ∙ ap (λ (ss : List PackedShape). shape_of_code others code ∷ ss) (codes-kept codes (All-tail (λ code. code < 3 * 2 ^ 30 + length others) code codes all))
+  codes-kept codes all = map-same (λ code. code < 3 * 2 ^ 30 + length others) (shape_of_code (others ++ shape ∷ [])) (shape_of_code others) code-kept codes all
 
   -- a shape that has no code of its own at the end
   pub other-push : (codes : List ℕ) (code : ℕ) → AreCodes codes others → code ≡ 3 * 2 ^ 30 + length others

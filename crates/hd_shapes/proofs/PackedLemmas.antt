@@ -12,7 +12,7 @@ use Rattle.hd_shapes.specs.Shapes.{ObjectShape, ClassObject, shape_bytes}
 use Rattle.hd_shapes.specs.PackedShapes.{class_shape_view, layout_view, shape_at, made_layout, kept_shape, numbered_layout, ShapeLists, IsPackedOver, ArePacked}
 
 -- two functions that agree on the elements of a list
-map-same : {X Y : Type 0} (P : X → Type 0) (f g : X → Y) → ((x : X) → P x → f x ≡ g x) → (xs : List X) → All P xs → map f xs ≡ map g xs
+pub map-same : {X Y : Type 0} (P : X → Type 0) (f g : X → Y) → ((x : X) → P x → f x ≡ g x) → (xs : List X) → All P xs → map f xs ≡ map g xs
 map-same {X} {Y} P f g same [] all = refl
 map-same {X} {Y} P f g same (x ∷ xs) all = ap (λ (y : Y). y ∷ map f xs) (same x (All-head P x xs all)) ∙ ap (λ (ys : List Y). g x ∷ ys) (map-same P f g same xs (All-tail P x xs all))
 

@@ -13,3 +13,5 @@ pub(crate) enum PackedShape {
     /// An instance of a class that is known.
     Instance { index: u32 },
 }
+
+const _: () = prove!(size_of::<PackedShape>() <= 8);

@@ -1,5 +1,6 @@
 -- Lemmas on a list cut at indexes.
-use Rattle.std.proofs.Common.{◌≡◌, ◌∙◌, ℕ, zero, suc, ◌-◌, ◌<◌, ◌≤◌, List, [], ◌∷◌, ◌++◌, length, take, drop, get_or, refl, ap, arith, All}
+use Rattle.std.proofs.Common.{◌≡◌, ◌∙◌, ℕ, zero, suc, ◌+◌, ◌-◌, ◌<◌, ◌≤◌, List, [], ◌∷◌, ◌++◌, length, map, take, drop, get_or, refl, ap, arith, All}
+use Rattle.std.proofs.Math.Seq.{drop-append-add}
 use Rattle.std.proofs.lemmas.List.{take-append-le, drop-append-le, length-drop}
 use Rattle.std.proofs.lemmas.List.Elements.{All-head, All-tail}
 use Rattle.hd_slots.specs.Cuts.{between, rows_from, last_from}
@@ -69,3 +70,55 @@ last-at d (id ∷ next ∷ rest) (suc k) last = last-at id (next ∷ rest) k (om
 pub last-none : (row : List ℕ) → length row ≡ 0 → last_from 0 row ≡ 0
 last-none [] none = refl
 last-none (id ∷ rest) none = absurd (omega arith)
+
+-- more cuts make more parts
+between-more : {X : Type 0} (s : ℕ) (es fs : List ℕ) (xs : List X) → between s (es ++ fs) xs ≡ between s es xs ++ between (last_from s es) fs xs
+between-more s [] fs xs = refl
+between-more s (e ∷ es) fs xs = ap (λ r. take (e - s) (drop s xs) ∷ r) (between-more e es fs xs)
+
+-- the index so much later
+abbrev pub later : ℕ → ℕ → ℕ
+later n s = n + s
+
+-- cuts that are as much later as the list is
+between-later : {X : Type 0} (s : ℕ) (es : List ℕ) (xs ys : List X) → between (length xs + s) (map (later (length xs)) es) (xs ++ ys) ≡ between s es ys
+between-later s [] xs ys = refl
+between-later s (e ∷ es) xs ys =
+    let n = length xs in
+    let width : n + e - (n + s) ≡ e - s = omega arith in
+    let rest = between (n + e) (map (later n) es) (xs ++ ys) in
+    ap (λ k. take k (drop (n + s) (xs ++ ys)) ∷ rest) width
+    ∙ ap (λ zs. take (e - s) zs ∷ rest) (drop-append-add xs ys s)
+    ∙ ap (λ r. take (e - s) (drop s ys) ∷ r) (between-later e es xs ys)
+
+last_from-more : (d : ℕ) (ss fs : List ℕ) → last_from d (ss ++ fs) ≡ last_from (last_from d ss) fs
+last_from-more d [] fs = refl
+last_from-more d (s ∷ ss) fs = last_from-more s ss fs
+
+last_from-later : (n d : ℕ) (ss : List ℕ) → last_from (n + d) (map (later n) ss) ≡ n + last_from d ss
+last_from-later n d [] = refl
+last_from-later n d (s ∷ ss) = last_from-later n s ss
+
+-- two lists that are cut, one behind the other: the first up to its end, the second from its beginning
+module _ {X : Type 0} (xs ys : List X) where
+  pub rows_from-both : (ss ts : List ℕ) → 0 < length ss → 0 < length ts → All (λ e. e ≤ length xs) ss → last_from 0 ss ≡ length xs → get_or ts 0 0 ≡ 0
+      → rows_from (ss ++ map (later (length xs)) (drop 1 ts)) (xs ++ ys) ≡ rows_from ss xs ++ rows_from ts ys
+  rows_from-both [] ts some others within whole zero_first = absurd (omega arith)
+  rows_from-both (s ∷ es) [] some others within whole zero_first = absurd (omega arith)
+  rows_from-both (s ∷ es) (t ∷ fs) some others within whole zero_first =
+      let n = length xs in
+      let more = map (later n) fs in
+      let here : between s es (xs ++ ys) ≡ between s es xs = between-append s es xs ys (All-head (λ e. e ≤ n) s es within) (All-tail (λ e. e ≤ n) s es within) in
+      let seam : last_from s es ≡ n + t = omega (arith, whole, zero_first) in
+      between-more s es more (xs ++ ys)
+      ∙ ap (λ r. r ++ between (last_from s es) more (xs ++ ys)) here
+      ∙ ap (λ k. between s es xs ++ between k more (xs ++ ys)) seam
+      ∙ ap (λ r. between s es xs ++ r) (between-later t fs xs ys)
+
+  pub last_from-both : (ss ts : List ℕ) → 0 < length ts → last_from 0 ss ≡ length xs → get_or ts 0 0 ≡ 0
+      → last_from 0 (ss ++ map (later (length xs)) (drop 1 ts)) ≡ length xs + last_from 0 ts
+  last_from-both ss [] others whole zero_first = absurd (omega arith)
+  last_from-both ss (t ∷ fs) others whole zero_first =
+      let n = length xs in
+      let seam : last_from 0 ss ≡ n + t = omega (arith, whole, zero_first) in
+      last_from-more 0 ss (map (later n) fs) ∙ ap (λ k. last_from k (map (later n) fs)) seam ∙ last_from-later n t fs

@@ -1,5 +1,5 @@
 -- The lists of which rows of IDs are made: the objects' IDs, the starts of the rows, the numbers, the absent IDs.
-use Rattle.std.specs.Prelude.{ℕ, ◌+◌, ◌<◌, ◌≤◌, ◌^◌, List, length, map, drop, All}
+use Rattle.std.specs.Prelude.{◌≡◌, ℕ, ◌+◌, ◌<◌, ◌≤◌, ◌^◌, List, length, map, drop, slice_index, All}
 use Rattle.hd_terms.specs.declared.IdSize.{IdSize}
 use Rattle.hd_slots.specs.Table.{Rows, Table, id_at, IsIdWithin}
 use Rattle.hd_slots.specs.Codes.{id_of_code, IsCode}
@@ -37,4 +37,5 @@ pub record AreOffsets (bytes : List ℕ) (size : IdSize) (ids starts offsets : L
   pub in_file : All (IsIdWithin size (length bytes)) offsets
   pub within : All (λ start. start ≤ length offsets) starts
   pub begins : 0 < length starts
+  pub from_zero : slice_index starts 0 ≡ 0
   pub room : length ids + length offsets < 2 ^ 32

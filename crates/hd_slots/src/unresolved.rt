@@ -1,5 +1,5 @@
 //! The references of all objects as the file has them: the offset of each ID, row by row.
-ghost use Rattle.std.specs.Prelude.{◌≡◌, ◌+◌, ◌<◌, ◌-◌, ◌^◌, [], ◌∷◌, ◌++◌, length, All, IfOk, OnOk, IsTrue, ◌↔◌, Some, slice_get};
+ghost use Rattle.std.specs.Prelude.{◌≡◌, ◌+◌, ◌<◌, ◌-◌, ◌^◌, [], ◌∷◌, ◌++◌, length, map, All, IfOk, OnOk, IsTrue, ◌↔◌, Some, slice_get};
 ghost use Rattle.hd_terms.specs.Records.{id_len};
 ghost use Rattle.hd_slots.specs.Table.{id_at, IsIdWithin};
 
@@ -48,6 +48,17 @@ impl<'a> Model for UnresolvedSlots<'a> {
     ghost view = { table_of };
 
     ghost invariant = { IsUnresolved };
+}
+
+/// Adds starts of rows that are so much later.
+fn push_later(starts: &mut Vec<u32>, base: u32, more: &[u32]) -> Result<(), AllocError>
+    requires { All (λ start. base + start < 2 ^ 32) more.now }
+    ensures { OnOk result (starts.new.items ≡ starts.old.items ++ map (λ start. base + start) more.now) }
+{
+    for i in 0..more.len() {
+        starts.push(base + more[i])?;
+    }
+    Ok(())
 }
 
 impl<'a> UnresolvedSlots<'a> {
@@ -151,6 +162,41 @@ impl<'a> UnresolvedSlots<'a> {
             starts,
             offsets,
         }
+    }
+
+    /// The same rows, and behind them those of others, which are of the same file. No row is being filled.
+    ///
+    /// # Errors
+    ///
+    /// Out of memory.
+    pub fn with_rows_of(
+        self,
+        others: &UnresolvedSlots<'_>,
+    ) -> Result<UnresolvedSlots<'a>, AllocError>
+        requires bytes { others.now.bytes ≡ self.bytes }
+        requires size { others.now.size ≡ self.size }
+        requires filled { self.filling ≡ [] }
+        requires others_filled { others.now.filling ≡ [] }
+        requires room { length self.ids + self.count + others.now.count < 2 ^ 32 }
+        ensures { IfOk result (λ t. t ≡ record self.entry { rows = self.entry.rows ++ others.entry.now.rows; count = self.entry.count + others.entry.now.count }) }
+    {
+        let Self {
+            bytes,
+            id_size,
+            ids,
+            mut starts,
+            mut offsets,
+        } = self;
+        let base = offsets.len() as u32;
+        offsets.extend_from_slice(others.offsets.as_slice())?;
+        push_later(&mut starts, base, &others.starts.as_slice()[1..])?;
+        Ok(UnresolvedSlots {
+            bytes,
+            id_size,
+            ids,
+            starts,
+            offsets,
+        })
     }
 
     /// The rows by numbers of objects, which are looked for on all processors.

@@ -39,16 +39,16 @@ module _ (mode : Mode) (whole : Bool) (s : Strength) (old new : Part) (e : Edge)
   place_within = omega (arith, own.first, own.last)
 
   pub found_here : found_at new e.target ≡ seen whole k
-  found_here = ap (λ (n : ℕ). reached_at new.found.list (e.target - n)) r.same_first ∙ ap (λ (f : Findings). reached_at f.list place) r.kept ∙ get_or-set_same old.found.list place (seen whole k) unreached place_within
+  found_here = ap (λ (n : ℕ). reached_at new.found.list (e.target - n)) r.keeps.same_first ∙ ap (λ (f : Findings). reached_at f.list place) r.keeps.kept ∙ get_or-set_same old.found.list place (seen whole k) unreached place_within
 
   pub found_others : (o : ℕ) → IsOwn old o → o ≢ e.target → found_at new o ≡ found_at old o
   found_others o his ne =
-      ap (λ (n : ℕ). reached_at new.found.list (o - n)) r.same_first
-      ∙ ap (λ (f : Findings). reached_at f.list (o - old.first)) r.kept
+      ap (λ (n : ℕ). reached_at new.found.list (o - n)) r.keeps.same_first
+      ∙ ap (λ (f : Findings). reached_at f.list (o - old.first)) r.keeps.kept
       ∙ get_or-set_other old.found.list place (o - old.first) (seen whole k) unreached (λ same. ne (omega (arith, same, his.first, own.first)))
 
   pub same_length : length new.found.list ≡ length old.found.list
-  same_length = ap (λ (f : Findings). length f.list) r.kept ∙ length-set old.found.list place (seen whole k)
+  same_length = ap (λ (f : Findings). length f.list) r.keeps.kept ∙ length-set old.found.list place (seen whole k)
 
   -- one less is unreached
   pub fewer : 1 ≤ rank s → unreached_of new + 1 ≡ unreached_of old
@@ -56,7 +56,7 @@ module _ (mode : Mode) (whole : Bool) (s : Strength) (old new : Part) (e : Edge)
       let strength : rank (seen whole k).strength ≡ rank s = ap rank (seen-strength whole k) in
       omega (
         arith,
-        ap (λ (f : Findings). unreached_count f.list) r.kept,
+        ap (λ (f : Findings). unreached_count f.list) r.keeps.kept,
         sum_by-set weight old.found.list place (seen whole k) unreached place_within,
         weight-none (found_at old e.target) low,
         weight-some (seen whole k) (omega arith),
@@ -73,7 +73,7 @@ module _ (mode : Mode) (whole : Bool) (s : Strength) (old new : Part) (e : Edge)
   ]
 
   pub own_after : (o : ℕ) → IsOwn old o → IsOwn new o
-  own_after o his = record { first = omega (arith, his.first, r.same_first); last = omega (arith, his.last, r.same_first, same_length) }
+  own_after o his = record { first = omega (arith, his.first, r.keeps.same_first); last = omega (arith, his.last, r.keeps.same_first, same_length) }
 
   still_queued : (o : ℕ) → Contains old.queue o → Contains new.queue o
   still_queued o c = elim (cases_lt (rank s) (rank (least_passed_on mode))) [
@@ -106,11 +106,11 @@ module _ (mode : Mode) (whole : Bool) (s : Strength) (old new : Part) (e : Edge)
   -- the part still says for itself what it did
   pub fit_after : (dump : Dump) → dump.mode ≡ mode → IsFit dump s old → 1 ≤ rank s → stamp + unreached_of old ≤ length dump.objects → IsFit dump s new
   fit_after dump same_mode f some room = record {
-    within = omega (arith, f.within, r.same_first, same_length);
+    within = omega (arith, f.within, r.keeps.same_first, same_length);
     few = f.few;
     queued = λ o c. let q = queued_after (λ o c. let was = f.queued o c in (was.0, was.1, subst (λ (m : Mode). IsPassedOn m s) same_mode was.2)) o c in (q.0, q.1, subst (λ (m : Mode). IsPassedOn m s) (sym same_mode) q.2);
-    room = omega (arith, room, r.counted, fewer some);
-    offered = λ u y c. own_after y.source (f.offered u y (subst (λ (b : Buckets). Contains (bucket b u) y) r.same_buckets c));
+    room = omega (arith, room, r.keeps.counted, fewer some);
+    offered = λ u y c. own_after y.source (f.offered u y (subst (λ (b : Buckets). Contains (bucket b u) y) r.keeps.same_buckets c));
   }
 
 -- by an offer that is backed, or could be made
@@ -159,10 +159,10 @@ module _ (dump : Dump) (log : List Event) (parts : List Part) (ks : List Reached
   ]
 
   stay : (u : Strength) (y : Offer) → IsOfferedIn parts u y → IsOfferedIn after u y
-  stay = offers_stay parts m old new there (λ u y c. subst (λ (b : Buckets). Contains (bucket b u) y) (sym r.same_buckets) c)
+  stay = offers_stay parts m old new there (λ u y c. subst (λ (b : Buckets). Contains (bucket b u) y) (sym r.keeps.same_buckets) c)
 
   within : (u : Strength) (y : Offer) → IsOfferedIn after u y → IsOfferedIn parts u y
-  within = offers_within parts m old new there (λ u y c. subst (λ (b : Buckets). Contains (bucket b u) y) r.same_buckets c)
+  within = offers_within parts m old new there (λ u y c. subst (λ (b : Buckets). Contains (bucket b u) y) r.keeps.same_buckets c)
 
   done_part : (o i : ℕ) → IsDoneIn after o × D' o i → PassesOn dump.mode (reached_at kept_after o) → (IsDoneIn parts o × D o i) × (o ≢ t)
   done_part o i done p = (
@@ -183,7 +183,7 @@ module _ (dump : Dump) (log : List Event) (parts : List Part) (ks : List Reached
   same_len = same_length dump.mode whole s old new e stamp r own low
 
   own_old : (o : ℕ) → IsOwn new o → IsOwn old o
-  own_old = own_before dump log parts ks whole s limit D m old new h there r.same_first same_len
+  own_old = own_before dump log parts ks whole s limit D m old new h there r.keeps.same_first same_len
 
   fit_new : IsFit dump s new
   fit_new = fit_after dump.mode whole s old new e stamp r own low dump refl (h.each m old there).fit some (omega (arith, room, part-le-sum unreached_of parts m old there))
@@ -196,19 +196,15 @@ module _ (dump : Dump) (log : List Event) (parts : List Part) (ks : List Reached
 
   stamps_after : (o : ℕ) → IsOwn new o → (reached_at kept_after o).stamp ≤ new.count
   stamps_after o mine = elim (cases_eq o t) [
-    | inl same ↦ omega (arith, ap (λ (o : ℕ). (reached_at kept_after o).stamp) same, ap (λ (k : Reached). k.stamp) here, r.counted)
-    | inr other ↦ omega (arith, ap (λ (k : Reached). k.stamp) (others o other), (h.each m old there).stamps o (own_old o mine), r.counted)
+    | inl same ↦ omega (arith, ap (λ (o : ℕ). (reached_at kept_after o).stamp) same, ap (λ (k : Reached). k.stamp) here, r.keeps.counted)
+    | inr other ↦ omega (arith, ap (λ (k : Reached). k.stamp) (others o other), (h.each m old there).stamps o (own_old o mine), r.keeps.counted)
   ]
 
   pub accepted : IsSearching dump log after kept_after whole s limit D'
-  accepted = changed dump log parts ks whole s limit D m old new h there r.same_first same_len kept_after limit D' grown fit_new (ap (λ (f : Findings). f.whole) r.kept) found_kept stamps_after
-      (omega (arith, room, r.counted, fewer_in)) (omega (arith, fewer_in)) (λ o apart. others o (λ same. apart (subst (IsOwn old) (sym same) own))) had
-      (λ o flag. had (rank s) o ((h.each m old there).handed o (rw (← r.same_handed) flag))) (length-set ks t k')
+  accepted = changed dump log parts ks whole s limit D m old new h there r.keeps.same_first same_len kept_after limit D' grown fit_new (ap (λ (f : Findings). f.whole) r.keeps.kept) found_kept stamps_after
+      (omega (arith, room, r.keeps.counted, fewer_in)) (omega (arith, fewer_in)) (λ o apart. others o (λ same. apart (subst (IsOwn old) (sym same) own))) had
+      (λ o flag. had (rank s) o ((h.each m old there).handed o (rw (← r.keeps.same_handed) flag))) (length-set ks t k')
 
   -- the target is reached
   pub target_after : rank_at kept_after t ≡ rank s
   target_after = ap (λ (k : Reached). rank k.strength) here
-
-  -- and what was reached still is
-  pub kept_stays : (o : ℕ) → 1 ≤ rank_at ks o → reached_at kept_after o ≡ reached_at ks o
-  kept_stays o reached = others o (λ same. let z : rank_at ks o ≡ 0 = ap (rank_at ks) same ∙ low_kept in omega arith)

@@ -116,9 +116,9 @@ ends dump log whole parts h =
             (λ o i. (λ k p there c. absurd (omega (arith, ((h.holds.each k p there).fit.queued o c).2, least-positive dump.mode)), record {}));
         stamps = λ o. elim (cases_lt o (length ks)) [
           | inl lt ↦
-              let holder = row-holder parts 0 (length dump.objects) o h.holds.row (omega arith) (omega (arith, h.holds.objects)) in
-              let q = h.holds.each holder.0 holder.1 holder.2 in
-              omega (arith, q.stamps o holder.3, q.room)
+              let there = row-holder parts 0 (length dump.objects) o h.holds.row (omega arith) (omega (arith, h.holds.objects)) in
+              let q = h.holds.each there.index there.holder.part there.holder.there in
+              omega (arith, q.stamps o there.holder.own, q.room)
           | inr past ↦ omega (arith, ap (λ (k : Reached). k.stamp) (get_or_past ks o unreached past))
         ];
       };

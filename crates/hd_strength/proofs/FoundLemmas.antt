@@ -26,11 +26,6 @@ alike-at (suc n) x (suc o) = alike-at n x o
 pub none-seen : (n : ℕ) → map only_strength (replicate n strengths.Unreachable) ≡ replicate n unreached
 none-seen n = map-replicate only_strength n strengths.Unreachable
 
--- what is seen of them is the same
-pub none-shown : (b : Bool) (n : ℕ) → map (seen b) (replicate n unreached) ≡ replicate n unreached
-none-shown true n = map-replicate (seen true) n unreached
-none-shown false n = map-replicate (seen false) n unreached
-
 -- the strength of each that is seen is its strength
 pub strengths-seen : (b : Bool) (ks : List Reached) → map strength_of (map (seen b) ks) ≡ map strength_of ks
 strengths-seen b [] = refl

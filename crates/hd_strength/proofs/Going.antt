@@ -18,7 +18,7 @@ use Rattle.hd_strength.specs.Buckets.{bucket, AddsTo}
 use Rattle.hd_strength.specs.Found.{Findings, seen}
 use Rattle.hd_strength.specs.Rows.{width, edge_at}
 use Rattle.hd_strength.specs.Growing.{rank_at, offered_strength, offer_at, IsBacked, IsHadOrPromised, unreached_count}
-use Rattle.hd_strength.specs.Parts.{IsOwn, found_at, unreached_of, to_do, IsOfferedIn, IsDoneIn, IsFit, IsSearching, AreSearching, IsAny, IsBelow, GoesOn, HasGoneOn, HasRelaxed, IsSameBut, IsTakenOut, HasNoneQueued, IsPassedOver, IsAccepted, IsOffered, Reaches}
+use Rattle.hd_strength.specs.Parts.{IsOwn, found_at, unreached_of, to_do, IsOfferedIn, IsDoneIn, IsFit, IsSearching, AreSearching, IsAny, IsBelow, GoesOn, HasGoneOn, HasRelaxed, IsSameBut, IsTakenOut, HasNoneQueued, IsPassedOver, IsAccepted, IsOffered, IsSlotRelaxed, Reaches}
 use Rattle.hd_strength.proofs.RowLemmas.{at_source, is_at}
 use Rattle.hd_strength.proofs.Rowed.{slice_get-set_same, set-there}
 use Rattle.hd_strength.proofs.Grow.{still_had, less_had, weaken, offer, offered_strength-le}
@@ -39,9 +39,6 @@ gone_on_after dump log s D E F a b c first second = record {
 
 -- a part that finds the same as another
 module _ (old new : Part) (first : new.first ≡ old.first) (found : new.found ≡ old.found) where
-  pub own_same : (o : ℕ) → IsOwn new o → IsOwn old o
-  own_same o own = record { first = omega (arith, first, own.first); last = omega (arith, first, own.last, ap (λ (f : Findings). length f.list) found) }
-
   pub own_same_back : (o : ℕ) → IsOwn old o → IsOwn new o
   own_same_back o own = record { first = omega (arith, first, own.first); last = omega (arith, first, own.last, ap (λ (f : Findings). length f.list) found) }
 
@@ -329,7 +326,7 @@ pub record HasLooked (dump : Dump) (log : List Event) (s : Strength) (start now 
 
 -- and up to the next
 pub looked : (dump : Dump) (log : List Event) (s : Strength) (start old new : Part) (o i : ℕ) → HasLooked dump log s start old o i → IsPassedOn dump.mode s
-    → IsPassedOver (edge_at dump log) old new o i ⊎ IsAccepted (seen old.found.whole) dump.mode (edge_at dump log) old new s o i old.count ⊎ IsOffered (edge_at dump log) old new s o i → HasLooked dump log s start new o (i + 1)
+    → IsSlotRelaxed dump.mode (edge_at dump log) old new s o i → HasLooked dump log s start new o (i + 1)
 looked dump log s start old new o i h passes (inl d) = record {
   gone_on = gone_on_after dump log s (IsBelow o 0) (IsBelow o i) (IsBelow o (i + 1)) start old new h.gone_on (passed_over dump log s old new o i h.gone_on.fit h.own h.source passes d);
   own = subst (λ (p : Part). IsOwn p o) (sym d.same) h.own;
@@ -397,17 +394,7 @@ prepared dump log s a b c f same queue h =
 abbrev pub HasBegun : Dump → List Event → Strength → Part → Part → ℕ → Type 0
 HasBegun dump log s start now n = ((n ≡ 0) × (now ≡ start)) ⊎ HasRelaxed dump log s start now
 
--- what it says for itself
-pub begun-fit : (dump : Dump) (log : List Event) (s : Strength) (start now : Part) (n : ℕ) → IsFit dump s start → HasBegun dump log s start now n → IsFit dump s now
-begun-fit dump log s start now n f (inl none) = subst (IsFit dump s) (sym none.1) f
-begun-fit dump log s start now n f (inr some) = some.gone_on.fit
-
--- one more
+-- one more object is passed on
 pub one_more : (dump : Dump) (log : List Event) (s : Strength) (start now new : Part) (n : ℕ) → HasBegun dump log s start now n → HasRelaxed dump log s now new → HasRelaxed dump log s start new
 one_more dump log s start now new n (inl none) step = subst (λ (p : Part). HasRelaxed dump log s p new) none.1 step
 one_more dump log s start now new n (inr some) step = relaxed_after dump log s start now new some step
-
--- after one at least it has relaxed
-pub begun-some : (dump : Dump) (log : List Event) (s : Strength) (start now : Part) (n : ℕ) → 0 < n → HasBegun dump log s start now n → HasRelaxed dump log s start now
-begun-some dump log s start now n lt (inl none) = absurd (omega (arith, none.0))
-begun-some dump log s start now n lt (inr some) = some

@@ -21,7 +21,7 @@ use Rattle.hd_strength.specs.Buckets.{bucket}
 use Rattle.hd_strength.specs.Found.{seen}
 use Rattle.hd_strength.specs.Rows.{edge_at, root_at, root_count}
 use Rattle.hd_strength.specs.Growing.{rank_at, AreHeld, IsHeldOrNot}
-use Rattle.hd_strength.specs.Parts.{AreBlank, AreSteps, IsOwn, IsNew, IsFresh, IsFit, IsPartOf, IsHolding, AreHolding, IsHeldBy, IsHeldIn, IsOfferedIn, IsSameBut, HasQueued, HaveComeTo, AreInRow, IsDoneIn, found_at, is_handed, unreached_of, unreached_in, with_found}
+use Rattle.hd_strength.specs.Parts.{AreBlank, BeginInSteps, IsOwn, IsNew, IsFresh, IsFit, IsPartOf, IsHolding, AreHolding, IsHeldBy, IsHeldIn, IsOfferedIn, IsSameBut, HasQueued, HaveComeTo, AreInRow, IsDoneIn, found_at, is_handed, unreached_of, unreached_in, with_found}
 use Rattle.hd_strength.proofs.Lists.{Contains-nil}
 use Rattle.hd_strength.proofs.FoundLemmas.{alike-at, seen-strength}
 use Rattle.hd_strength.proofs.Weights.{unreached_count-le}
@@ -130,8 +130,8 @@ pub record AreFresh (dump : Dump) (whole : Bool) (n : ℕ) (parts : List Part) (
   pub each : (k : ℕ) (p : Part) → slice_get parts k ≡ Some p → IsFresh dump (replicate n unreached) whole p
   pub row : AreInRow 0 parts end
 
--- one more part that has no objects yet
-steps-push : (len n : ℕ) (ps : List Part) (first end : ℕ) (p : Part) → AreSteps len n first ps end → p.first ≡ end → AreSteps len n first (ps ++ p ∷ []) (end + min len (n - end))
+-- one more part begins behind the others
+steps-push : (len n : ℕ) (ps : List Part) (first end : ℕ) (p : Part) → BeginInSteps len n first ps end → p.first ≡ end → BeginInSteps len n first (ps ++ p ∷ []) (end + min len (n - end))
 steps-push len n [] first end p steps is = (is ∙ sym steps, ap (λ (m : ℕ). m + min len (n - m)) steps)
 steps-push len n (q ∷ qs) first end p steps is = (steps.0, steps-push len n qs (first + min len (n - first)) end p steps.1 is)
 
@@ -142,11 +142,7 @@ push-cases [] x (suc k) y there = absurd (cc)
 push-cases (z ∷ zs) x zero y there = inl there
 push-cases (z ∷ zs) x (suc k) y there = push-cases zs x k y there
 
--- there is no part yet
-pub no_parts : (len n : ℕ) (whole : Bool) → AreBlank len n whole [] 0
-no_parts len n whole = record { each = λ k p there. absurd (cc); steps = refl }
-
--- there is one more
+-- there is one more part
 pub one_part : (len n : ℕ) (whole : Bool) (parts new : List Part) (first : ℕ) (p : Part) → AreBlank len n whole parts first → IsNew first 0 whole p → first ≤ n → new ≡ parts ++ p ∷ [] → AreBlank len n whole new (first + min len (n - first))
 one_part len n whole parts new first p h blank le is = rw is (record {
   each = λ k q there. elim (push-cases parts p k q there) [
@@ -165,7 +161,7 @@ there_too (x ∷ xs) (z ∷ ys) zero y same there = (x, refl)
 there_too (x ∷ xs) (z ∷ ys) (suc k) y same there = there_too xs ys k y (omega (arith, same)) there
 
 -- parts that have their objects are in a row
-filled-row : (len n : ℕ) (whole : Bool) (ps qs : List Part) (first end : ℕ) → AreSteps len n first ps end → length qs ≡ length ps → ((k : ℕ) (p q : Part) → slice_get ps k ≡ Some p → slice_get qs k ≡ Some q → IsNew p.first (min len (n - p.first)) whole q) → AreInRow first qs end
+filled-row : (len n : ℕ) (whole : Bool) (ps qs : List Part) (first end : ℕ) → BeginInSteps len n first ps end → length qs ≡ length ps → ((k : ℕ) (p q : Part) → slice_get ps k ≡ Some p → slice_get qs k ≡ Some q → IsNew p.first (min len (n - p.first)) whole q) → AreInRow first qs end
 filled-row len n whole [] [] first end steps same each = steps
 filled-row len n whole [] (q ∷ qs) first end steps same each = absurd (omega (arith, same))
 filled-row len n whole (p ∷ ps) [] first end steps same each = absurd (omega (arith, same))
@@ -185,10 +181,11 @@ filled dump len n whole ps qs end h same each objects = record {
 }
 
 -- they have all objects
-pub all_parts : (dump : Dump) (log : List Event) (whole : Bool) (n : ℕ) (parts : List Part) (end : ℕ) → AreFresh dump whole n parts end → n ≡ length dump.objects → end ≡ n → AreHolding dump log whole 0 parts
-all_parts dump log whole n parts end h objects all = record {
+pub all_parts : (dump : Dump) (log : List Event) (whole : Bool) (n : ℕ) (parts : List Part) (end : ℕ) → AreFresh dump whole n parts end → n < 2 ^ 32 → n ≡ length dump.objects → end ≡ n → AreHolding dump log whole 0 parts
+all_parts dump log whole n parts end h few objects all = record {
   kept = replicate n unreached;
   holds = record {
+    few = omega (arith, few, objects);
     held = none_held dump log (replicate n unreached) (alike-at n unreached);
     each = h.each;
     row = subst (AreInRow 0 parts) (all ∙ objects) h.row;
@@ -198,9 +195,7 @@ all_parts dump log whole n parts end h objects all = record {
 
 -- each object is held by one of the parts
 pub is_held_in : (dump : Dump) (log : List Event) (whole : Bool) (n : ℕ) (parts : List Part) (o : ℕ) → AreHolding dump log whole n parts → o < length dump.objects → IsHeldIn parts o
-is_held_in dump log whole n parts o h lt =
-    let there = row-holder parts 0 (length dump.objects) o h.holds.row (omega arith) lt in
-    record { index = there.0; part = there.1; there = there.2; own = there.3 }
+is_held_in dump log whole n parts o h lt = row-holder parts 0 (length dump.objects) o h.holds.row (omega arith) lt
 
 -- one more root holds its object, by its part
 module _ (dump : Dump) (log : List Event) (whole : Bool) (n t : ℕ) (parts new : List Part) (ks : List Reached) (h : IsHolding dump log parts ks whole n) (lt : t < length dump.objects)
@@ -209,29 +204,29 @@ module _ (dump : Dump) (log : List Event) (whole : Bool) (n t : ℕ) (parts new 
   kept = set ks t (reached_by_root n)
 
   abbrev new_part : Part
-  new_part = with_found by.part (record { whole = by.part.found.whole; list = set by.part.found.list (t - by.part.first) (seen by.part.found.whole (reached_by_root n)) })
+  new_part = with_found by.holder.part (record { whole = by.holder.part.found.whole; list = set by.holder.part.found.list (t - by.holder.part.first) (seen by.holder.part.found.whole (reached_by_root n)) })
 
   within : t < length ks
   within = omega (arith, h.objects)
 
-  was : IsFresh dump ks whole by.part
-  was = h.each by.index by.part by.there
+  was : IsFresh dump ks whole by.holder.part
+  was = h.each by.index by.holder.part by.holder.there
 
-  same_length : length new_part.found.list ≡ length by.part.found.list
-  same_length = length-set by.part.found.list (t - by.part.first) (seen by.part.found.whole (reached_by_root n))
+  same_length : length new_part.found.list ≡ length by.holder.part.found.list
+  same_length = length-set by.holder.part.found.list (t - by.holder.part.first) (seen by.holder.part.found.whole (reached_by_root n))
 
   own_is : (o : ℕ) → IsOwn new_part o → found_at new_part o ≡ seen whole (reached_at kept o)
   own_is o own = elim (cases_eq o t) [
     | inl same ↦
-        let place : o - by.part.first ≡ t - by.part.first = ap (λ (o : ℕ). o - by.part.first) same in
-        let inside : t - by.part.first < length by.part.found.list = omega (arith, by.own.first, by.own.last) in
+        let place : o - by.holder.part.first ≡ t - by.holder.part.first = ap (λ (o : ℕ). o - by.holder.part.first) same in
+        let inside : t - by.holder.part.first < length by.holder.part.found.list = omega (arith, by.holder.own.first, by.holder.own.last) in
         ap (reached_at new_part.found.list) place
-        ∙ get_or-set_same by.part.found.list (t - by.part.first) (seen by.part.found.whole (reached_by_root n)) unreached inside
+        ∙ get_or-set_same by.holder.part.found.list (t - by.holder.part.first) (seen by.holder.part.found.whole (reached_by_root n)) unreached inside
         ∙ ap (λ (w : Bool). seen w (reached_by_root n)) was.alike
         ∙ sym (ap (λ (o : ℕ). seen whole (reached_at kept o)) same ∙ ap (seen whole) (get_or-set_same ks t (reached_by_root n) unreached within))
     | inr other ↦
-        let ne : o - by.part.first ≢ t - by.part.first = λ same. other (omega (arith, same, own.first, by.own.first)) in
-        get_or-set_other by.part.found.list (t - by.part.first) (o - by.part.first) (seen by.part.found.whole (reached_by_root n)) unreached ne
+        let ne : o - by.holder.part.first ≢ t - by.holder.part.first = λ same. other (omega (arith, same, own.first, by.holder.own.first)) in
+        get_or-set_other by.holder.part.found.list (t - by.holder.part.first) (o - by.holder.part.first) (seen by.holder.part.found.whole (reached_by_root n)) unreached ne
         ∙ was.own o (record { first = own.first; last = omega (arith, own.last, same_length) })
         ∙ sym (ap (seen whole) (get_or-set_other ks t o (reached_by_root n) unreached other))
   ]
@@ -253,7 +248,7 @@ module _ (dump : Dump) (log : List Event) (whole : Bool) (n t : ℕ) (parts new 
       record {
         alike = f.alike;
         own = λ o own.
-            let other : o ≢ t = λ same. ne (row-one parts 0 (length dump.objects) j by.index t p by.part h.row there by.there (subst (IsOwn p) same own) by.own) in
+            let other : o ≢ t = λ same. ne (row-one parts 0 (length dump.objects) j by.index t p by.holder.part h.row there by.holder.there (subst (IsOwn p) same own) by.holder.own) in
             f.own o own ∙ sym (ap (seen whole) (get_or-set_other ks t o (reached_by_root n) unreached other));
         within = f.within;
         none_offered = f.none_offered;
@@ -264,12 +259,13 @@ module _ (dump : Dump) (log : List Event) (whole : Bool) (n t : ℕ) (parts new 
 
   still_holding : IsHolding dump log new kept whole (n + 1)
   still_holding = record {
+    few = h.few;
     held = one_held dump log ks n t h.held within root;
-    each = λ j p there. elim (slice_get-set_cases parts by.index j by.part new_part p by.there (subst (λ (parts : List Part). slice_get parts j ≡ Some p) by.is there)) [
+    each = λ j p there. elim (slice_get-set_cases parts by.index j by.holder.part new_part p by.holder.there (subst (λ (parts : List Part). slice_get parts j ≡ Some p) by.is there)) [
       | inl both ↦ subst (IsFresh dump kept whole) (sym both.1) part_fresh
       | inr other ↦ other_fresh j p other.0 other.1
     ];
-    row = subst (λ (parts : List Part). AreInRow 0 parts (length dump.objects)) (sym by.is) (row-set parts 0 (length dump.objects) by.index by.part new_part h.row by.there refl same_length);
+    row = subst (λ (parts : List Part). AreInRow 0 parts (length dump.objects)) (sym by.is) (row-set parts 0 (length dump.objects) by.index by.holder.part new_part h.row by.holder.there refl same_length);
     objects = length-set ks t (reached_by_root n) ∙ h.objects;
   }
 
@@ -281,7 +277,7 @@ one_holds dump log whole n t parts new h lt root by = record { kept = set h.kept
 pub none_holds : (dump : Dump) (log : List Event) (whole : Bool) (n : ℕ) (parts : List Part) → AreHolding dump log whole n parts → ((x : RootEntry) → root_at dump log n ≡ Some x → ⊥) → AreHolding dump log whole (n + 1) parts
 none_holds dump log whole n parts h none = record {
   kept = h.kept;
-  holds = record { held = no_root dump log h.kept n h.holds.held none; each = h.holds.each; row = h.holds.row; objects = h.holds.objects };
+  holds = record { few = h.holds.few; held = no_root dump log h.kept n h.holds.held none; each = h.holds.each; row = h.holds.row; objects = h.holds.objects };
 }
 
 -- as many parts are left
@@ -379,7 +375,7 @@ row-unreached [] first end row = omega (arith, row)
 row-unreached (p ∷ ps) first end row = omega (arith, sum_by-cons unreached_of p ps, unreached_count-le p.found.list, row-unreached ps (first + length p.found.list) end row.1)
 
 -- all parts have queued what is reached of theirs
-module _ (dump : Dump) (log : List Event) (whole : Bool) (old new : List Part) (ks : List Reached) (h : IsHolding dump log old ks whole (root_count dump log)) (q : HaveQueued old new (length dump.objects) (length old)) (few : length dump.objects < 2 ^ 32) where
+module _ (dump : Dump) (log : List Event) (whole : Bool) (old new : List Part) (ks : List Reached) (h : IsHolding dump log old ks whole (root_count dump log)) (q : HaveQueued old new (length dump.objects) (length old)) where
   part_was : (k : ℕ) (p : Part) → slice_get new k ≡ Some p → (was : Part) × (slice_get old k ≡ Some was) × HasQueued was p
   part_was k p there = let lt : k < length new = slice_get_within new k p there in q.done k p (omega (arith, q.count)) there
 
@@ -409,7 +405,7 @@ module _ (dump : Dump) (log : List Event) (whole : Bool) (old new : List Part) (
     fits : IsFit dump strengths.Strong p
     fits = record {
       within = omega (arith, f.within, b.same.first, ap (λ (f : _). length f.list) b.same.found);
-      few = few;
+      few = h.few;
       queued = λ o c.
           let there = b.reached o c in
           (there.0, strength_found o there.0 ∙ held_strong dump log ks o (h.held.each o) (omega (arith, rank_found o there.0, there.1)), rank-le (least_passed_on dump.mode));
@@ -433,9 +429,9 @@ module _ (dump : Dump) (log : List Event) (whole : Bool) (old new : List Part) (
   queued_there : (o : ℕ) → 1 ≤ rank_at ks o → IsDoneIn new o → ⊥
   queued_there o reached done =
       let there = row-holder new 0 (length dump.objects) o q.row (omega arith) (omega (arith, reached_within ks o reached, h.objects)) in
-      let was = part_was there.0 there.1 there.2 in
-      let same = rank_found was.0 there.1 (h.each there.0 was.0 was.1) was.2 o there.3 in
-      done there.0 there.1 there.2 (was.2.all o there.3 (omega (arith, same)))
+      let was = part_was there.index there.holder.part there.holder.there in
+      let same = rank_found was.0 there.holder.part (h.each there.index was.0 was.1) was.2 o there.holder.own in
+      done there.index there.holder.part there.holder.there (was.2.all o there.holder.own (omega (arith, same)))
 
   pub begins : HaveComeTo dump log whole strengths.Strong new
   begins = record {

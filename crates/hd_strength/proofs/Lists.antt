@@ -1,8 +1,7 @@
-use Rattle.std.proofs.Common.{◌≡◌, ◌∙◌, ℕ, zero, suc, ◌+◌, ◌<◌, ◌≤◌, ◌⊎◌, inl, inr, List, [], ◌∷◌, ◌++◌, Contains, length, get_or, cond, zero-add, Option, None, Some, slice_get, map, replicate, Bool, true, false, refl, sym, ap, arith}
+use Rattle.std.proofs.Common.{◌≡◌, ◌∙◌, ℕ, zero, suc, ◌+◌, ◌<◌, ◌≤◌, ◌⊎◌, inl, inr, List, [], ◌∷◌, Contains, length, get_or, cond, zero-add, Option, None, Some, slice_get, map, replicate, Bool, true, false, refl, sym, ap, arith}
 use Rattle.std.specs.List.{flat_map, filter, filter_map, cons_option, enumerate_from}
 use Rattle.std.proofs.lemmas.Option.{get_or_from_slice_get, slice_get-get_or, slice_get_within}
 use Rattle.std.proofs.lemmas.List.Elements.{Contains-append_left, Contains-append_right, Contains-append_cases}
-use Rattle.std.proofs.lemmas.List.{get_or_default}
 use Rattle.std.proofs.lemmas.List.FromFn.{length-enumerate_from, get_or-enumerate_from}
 
 -- the first
@@ -121,17 +120,6 @@ enumerate_only xs n (k, lt, is) =
     let index : n.0 ≡ k = ap (λ (p : ℕ × _). p.0) at ∙ zero-add k in
     let value : n.1 ≡ get_or xs k n.1 = ap (λ (p : ℕ × _). p.1) at in
     rw index (slice_get-get_or xs k n.1 k_lt ∙ ap (λ (y : _). Some y) (sym value))
-
--- one more default changes no read
-pub push_default : {X : Type 0} (d : X) (xs : List X) → ((o : ℕ) → get_or xs o d ≡ d) → (o : ℕ) → get_or (xs ++ d ∷ []) o d ≡ d
-push_default d [] h zero = refl
-push_default d [] h (suc n) = refl
-push_default d (x ∷ xs) h zero = h 0
-push_default d (x ∷ xs) h (suc n) = push_default d xs (λ k. h (suc k)) n
-
--- a read is that of another default within the list
-pub read_is : {X : Type 0} (xs : List X) (i : ℕ) (d x : X) → i < length xs → x ≡ get_or xs i x → get_or xs i d ≡ x
-read_is xs i d x lt is = get_or_default xs i d x lt ∙ sym is
 
 -- of many alike
 pub map-replicate : {X Y : Type 0} (f : X → Y) (n : ℕ) (x : X) → map f (replicate n x) ≡ replicate n (f x)

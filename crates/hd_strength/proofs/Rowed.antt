@@ -1,7 +1,8 @@
-use Rattle.std.proofs.Common.{◌≡◌, ◌≢◌, ◌∙◌, ℕ, zero, suc, ◌+◌, ◌<◌, ◌≤◌, ◌⊎◌, inl, inr, List, [], ◌∷◌, ◌++◌, length, set, Some, slice_get, refl, sym, ap, subst, arith}
+use Rattle.std.proofs.Common.{◌≡◌, ◌≢◌, ◌∙◌, ℕ, zero, suc, ◌+◌, ◌<◌, ◌≤◌, ◌⊎◌, inl, inr, List, [], ◌∷◌, ◌++◌, length, set, get_or, Some, slice_get, refl, sym, ap, subst, arith}
 use Rattle.std.proofs.lemmas.Bool.{cases_eq, cases_lt}
+use Rattle.std.proofs.lemmas.Option.{get_or_from_slice_get}
 use Rattle.hd_strength.specs.declared.part.Part.{Part}
-use Rattle.hd_strength.specs.Parts.{IsOwn, AreInRow}
+use Rattle.hd_strength.specs.Parts.{IsOwn, AreInRow, IsHeldIn}
 
 -- what stands in a list where one element takes the place of another
 module _ {X : Type 0} where
@@ -33,6 +34,11 @@ module _ {X : Type 0} where
   pub one_there : (xs : List X) (k : ℕ) (x y : X) → slice_get xs k ≡ Some x → slice_get xs k ≡ Some y → x ≡ y
   one_there xs k x y h i = let both : Some x ≡ Some y = sym h ∙ i in cc
 
+  -- a fact of what stood at a place and what stands there, by reads with a default
+  pub at_place : (P : X → X → Type 0) (old new : List X) (k : ℕ) (x y a b : X) → slice_get old k ≡ Some x → slice_get new k ≡ Some y → a ≡ get_or old k x → b ≡ get_or new k x → P a b → P x y
+  at_place P old new k x y a b there here was is fact =
+      subst (λ (x : X). P x y) (was ∙ get_or_from_slice_get old k x x there) (subst (P a) (is ∙ get_or_from_slice_get new k y x here) fact)
+
   -- a place behind a list
   pub slice_get_behind : (xs ys : List X) (x : X) → slice_get (xs ++ x ∷ ys) (length xs) ≡ Some x
   slice_get_behind [] ys x = refl
@@ -41,11 +47,6 @@ module _ {X : Type 0} where
   pub set_behind : (xs ys : List X) (x y : X) → set (xs ++ x ∷ ys) (length xs) y ≡ xs ++ y ∷ ys
   set_behind [] ys x y = refl
   set_behind (z ∷ zs) ys x y = ap (λ (ws : List X). z ∷ ws) (set_behind zs ys x y)
-
--- parts in a row with one more
-pub row-push : (ps : List Part) (first end : ℕ) (p : Part) → AreInRow first ps end → p.first ≡ end → AreInRow first (ps ++ p ∷ []) (end + length p.found.list)
-row-push [] first end p row is = (is ∙ sym row, ap (λ (n : ℕ). n + length p.found.list) row)
-row-push (q ∷ qs) first end p row is = (row.0, row-push qs (first + length q.found.list) end p row.1 is)
 
 -- a part takes the place of another with as many objects
 pub row-set : (ps : List Part) (first end k : ℕ) (p new : Part) → AreInRow first ps end → slice_get ps k ≡ Some p → new.first ≡ p.first → length new.found.list ≡ length p.found.list → AreInRow first (set ps k new) end
@@ -74,13 +75,13 @@ row-bounds (q ∷ qs) first end (suc k) p row h =
     (omega (arith, later.0), later.1)
 
 -- each object of the row is some part's own
-pub row-holder : (ps : List Part) (first end o : ℕ) → AreInRow first ps end → first ≤ o → o < end → (k : ℕ) × (p : Part) × (slice_get ps k ≡ Some p) × IsOwn p o
+pub row-holder : (ps : List Part) (first end o : ℕ) → AreInRow first ps end → first ≤ o → o < end → IsHeldIn ps o
 row-holder [] first end o row le lt = absurd (omega (arith, row))
 row-holder (p ∷ ps) first end o row le lt = elim (cases_lt o (first + length p.found.list)) [
-  | inl own ↦ (0, p, refl, record { first = omega (arith, row.0); last = omega (arith, row.0) })
+  | inl own ↦ record { index = 0; holder = record { part = p; there = refl; own = record { first = omega (arith, row.0); last = omega (arith, row.0) } } }
   | inr later ↦
       let there = row-holder ps (first + length p.found.list) end o row.1 later lt in
-      (suc there.0, there.1, there.2, there.3)
+      record { index = suc there.index; holder = record { part = there.holder.part; there = there.holder.there; own = there.holder.own } }
 ]
 
 -- and no other's

@@ -28,22 +28,22 @@ use Rattle.hd_strength.proofs.Accepting.{accepted, kept_after, strength_here, ow
 -- an offer that a part made
 module _ (dump : Dump) (log : List Event) (whole : Bool) (s : Strength) (parts : List Part) (h : HaveComeTo dump log whole s parts) (x : Offer) (first : ℕ) (made : IsMade parts s x first) where
   pub backing : IsBacked dump.mode (edge_at dump log) h.kept s x
-  backing = h.holds.growing.backed s x (record { index = made.index; part = made.part; there = made.there; made = made.made })
+  backing = h.holds.growing.backed s x made.offered
 
   pub at_offer : IsAt dump log x.source x.index backing.edge
   at_offer = is_at dump log x.source x.index backing.edge backing.is
 
   -- its target has a part
   pub held : IsHeldIn parts backing.edge.target
-  held = let p = row-holder parts 0 (length dump.objects) backing.edge.target h.holds.row (omega arith) at_offer.target in record { index = p.0; part = p.1; there = p.2; own = p.3 }
+  held = row-holder parts 0 (length dump.objects) backing.edge.target h.holds.row (omega arith) at_offer.target
 
   -- no stamp of the part that made it leaves too little room
   pub made_room : first + unreached_in parts ≤ length dump.objects
-  made_room = omega (arith, (h.holds.each made.index made.part made.there).room, made.last)
+  made_room = omega (arith, (h.holds.each made.offered.index made.offered.part made.offered.there).room, made.last)
 
   -- the stamp of its source isn't later
   source_stamp : (reached_at h.kept x.source).stamp ≤ first
-  source_stamp = let q = h.holds.each made.index made.part made.there in omega (arith, q.stamps x.source (q.fit.offered s x made.made), made.last)
+  source_stamp = let q = h.holds.each made.offered.index made.offered.part made.offered.there in omega (arith, q.stamps x.source (q.fit.offered s x made.offered.made), made.last)
 
   module _ (m : ℕ) (old new : Part) (stamp : ℕ) (there : slice_get parts m ≡ Some old) (own : IsOwn old backing.edge.target) (last : first ≤ stamp) (later : old.count ≤ stamp) (one : (stamp ≡ first) ⊎ (stamp ≡ old.count))
       (r : IsReachedOrNot (seen old.found.whole) dump.mode old new s backing.edge.source backing.edge.slot backing.edge.target stamp) where
@@ -70,7 +70,7 @@ module _ (dump : Dump) (log : List Event) (whole : Bool) (s : Strength) (parts :
     was_reached : 1 ≤ rank (found_at old e.target).strength → AreTried parts
     was_reached reached = record {
       searching = h;
-      reached = λ f is. subst (λ (f : Edge). IsReachedIn parts f.target) (sym (the_edge f is)) (record { index = m; part = old; there = there; own = own; reached = reached });
+      reached = λ f is. subst (λ (f : Edge). IsReachedIn parts f.target) (sym (the_edge f is)) (record { index = m; holder = record { part = old; there = there; own = own }; reached = reached });
       same_offers = λ k p at. (p, at, refl);
       no_more = omega arith;
     }
@@ -88,13 +88,11 @@ module _ (dump : Dump) (log : List Event) (whole : Bool) (s : Strength) (parts :
           };
           reached = λ f is. subst (λ (f : Edge). IsReachedIn (set parts m new) f.target) (sym (the_edge f is)) (record {
             index = m;
-            part = new;
-            there = slice_get-set_same parts m old new there;
-            own = own_after dump.mode whole s old new e stamp now own low e.target own;
+            holder = record { part = new; there = slice_get-set_same parts m old new there; own = own_after dump.mode whole s old new e stamp now own low e.target own };
             reached = omega (arith, positive, ap rank (strength_here dump.mode whole s old new e stamp now own low));
           });
           same_offers = λ k p at. elim (slice_get-set_cases parts m k old new p there at) [
-            | inl both ↦ (old, subst (λ (k : ℕ). slice_get parts k ≡ Some old) (sym both.0) there, ap (λ (p : Part). p.buckets) both.1 ∙ now.same_buckets)
+            | inl both ↦ (old, subst (λ (k : ℕ). slice_get parts k ≡ Some old) (sym both.0) there, ap (λ (p : Part). p.buckets) both.1 ∙ now.keeps.same_buckets)
             | inr other ↦ (p, other.1, refl)
           ];
           no_more = omega (arith, sum-set to_do parts m old new there, no_more dump.mode whole s old new e stamp now own low positive);
@@ -165,7 +163,7 @@ module _ (dump : Dump) (log : List Event) (whole : Bool) (s : Strength) (parts :
       let made : IsOfferedIn parts s x = record { index = k; part = p; there = there; made = subst (λ (xs : List Offer). Contains xs x) (sym t.here) (Contains-head x (bucket b s)) } in
       let back = h.holds.growing.backed s x made in
       let has = reached back.edge back.is in
-      let high : 1 ≤ rank_at h.kept back.edge.target = omega (arith, has.reached, own_rank dump log parts h.kept whole s (rank s + 1) IsAny has.index has.part h.holds has.there back.edge.target has.own) in
+      let high : 1 ≤ rank_at h.kept back.edge.target = omega (arith, has.reached, own_rank dump log parts h.kept whole s (rank s + 1) IsAny has.index has.holder.part h.holds has.holder.there back.edge.target has.holder.own) in
       let had : (given o : ℕ) → IsHadOrPromised (edge_at dump log) h.kept (IsOfferedIn parts) given o → IsHadOrPromised (edge_at dump log) h.kept (IsOfferedIn after) given o =
       still_had_but (edge_at dump log) h.kept (IsOfferedIn parts) (IsOfferedIn after) s x back.edge back.is (h.holds.growing.floor back.edge.target high) left in
       record {

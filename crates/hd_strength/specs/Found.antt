@@ -34,13 +34,6 @@ abbrev pub list_of : Bool → List Strength → List Reached → List Reached
 list_of true ss ks = ks
 list_of false ss ks = map only_strength ss
 
--- the findings are what is seen, all of it or not, of a list for which something holds
-pub record AreSeen (whole : Bool) (found : Findings) (Holds : List Reached → Type 0) : Type 0 where
-  pub kept : List Reached
-  pub same_whole : found.whole ≡ whole
-  pub same : found.list ≡ map (seen whole) kept
-  pub holds : Holds kept
-
 -- the strengths are those of settled supports
 pub record AreSettled (g : Standing) (ss : List Strength) : Type 0 where
   pub kept : List Reached

@@ -45,17 +45,18 @@ pub record IsNew (first len : ℕ) (whole : Bool) (p : Part) : Type 0 where
   pub handed : p.handed.items ≡ []
   pub count : p.count ≡ 0
 
--- parts with no object yet, one behind the other, as each will have so many objects, or what is left of all n
-abbrev pub AreSteps : ℕ → ℕ → ℕ → List Part → ℕ → Type 0
-AreSteps len n first [] end = first ≡ end
-AreSteps len n first (p ∷ ps) end = (p.first ≡ first) × AreSteps len n (first + min len (n - first)) ps end
+-- the parts leave room for one another's objects, from one object on up to another. Each will have len objects of all n, or
+-- those that are left, and the next part begins behind them
+abbrev pub BeginInSteps : ℕ → ℕ → ℕ → List Part → ℕ → Type 0
+BeginInSteps len n first [] end = first ≡ end
+BeginInSteps len n first (p ∷ ps) end = (p.first ≡ first) × BeginInSteps len n (first + min len (n - first)) ps end
 
--- such parts, of which nothing is found yet
+-- the parts begin in such steps from the first object on. They have no objects yet, and nothing is found
 pub record AreBlank (len n : ℕ) (whole : Bool) (parts : List Part) (end : ℕ) : Type 0 where
   pub each : (k : ℕ) (p : Part) → slice_get parts k ≡ Some p → IsNew p.first 0 whole p × (p.first ≤ n)
-  pub steps : AreSteps len n 0 parts end
+  pub steps : BeginInSteps len n 0 parts end
 
--- each has its objects then, if memory didn't run out
+-- each part has got its objects, if memory didn't run out
 abbrev pub AreFilled : ℕ → ℕ → Bool → List Part → List Part → Type 0
 AreFilled len n whole old new = (k : ℕ) (p q : Part) → slice_get old k ≡ Some p → slice_get new k ≡ Some q → q.failed ≡ false → IsNew p.first (min len (n - p.first)) whole q
 
@@ -71,10 +72,11 @@ unreached_of p = unreached_count p.found.list
 abbrev pub to_do : Part → ℕ
 to_do p = unreached_of p + length p.queue
 
--- the same of all parts
+-- how many objects of all parts nothing reaches yet
 abbrev pub unreached_in : List Part → ℕ
 unreached_in parts = sum_by unreached_of parts
 
+-- how many objects of all parts are still to be reached or to pass their strength on
 abbrev pub to_do_in : List Part → ℕ
 to_do_in parts = sum_by to_do parts
 
@@ -130,25 +132,33 @@ pub record IsSearching (dump : Dump) (log : List Event) (parts : List Part) (ks 
   pub row : AreInRow 0 parts (length dump.objects)
   pub objects : length ks ≡ length dump.objects
 
--- nothing more
+-- slot i of object o is any slot: this always holds
 pub record IsAny (o i : ℕ) : Type 0 where
 
--- of one object only the first n slots
+-- if the object is o, the slot is one of its first n. Any slot of another object will do
 abbrev pub IsBelow : ℕ → ℕ → ℕ → ℕ → Type 0
 IsBelow o n p i = p ≡ o → i < n
 
--- such a search, whatever is kept
+-- parts of a search on its way, whatever is kept of the objects
 pub record AreSearching (dump : Dump) (log : List Event) (whole : Bool) (s : Strength) (limit : ℕ) (IsDone : ℕ → ℕ → Type 0) (parts : List Part) : Type 0 where
   pub kept : List Reached
   pub holds : IsSearching dump log parts kept whole s limit IsDone
 
--- a search has come to a strength: nothing is offered that is more
+-- parts of a search have come to a strength: nothing is offered that is more
 abbrev pub HaveComeTo : Dump → List Event → Bool → Strength → List Part → Type 0
 HaveComeTo dump log whole s parts = AreSearching dump log whole s (rank s + 1) IsAny parts
 
--- the same, and what was offered of that strength is accepted
+-- they have accepted what was offered of that strength as well
 abbrev pub HaveAccepted : Dump → List Event → Bool → Strength → List Part → Type 0
 HaveAccepted dump log whole s parts = AreSearching dump log whole s (rank s) IsAny parts
+
+-- a search has come to a strength, with all its parts
+abbrev pub HasComeTo : Dump → List Event → Strength → Search → Type 0
+HasComeTo dump log s search = HaveComeTo dump log search.whole s search.parts.items
+
+-- a search has accepted what was offered of a strength, in all its parts
+abbrev pub HasAccepted : Dump → List Event → Strength → Search → Type 0
+HasAccepted dump log s search = HaveAccepted dump log search.whole s search.parts.items
 
 -- whatever the other parts are, a search goes on when one part takes the place of another
 abbrev pub GoesOn : Dump → List Event → Strength → (ℕ → ℕ → Type 0) → (ℕ → ℕ → Type 0) → Part → Part → Type 0
@@ -161,12 +171,12 @@ pub record HasGoneOn (dump : Dump) (log : List Event) (s : Strength) (WasDone Is
   pub goes_on : GoesOn dump log s WasDone IsDone old new
   pub no_more : to_do new ≤ to_do old
 
--- it has less to do, if there was anything
+-- a part has relaxed: it has gone on, and has less to do if objects were queued
 pub record HasRelaxed (dump : Dump) (log : List Event) (s : Strength) (old new : Part) : Type 0 where
   pub gone_on : HasGoneOn dump log s IsAny IsAny old new
   pub less : 0 < length old.queue → to_do new < to_do old
 
--- the strength of an object is known to be something: it is reached, or was handed over
+-- a part knows of an object that something reaches it: the object is one of its own and is reached, or it was handed over
 pub record IsKnown (p : Part) (o : ℕ) : Type 0 where
   pub by : (IsOwn p o × (1 ≤ rank_at p.found.list (o - p.first))) ⊎ (is_handed p o ≡ true)
 
@@ -178,27 +188,22 @@ pub record IsGain (at : ℕ → ℕ → Option Edge) (p : Part) (o i : ℕ) (s :
   pub strength : gain.strength ≡ weaker_of s (given_by edge.kind)
   pub unknown : IsOwn p edge.target → rank_at p.found.list (edge.target - p.first) ≡ 0
 
--- one of a part's own is reached by an edge from a slot of another object, with the stamp behind one; what is shown of it is
--- kept, and it isn't queued yet
+-- one of a part's own is reached by an edge from a slot of another object. Its stamp is the one after the given one, and what
+-- is shown of it is kept. Nothing is said of the queue
 pub record Keeps (show : Reached → Reached) (old new : Part) (s : Strength) (source : ℕ) (slot : Slot) (target stamp : ℕ) : Type 0 where
   pub kept : new.found ≡ record { whole = old.found.whole; list = set old.found.list (target - old.first) (show (record { strength = s; support = supports.Edge source slot; stamp = stamp + 1 })) }
   pub same_first : new.first ≡ old.first
   pub same_buckets : new.buckets ≡ old.buckets
-  pub same_queue : new.queue ≡ old.queue
   pub same_handed : new.handed ≡ old.handed
   pub counted : new.count ≡ stamp + 1
 
--- the same, and it is queued if it passes its strength on
+-- one of a part's own is reached by such an edge, and it is queued if it passes its strength on
 pub record Reaches (show : Reached → Reached) (mode : Mode) (old new : Part) (s : Strength) (source : ℕ) (slot : Slot) (target stamp : ℕ) : Type 0 where
-  pub kept : new.found ≡ record { whole = old.found.whole; list = set old.found.list (target - old.first) (show (record { strength = s; support = supports.Edge source slot; stamp = stamp + 1 })) }
-  pub same_first : new.first ≡ old.first
-  pub same_buckets : new.buckets ≡ old.buckets
+  pub keeps : Keeps show old new s source slot target stamp
   pub queued : IsPassedOn mode s → new.queue ≡ old.queue ++ target ∷ []
   pub not_queued : (IsPassedOn mode s → ⊥) → new.queue ≡ old.queue
-  pub same_handed : new.handed ≡ old.handed
-  pub counted : new.count ≡ stamp + 1
 
--- where there is an edge, its target is known to be reached
+-- a slot is passed over: if it has an edge, the target is known to be reached. Nothing changes
 pub record IsPassedOver (at : ℕ → ℕ → Option Edge) (old new : Part) (o i : ℕ) : Type 0 where
   pub known : (e : Edge) → at o i ≡ Some e → IsKnown old e.target
   pub same : new ≡ old
@@ -224,6 +229,10 @@ pub record IsOffered (at : ℕ → ℕ → Option Edge) (old new : Part) (s : St
   pub same_queue : new.queue ≡ old.queue
   pub same_count : new.count ≡ old.count
   pub handed : (t : ℕ) → is_handed new t ≡ true → (is_handed old t ≡ true) ⊎ ((t ≡ edge.target) × (strength ≡ s))
+
+-- a slot is relaxed: it is passed over, its target takes what the edge gives, or that is offered
+abbrev pub IsSlotRelaxed : Mode → (ℕ → ℕ → Option Edge) → Part → Part → Strength → ℕ → ℕ → Type 0
+IsSlotRelaxed mode at old new s o i = IsPassedOver at old new o i ⊎ IsAccepted (seen old.found.whole) mode at old new s o i old.count ⊎ IsOffered at old new s o i
 
 -- no more objects are noted as handed over than were and this one
 pub record IsNoted (old new : Part) (o : ℕ) : Type 0 where
@@ -253,41 +262,34 @@ pub record HasNoneQueued (old new : Part) : Type 0 where
   pub still : new.queue ≡ []
   pub same : IsSameBut old new
 
--- one of the parts has an object
-pub record IsHeldIn (parts : List Part) (o : ℕ) : Type 0 where
-  pub index : ℕ
-  pub part : Part
-  pub there : slice_get parts index ≡ Some part
-  pub own : IsOwn part o
-
--- this one has it
+-- part k has an object
 pub record IsHolder (parts : List Part) (o k : ℕ) : Type 0 where
   pub part : Part
   pub there : slice_get parts k ≡ Some part
   pub own : IsOwn part o
 
+-- one of the parts has an object
+pub record IsHeldIn (parts : List Part) (o : ℕ) : Type 0 where
+  pub index : ℕ
+  pub holder : IsHolder parts o index
+
 -- an object is reached, by what its part found
 pub record IsReachedIn (parts : List Part) (o : ℕ) : Type 0 where
   pub index : ℕ
-  pub part : Part
-  pub there : slice_get parts index ≡ Some part
-  pub own : IsOwn part o
-  pub reached : 1 ≤ rank (found_at part o).strength
+  pub holder : IsHolder parts o index
+  pub reached : 1 ≤ rank (found_at holder.part o).strength
 
 -- an object was reached, or is reached now
 abbrev pub IsReachedOrNot : (Reached → Reached) → Mode → Part → Part → Strength → ℕ → Slot → ℕ → ℕ → Type 0
 IsReachedOrNot show mode old new s source slot target stamp =
     ((1 ≤ rank (found_at old target).strength) × (new ≡ old)) ⊎ ((rank (found_at old target).strength ≡ 0) × Reaches show mode old new s source slot target stamp)
 
--- a part, whose last stamp this is, made an offer
+-- one of the parts has an offer of a strength, and this is that part's last stamp
 pub record IsMade (parts : List Part) (s : Strength) (x : Offer) (stamp : ℕ) : Type 0 where
-  pub index : ℕ
-  pub part : Part
-  pub there : slice_get parts index ≡ Some part
-  pub made : Contains (bucket part.buckets s) x
-  pub last : part.count ≡ stamp
+  pub offered : IsOfferedIn parts s x
+  pub last : offered.part.count ≡ stamp
 
--- a search has the same parts, with the same numbers of objects, and no more to do
+-- a search is at least as far as before: it has as many parts, keeps as much of each object, and has no more to do
 pub record IsAsFar (old new : Search) : Type 0 where
   pub whole : new.whole ≡ old.whole
   pub count : length new.parts.items ≡ length old.parts.items
@@ -299,7 +301,7 @@ HaveSameOffers old new = (k : ℕ) (p' : Part) → slice_get new k ≡ Some p' �
 
 -- the target of an offer is reached, if it wasn't before; all offers stay
 pub record IsTried (dump : Dump) (log : List Event) (s : Strength) (x : Offer) (old new : Search) : Type 0 where
-  pub searching : HaveComeTo dump log old.whole s new.parts.items
+  pub searching : HasComeTo dump log s new
   pub reached : (e : Edge) → edge_at dump log x.source x.index ≡ Some e → IsReachedIn new.parts.items e.target
   pub same_offers : HaveSameOffers old.parts.items new.parts.items
   pub as_far : IsAsFar old new
@@ -312,14 +314,14 @@ AreNoneOffered parts s n = (k : ℕ) (p : Part) → k < n → slice_get parts k 
 abbrev pub AreQuiet : List Part → Type 0
 AreQuiet parts = (k : ℕ) (p : Part) → slice_get parts k ≡ Some p → p.queue ≡ []
 
--- one has
+-- one of the parts has objects that wait
 pub record IsAnyQueued (parts : List Part) : Type 0 where
   pub index : ℕ
   pub part : Part
   pub there : slice_get parts index ≡ Some part
   pub some : 0 < length part.queue
 
--- each part says for itself what it has to
+-- each part is fit
 abbrev pub AreFit : Dump → Strength → List Part → Type 0
 AreFit dump s parts = (k : ℕ) (p : Part) → slice_get parts k ≡ Some p → IsFit dump s p
 
@@ -327,7 +329,7 @@ AreFit dump s parts = (k : ℕ) (p : Part) → slice_get parts k ≡ Some p → 
 abbrev pub HaveEachRelaxed : Dump → List Event → Strength → List Part → List Part → Type 0
 HaveEachRelaxed dump log s old new = (k : ℕ) (p q : Part) → slice_get old k ≡ Some p → slice_get new k ≡ Some q → q.failed ≡ false → HasRelaxed dump log s p q
 
--- memory ran out in none
+-- memory ran out in no part
 abbrev pub HaveNotFailed : List Part → Type 0
 HaveNotFailed parts = (k : ℕ) (p : Part) → slice_get parts k ≡ Some p → p.failed ≡ false
 
@@ -348,29 +350,29 @@ pub record IsFresh (dump : Dump) (ks : List Reached) (whole : Bool) (p : Part) :
   pub handed : p.handed.items ≡ []
   pub count : p.count ≡ 0
 
--- at the beginning only roots hold objects, some first ones of them, and no part has anything but these
+-- the beginning of a search: the first n roots hold their objects, nothing else is reached, and the parts find what is kept.
+-- The number of objects has 32 bits
 pub record IsHolding (dump : Dump) (log : List Event) (parts : List Part) (ks : List Reached) (whole : Bool) (n : ℕ) : Type 0 where
+  pub few : length dump.objects < 2 ^ 32
   pub held : AreHeld dump log ks n
   pub each : (k : ℕ) (p : Part) → slice_get parts k ≡ Some p → IsFresh dump ks whole p
   pub row : AreInRow 0 parts (length dump.objects)
   pub objects : length ks ≡ length dump.objects
 
--- such parts, whatever is kept
+-- parts at the beginning of a search, whatever is kept of the objects
 pub record AreHolding (dump : Dump) (log : List Event) (whole : Bool) (n : ℕ) (parts : List Part) : Type 0 where
   pub kept : List Reached
   pub holds : IsHolding dump log parts kept whole n
 
--- all is kept by each
+-- each part keeps all of its objects
 abbrev pub AreWhole : List Part → Type 0
 AreWhole parts = (k : ℕ) (p : Part) → slice_get parts k ≡ Some p → p.found.whole ≡ true
 
 -- of an object a root is kept that holds it, by its part, and nothing else changes
 pub record IsHeldBy (old new : List Part) (o root : ℕ) : Type 0 where
   pub index : ℕ
-  pub part : Part
-  pub there : slice_get old index ≡ Some part
-  pub own : IsOwn part o
-  pub is : new ≡ set old index (with_found part (record { whole = part.found.whole; list = set part.found.list (o - part.first) (seen part.found.whole (reached_by_root root)) }))
+  pub holder : IsHolder old o index
+  pub is : new ≡ set old index (with_found holder.part (record { whole = holder.part.found.whole; list = set holder.part.found.list (o - holder.part.first) (seen holder.part.found.whole (reached_by_root root)) }))
 
 -- the objects of a part that are reached are queued, and nothing else
 pub record HasQueued (old new : Part) : Type 0 where

@@ -1,6 +1,6 @@
 -- Rows of a dump under a log: what each slot of an object, and each root, is a standing reference to.
 -- Source: this project.
-use Rattle.std.specs.Prelude.{ℕ, ◌+◌, ◌-◌, nat_lt, if◌then◌else◌, List, length, Option, Some, None, slice_get}
+use Rattle.std.specs.Prelude.{◌≡◌, ℕ, ◌+◌, ◌-◌, nat_lt, if◌then◌else◌, List, length, Option, Some, None, slice_get}
 use Rattle.std.specs.Option.{option_map}
 use Rattle.hd_terms.specs.declared.Edit.{Edit}
 use Rattle.hd_terms.specs.declared.Edit.TheVariants as edits
@@ -14,6 +14,10 @@ use Rattle.hd_terms.specs.Log.{live_edit}
 -- how many slots an object has
 abbrev pub width : Dump → ℕ → ℕ
 width dump o = length (object_at dump o).slots
+
+-- the object that the slot at an index refers to, if it refers to one
+abbrev pub IsTargetAt : Dump → ℕ → ℕ → Option ℕ → Type 0
+IsTargetAt dump o i target = (s : SlotEntry) → slice_get (object_at dump o).slots i ≡ Some s → target ≡ index_of dump.objects s.id
 
 -- the edge of a slot, where there is a slot and it stands
 abbrev pub edge_by : Dump → List Event → ℕ → Option SlotEntry → Option Edge

@@ -38,7 +38,7 @@ impl Drop for Buckets {
 }
 
 impl Buckets {
-    /// No offer.
+    /// Buckets with no offer.
     pub fn new(alloc: Global) -> Buckets
         ensures { (s : OneStrength) → bucket result s ≡ [] }
     {

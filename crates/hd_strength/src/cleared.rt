@@ -15,7 +15,7 @@ pub(crate) struct Cleared {
 }
 
 impl Cleared {
-    /// No kind.
+    /// No kind of references is cleared.
     pub(crate) fn none() -> Cleared
         ensures { (kind : OneKind) → is_cleared result kind ≡ false }
     {
@@ -27,7 +27,7 @@ impl Cleared {
         }
     }
 
-    /// These kinds, and the one that an edit clears everywhere, if it does.
+    /// The kinds so far, and the one that an edit clears everywhere, if it clears one.
     pub(crate) fn with(self, edit: Edit) -> Cleared
         ensures { (kind : OneKind) → is_cleared result kind ≡ (is_cleared self kind || clears kind edit) }
     {

@@ -51,7 +51,7 @@ impl Model for Found {
 }
 
 impl Found {
-    /// There are no objects. The flag says whether all will be kept of objects, or strengths alone.
+    /// What is found of no objects. The flag says whether all will be kept of objects, or strengths alone.
     pub(crate) fn empty(alloc: Global, whole: bool) -> Found
         ensures { result ≡ record { whole = whole; list = [] } }
     {
@@ -64,7 +64,7 @@ impl Found {
         }
     }
 
-    /// Nothing reaches any of so many objects. The flag says whether all will be kept, or strengths alone.
+    /// What is found of so many objects that nothing reaches yet. The flag says whether all will be kept, or strengths alone.
     pub(crate) fn none(alloc: Global, objects: u32, whole: bool) -> Result<Found, NoMemory>
         ensures { IfOk result (λ f. f ≡ record { whole = whole; list = replicate objects unreached }) }
     {

@@ -1,5 +1,5 @@
 //! A part of the objects, those of numbers in a row, and how far a search among them has come.
-ghost use Rattle.std.specs.Prelude.{◌≡◌, ◌+◌, ◌-◌, ◌<◌, ◌≤◌, ◌^◌, true, false, length, OnOk};
+ghost use Rattle.std.specs.Prelude.{◌≡◌, ◌-◌, true, false, OnOk};
 ghost use Rattle.hd_strength.specs.Growing.{rank_at};
 ghost use Rattle.hd_strength.specs.Parts.{IsKnown, IsNew, IsNoted, IsOwn, IsSameBut};
 

@@ -38,7 +38,7 @@ impl Model for Queue {
 }
 
 impl Queue {
-    /// No object yet. The flag says whether the one that came first will be taken next, or the one that came last.
+    /// A queue with no object yet. The flag says whether the one that came first will be taken next, or the one that came last.
     pub(crate) fn new(alloc: Global, breadth_first: bool) -> Queue
         ensures { result ≡ [] }
     {

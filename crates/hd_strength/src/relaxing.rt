@@ -3,14 +3,13 @@
 //! If a reference gives an object of the part the strength that is being spread, that is accepted at once. If it gives less,
 //! that is offered. If it gives an object of another part the strength that is being spread, that is offered too, once for each
 //! such object, and its part takes it between rounds.
-ghost use Rattle.std.specs.Prelude.{◌≡◌, ◌+◌, ◌-◌, ◌^◌, ◌<◌, ◌≤◌, ◌⊎◌, Some, false, length, slice_get, IfNone, IfSome, OnOk};
+ghost use Rattle.std.specs.Prelude.{◌≡◌, ◌^◌, ◌<◌, Some, false, length, slice_get, IfNone, IfSome, OnOk};
 ghost use Rattle.hd_terms.specs.Ranks.{IsPassedOn};
 ghost use Rattle.hd_terms.specs.Paths.{Edge};
 ghost use Rattle.hd_terms.specs.Dump.{SlotEntry, object_at};
-ghost use Rattle.hd_terms.specs.Edges.{index_of};
 ghost use Rattle.hd_strength.specs.Found.{seen};
-ghost use Rattle.hd_strength.specs.Rows.{width, edge_at};
-ghost use Rattle.hd_strength.specs.Parts.{IsOwn, IsKnown, IsGain, IsFit, IsAny, IsBelow, HasGoneOn, HasRelaxed, HasNoneQueued, IsAccepted, IsOffered, IsPassedOver, IsTakenOut, Keeps, found_at};
+ghost use Rattle.hd_strength.specs.Rows.{width, edge_at, IsTargetAt};
+ghost use Rattle.hd_strength.specs.Parts.{IsOwn, IsKnown, IsGain, IsFit, IsAny, IsBelow, HasGoneOn, HasRelaxed, HasNoneQueued, IsSlotRelaxed, IsTakenOut, Keeps, found_at};
 ghost use Rattle.hd_strength.specs.Removed.{IsRemovedBy};
 
 use crate::buckets::Offer;
@@ -27,16 +26,17 @@ pub struct Gain {
     pub strength: Strength,
 }
 
-/// Keeps what an object of the part gains by the reference at an index of another's slots, with the stamp behind one. Where
-/// strengths alone are kept the slot isn't looked up.
+/// Keeps what an object of the part gains by the reference at an index of another object's slots. Its stamp is the one after the
+/// given one. Where strengths alone are kept the slot isn't looked up.
 #[inline(always)]
 pub(crate) fn keep(graph: &Graph, part: &mut Part, source: u32, index: u32, gain: Gain, stamp: u64)
     requires source { source < length graph.now.objects }
     requires index { index < width graph.now source }
     requires own { IsOwn part.old gain.target }
     requires room { stamp < 2 ^ 32 }
-    ensures { (s : SlotEntry) → slice_get (object_at graph.now source).slots index ≡ Some s →
+    ensures kept { (s : SlotEntry) → slice_get (object_at graph.now source).slots index ≡ Some s →
         Keeps (seen part.old.found.whole) part.old part.new gain.strength source s.slot gain.target stamp }
+    ensures queue { part.new.queue ≡ part.old.queue }
 {
     part.count = stamp + 1;
     let place = gain.target - part.first;
@@ -63,7 +63,7 @@ fn gain_at(
     requires removed { IsRemovedBy edited.graph.now edited.front.now edited.removed.now }
     requires object { o < length edited.graph.now.objects }
     requires index { index < width edited.graph.now o }
-    requires target { (s : SlotEntry) → slice_get (object_at edited.graph.now o).slots index ≡ Some s → target ≡ index_of edited.graph.now.objects s.id }
+    requires target { IsTargetAt edited.graph.now o index target }
     ensures none { IfNone result ((e : Edge) → edge_at edited.entry.graph.now edited.entry.front.now o index ≡ Some e → IsKnown part.now e.target) }
     ensures some { IfSome result (λ gain. IsGain (edge_at edited.entry.graph.now edited.entry.front.now) part.now o index strength gain) }
 {
@@ -81,8 +81,8 @@ fn gain_at(
     })
 }
 
-/// Gives the target of the reference at an index what it gains: at once if that is the strength of the object, which is
-/// being spread, and the target is of this part, and else by an offer.
+/// Gives the target of the reference at an index what it gains. A target of this part that gains the strength of the object,
+/// which is being spread, takes it at once. All else is offered.
 #[inline(always)]
 fn relax_edge(
     edited: Edited<'_>,
@@ -95,12 +95,10 @@ fn relax_edge(
     requires removed { IsRemovedBy edited.graph.now edited.front.now edited.removed.now }
     requires object { o < length edited.graph.now.objects }
     requires index { index < width edited.graph.now o }
-    requires target { (s : SlotEntry) → slice_get (object_at edited.graph.now o).slots index ≡ Some s → target ≡ index_of edited.graph.now.objects s.id }
+    requires target { IsTargetAt edited.graph.now o index target }
     requires passes_on { IsPassedOn edited.graph.now.mode strength }
     requires room { part.old.count < 2 ^ 32 }
-    ensures { OnOk result (IsPassedOver (edge_at edited.entry.graph.now edited.entry.front.now) part.old part.new o index
-        ⊎ IsAccepted (seen part.old.found.whole) edited.entry.graph.now.mode (edge_at edited.entry.graph.now edited.entry.front.now) part.old part.new strength o index part.old.count
-        ⊎ IsOffered (edge_at edited.entry.graph.now edited.entry.front.now) part.old part.new strength o index) }
+    ensures { OnOk result (IsSlotRelaxed edited.entry.graph.now.mode (edge_at edited.entry.graph.now edited.entry.front.now) part.old part.new strength o index) }
 {
     let Some(gain) = gain_at(edited, part, o, index, target, strength) else {
         return Ok(());
@@ -190,7 +188,8 @@ fn relax_objects(
     Ok(most)
 }
 
-/// The same, where what was handed over is noted, if there are other parts.
+/// Passes on the strength of at most so many objects that are queued, and notes what is handed over to other parts, if there are
+/// any. The answer is how many objects there were.
 fn relax_among_others(
     edited: Edited<'_>,
     part: &mut Part,
@@ -207,9 +206,9 @@ fn relax_among_others(
     Ok(passed)
 }
 
-/// A part's round: where all is kept of the objects those pass their strength on that are queued now, so that supports make
-/// short chains, and else at most so many, with those that they reach. The part notes how many there were, and whether memory
-/// ran out.
+/// A part's round: objects that are queued pass their strength on. Where all is kept of the objects, these are the ones that are
+/// queued now, so that supports make short chains. Where strengths alone are kept, they are at most so many, and can be ones that
+/// others reach in the round. The part notes how many there were, and whether memory ran out.
 pub(crate) fn relax_round(edited: Edited<'_>, part: &mut Part, strength: Strength, most: usize)
     requires removed { IsRemovedBy edited.graph.now edited.front.now edited.removed.now }
     requires some { 0 < most }

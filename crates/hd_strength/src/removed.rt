@@ -169,7 +169,7 @@ impl Removed {
         self.slots.len()
     }
 
-    /// One of these slots: the object, and the index of the slot.
+    /// One of the slots that lose their references one by one: the object, and the index of the slot.
     pub fn slot_at(&self, j: usize) -> (u32, u32)
         requires { j < length self.now.slots }
         ensures { slice_get self.now.slots j ≡ Some (slot_key result.0 result.1) }
@@ -185,7 +185,7 @@ impl Removed {
         self.roots.len()
     }
 
-    /// The number of one of these roots.
+    /// The number of a root that is taken away.
     pub fn root_at(&self, j: usize) -> u64
         requires { j < length self.now.roots }
         ensures { slice_get self.now.roots j ≡ Some result }

@@ -2,7 +2,7 @@
 ghost use Rattle.std.specs.Prelude.{◌≡◌, ◌+◌, ◌-◌, ◌^◌, ◌<◌, ◌≤◌, min, false, [], length, IfOk, OnOk};
 ghost use Rattle.hd_terms.specs.declared.Strength.TheVariants as strengths;
 ghost use Rattle.hd_strength.specs.Rows.{root_count};
-ghost use Rattle.hd_strength.specs.Parts.{AreBlank, AreFilled, AreHolding, IsNew, HasQueued, HaveComeTo, IsHeldBy, IsHeldIn};
+ghost use Rattle.hd_strength.specs.Parts.{AreBlank, AreFilled, AreHolding, HasComeTo, HasQueued, IsHeldBy, IsHeldIn, IsNew};
 ghost use Rattle.hd_strength.specs.Removed.{IsRemovedBy};
 
 use crate::edited::{Edited, added_object, root_object};
@@ -16,7 +16,7 @@ use std::thread::{Threads, for_each_mut};
 /// How many objects a part has at least, but for the last one, where strengths alone are asked for.
 const LEAST: u32 = 4096;
 
-/// How many objects each part of so many has, but for the last one. The flag says whether all will be kept of them: then parts
+/// How many of so many objects each part has, but for the last one. The flag says whether all will be kept of them. Then parts
 /// end where a group of pages ends, so that pages are put one behind the other with no copy.
 fn part_len(objects: u32, whole: bool) -> u32
     ensures { 0 < result }
@@ -29,8 +29,8 @@ fn part_len(objects: u32, whole: bool) -> u32
     }
 }
 
-/// The parts of so many objects, one behind the other, each with as many but for the last, before they have room for these. The
-/// flag says whether all will be kept of the objects, or their strengths alone.
+/// Parts for so many objects, one behind the other, that have no room for these yet. Each will have `len` of them, and the last
+/// one those that are left. The flag says whether all will be kept of the objects, or their strengths alone.
 fn blank_parts(alloc: Global, objects: u32, len: u32, whole: bool) -> Result<Vec<Part>, NoMemory>
     requires { 0 < len }
     ensures { IfOk result (λ parts. AreBlank len objects whole parts.items objects) }
@@ -44,7 +44,7 @@ fn blank_parts(alloc: Global, objects: u32, len: u32, whole: bool) -> Result<Vec
     Ok(parts)
 }
 
-/// Makes room in each part for its objects, so many or what is left of all objects, in a thread for each.
+/// Makes room in each part for its objects, in a thread for each. It has `len` of them, or those that are left.
 fn fill_parts<R: Threads + Sync>(rt: &R, parts: &mut [Part], len: u32, objects: u32, whole: bool)
     requires { AreBlank len objects whole parts.old objects }
     ensures count { length parts.new ≡ length parts.old }
@@ -69,8 +69,7 @@ fn parts_of<R: Threads + Sync>(
     edited: Edited<'_>,
     whole: bool,
 ) -> Result<Vec<Part>, NoMemory>
-    ensures few { length edited.entry.graph.now.objects < 2 ^ 32 }
-    ensures held { IfOk result (λ parts. AreHolding edited.entry.graph.now edited.entry.front.now whole 0 parts.items) }
+    ensures { IfOk result (λ parts. AreHolding edited.entry.graph.now edited.entry.front.now whole 0 parts.items) }
 {
     let objects = edited.graph.objects();
     let len = part_len(objects, whole);
@@ -82,7 +81,7 @@ fn parts_of<R: Threads + Sync>(
     Ok(parts)
 }
 
-/// A root holds an object.
+/// Notes of an object that a root holds it.
 fn hold(parts: &mut [Part], o: u32, root: u64)
     requires { IsHeldIn parts.old o }
     ensures { IsHeldBy parts.old parts.new o root }
@@ -92,7 +91,7 @@ fn hold(parts: &mut [Part], o: u32, root: u64)
     parts[k].found.put(place, PackedReached::by_root(root));
 }
 
-/// The parts where only the roots of the dump hold their objects, so far as they stand.
+/// The parts of the objects, where those roots of the dump that stand hold their objects. Nothing else is reached.
 fn apply_dump_roots<R: Threads + Sync>(
     rt: &R,
     alloc: Global,
@@ -100,8 +99,7 @@ fn apply_dump_roots<R: Threads + Sync>(
     whole: bool,
 ) -> Result<Vec<Part>, NoMemory>
     requires removed { IsRemovedBy edited.graph.now edited.front.now edited.removed.now }
-    ensures few { length edited.entry.graph.now.objects < 2 ^ 32 }
-    ensures held { IfOk result (λ parts. AreHolding edited.entry.graph.now edited.entry.front.now whole (length edited.entry.graph.now.roots) parts.items) }
+    ensures { IfOk result (λ parts. AreHolding edited.entry.graph.now edited.entry.front.now whole (length edited.entry.graph.now.roots) parts.items) }
 {
     let mut parts = parts_of(rt, alloc, edited, whole)?;
     for r in 0..edited.graph.roots_len() {
@@ -112,8 +110,8 @@ fn apply_dump_roots<R: Threads + Sync>(
     Ok(parts)
 }
 
-/// The parts where only the roots hold their objects: those of the dump and those that were added, so far as they stand. An
-/// added root has the number of the event after those of the dump's roots.
+/// The parts of the objects, where all roots that stand hold their objects: those of the dump, and those that were added.
+/// Nothing else is reached. The number of an added root is that of its event, counted on from the roots of the dump.
 fn apply_roots<R: Threads + Sync>(
     rt: &R,
     alloc: Global,
@@ -121,8 +119,7 @@ fn apply_roots<R: Threads + Sync>(
     whole: bool,
 ) -> Result<Vec<Part>, NoMemory>
     requires removed { IsRemovedBy edited.graph.now edited.front.now edited.removed.now }
-    ensures few { length edited.entry.graph.now.objects < 2 ^ 32 }
-    ensures held { IfOk result (λ parts. AreHolding edited.entry.graph.now edited.entry.front.now whole (root_count edited.entry.graph.now edited.entry.front.now) parts.items) }
+    ensures { IfOk result (λ parts. AreHolding edited.entry.graph.now edited.entry.front.now whole (root_count edited.entry.graph.now edited.entry.front.now) parts.items) }
 {
     let mut parts = apply_dump_roots(rt, alloc, edited, whole)?;
     let live = edited.front.live(alloc)?;
@@ -149,7 +146,7 @@ fn queue_reached(part: &mut Part) -> Result<(), NoMemory>
     Ok(())
 }
 
-/// A search that begins: of the objects only those are reached that roots hold, and they are queued.
+/// The beginning of a search: only the objects that roots hold are reached, and these are queued.
 pub(crate) fn begin<R: Threads + Sync>(
     rt: &R,
     alloc: Global,
@@ -158,7 +155,7 @@ pub(crate) fn begin<R: Threads + Sync>(
 ) -> Result<Search, NoMemory>
     requires removed { IsRemovedBy edited.graph.now edited.front.now edited.removed.now }
     ensures whole { IfOk result (λ search. search.whole ≡ whole) }
-    ensures searching { IfOk result (λ search. HaveComeTo edited.entry.graph.now edited.entry.front.now whole strengths.Strong search.parts.items) }
+    ensures searching { IfOk result (λ search. HasComeTo edited.entry.graph.now edited.entry.front.now strengths.Strong search) }
 {
     let mut parts = apply_roots(rt, alloc, edited, whole)?;
     for k in 0..parts.len() {

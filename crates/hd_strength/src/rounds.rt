@@ -19,7 +19,7 @@ ghost use Rattle.hd_terms.specs.declared.Strength.{Strength as OneStrength};
 ghost use Rattle.hd_terms.specs.declared.Strength.TheVariants as strengths;
 ghost use Rattle.hd_strength.specs.Found.{seen};
 ghost use Rattle.hd_strength.specs.Rows.{width};
-ghost use Rattle.hd_strength.specs.Parts.{AreFit, AreNoneOffered, AreQuiet, HasRelaxed, HaveAccepted, HaveComeTo, HaveEachRelaxed, HaveFound, HaveNotFailed, IsAnyQueued, IsAsFar, IsFit, IsHeldIn, IsHolder, IsMade, IsOwn, IsReachedOrNot, IsTried, to_do_in};
+ghost use Rattle.hd_strength.specs.Parts.{AreFit, AreNoneOffered, AreQuiet, HasAccepted, HasComeTo, HasRelaxed, HaveEachRelaxed, HaveFound, HaveNotFailed, IsAnyQueued, IsAsFar, IsFit, IsHeldIn, IsHolder, IsMade, IsOwn, IsReachedOrNot, IsTried, to_do_in};
 ghost use Rattle.hd_strength.specs.Removed.{IsRemovedBy};
 
 use crate::buckets::Offer;
@@ -32,9 +32,11 @@ use std::thread::{Threads, for_each_mut};
 /// How many parts there are at most, and threads that work on them.
 pub(crate) const PARTS: usize = 4;
 
-/// From how many objects on that wait, or passed their strength on in the last round, a round has several threads; and how many
-/// of a part pass it on in a round of one thread, where strengths alone are kept.
+/// From how many objects on that wait, or passed their strength on in the last round, a round has several threads.
 const CROWD: usize = 4096;
+
+/// How many objects of a part pass their strength on in a round of one thread, where strengths alone are kept.
+const FEW: usize = 4096;
 
 /// How many objects of a part pass their strength on in a round of several threads, where strengths alone are kept.
 const MANY: usize = 262_144;
@@ -59,8 +61,8 @@ pub(crate) fn holder(parts: &[Part], o: u32) -> usize
     unreachable!()
 }
 
-/// Reaches an object of a part by an offer, unless it is reached, with the stamp behind one, and queues it if it passes its
-/// strength on.
+/// Reaches an object of a part by an offer, unless it is reached already. Its stamp is the one after the given one. It is queued
+/// if it passes its strength on.
 fn reach(
     edited: Edited<'_>,
     part: &mut Part,
@@ -93,7 +95,7 @@ fn accept_offer(
     offer: Offer,
     stamp: u64,
 ) -> Result<(), NoMemory>
-    requires searching { HaveComeTo edited.graph.now edited.front.now search.old.whole strength search.old.parts.items }
+    requires searching { HasComeTo edited.graph.now edited.front.now strength search.old }
     requires made { IsMade search.old.parts.items strength offer stamp }
     ensures { OnOk result (IsTried edited.entry.graph.now edited.entry.front.now strength offer search.old search.new) }
 {
@@ -115,9 +117,9 @@ fn accept_offers_of(
     strength: Strength,
 ) -> Result<(), NoMemory>
     requires part { k < length search.old.parts.items }
-    requires searching { HaveComeTo edited.graph.now edited.front.now search.old.whole strength search.old.parts.items }
+    requires searching { HasComeTo edited.graph.now edited.front.now strength search.old }
     requires none { AreNoneOffered search.old.parts.items strength k }
-    ensures searching { OnOk result (HaveComeTo edited.entry.graph.now edited.entry.front.now search.old.whole strength search.new.parts.items) }
+    ensures searching { OnOk result (HasComeTo edited.entry.graph.now edited.entry.front.now strength search.new) }
     ensures none { OnOk result (AreNoneOffered search.new.parts.items strength (k + 1)) }
     ensures same { OnOk result (IsAsFar search.old search.new) }
 {
@@ -135,8 +137,8 @@ fn accept_offers(
     search: &mut Search,
     strength: Strength,
 ) -> Result<(), NoMemory>
-    requires searching { HaveComeTo edited.graph.now edited.front.now search.old.whole strength search.old.parts.items }
-    ensures searching { OnOk result (HaveAccepted edited.entry.graph.now edited.entry.front.now search.old.whole strength search.new.parts.items) }
+    requires searching { HasComeTo edited.graph.now edited.front.now strength search.old }
+    ensures searching { OnOk result (HasAccepted edited.entry.graph.now edited.entry.front.now strength search.new) }
     ensures same { OnOk result (IsAsFar search.old search.new) }
 {
     for k in 0..search.parts.len() {
@@ -216,15 +218,15 @@ fn pass_on<R: Threads + Sync>(
     strength: Strength,
 ) -> Result<(), NoMemory>
     requires removed { IsRemovedBy edited.graph.now edited.front.now edited.removed.now }
-    requires searching { HaveComeTo edited.graph.now edited.front.now search.old.whole strength search.old.parts.items }
-    ensures searching { OnOk result (HaveComeTo edited.entry.graph.now edited.entry.front.now search.old.whole strength search.new.parts.items) }
+    requires searching { HasComeTo edited.graph.now edited.front.now strength search.old }
+    ensures searching { OnOk result (HasComeTo edited.entry.graph.now edited.entry.front.now strength search.new) }
     ensures same { OnOk result (IsAsFar search.old search.new) }
     ensures less { OnOk result (IsAnyQueued search.old.parts.items → to_do_in search.new.parts.items < to_do_in search.old.parts.items) }
 {
     let (threads, most) = if is_crowd(&search.parts) {
         (PARTS, MANY)
     } else {
-        (1, CROWD)
+        (1, FEW)
     };
     relax_parts(rt, edited, &mut search.parts, strength, threads, most);
     if has_failed(&search.parts) {
@@ -233,7 +235,7 @@ fn pass_on<R: Threads + Sync>(
     Ok(())
 }
 
-/// Passes on the strength of all objects that are queued, and of those that are queued by that.
+/// Passes on the strength of all objects that are queued, and of those that are queued in turn.
 fn spread_objects<R: Threads + Sync>(
     rt: &R,
     edited: Edited<'_>,
@@ -241,8 +243,8 @@ fn spread_objects<R: Threads + Sync>(
     strength: Strength,
 ) -> Result<(), NoMemory>
     requires removed { IsRemovedBy edited.graph.now edited.front.now edited.removed.now }
-    requires searching { HaveAccepted edited.graph.now edited.front.now search.old.whole strength search.old.parts.items }
-    ensures searching { OnOk result (HaveAccepted edited.entry.graph.now edited.entry.front.now search.old.whole strength search.new.parts.items) }
+    requires searching { HasAccepted edited.graph.now edited.front.now strength search.old }
+    ensures searching { OnOk result (HasAccepted edited.entry.graph.now edited.entry.front.now strength search.new) }
     ensures whole { OnOk result (search.new.whole ≡ search.old.whole) }
     ensures all { OnOk result (AreQuiet search.new.parts.items) }
 {
@@ -261,8 +263,8 @@ fn spread_strength<R: Threads + Sync>(
     strength: Strength,
 ) -> Result<(), NoMemory>
     requires removed { IsRemovedBy edited.graph.now edited.front.now edited.removed.now }
-    requires searching { HaveComeTo edited.graph.now edited.front.now search.old.whole strength search.old.parts.items }
-    ensures searching { OnOk result ((next : OneStrength) → rank strength ≡ rank next + 1 → HaveComeTo edited.entry.graph.now edited.entry.front.now search.old.whole next search.new.parts.items) }
+    requires searching { HasComeTo edited.graph.now edited.front.now strength search.old }
+    ensures searching { OnOk result ((next : OneStrength) → rank strength ≡ rank next + 1 → HasComeTo edited.entry.graph.now edited.entry.front.now next search.new) }
     ensures whole { OnOk result (search.new.whole ≡ search.old.whole) }
 {
     accept_offers(edited, search, strength)?;
@@ -277,7 +279,7 @@ pub(crate) fn spread<R: Threads + Sync>(
     mut search: Search,
 ) -> Result<Search, NoMemory>
     requires removed { IsRemovedBy edited.graph.now edited.front.now edited.removed.now }
-    requires searching { HaveComeTo edited.graph.now edited.front.now search.whole strengths.Strong search.parts.items }
+    requires searching { HasComeTo edited.graph.now edited.front.now strengths.Strong search }
     ensures { IfOk result (λ found. HaveFound edited.entry.graph.now edited.entry.front.now search.whole found.parts.items) }
 {
     spread_strength(rt, edited, &mut search, Strength::Strong)?;

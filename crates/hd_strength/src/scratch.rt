@@ -1,5 +1,5 @@
 //! Strengths from scratch.
-ghost use Rattle.std.specs.Prelude.{◌≡◌, ℕ, ◌≤◌, ◌^◌, ◌<◌, length, map, true, IfOk};
+ghost use Rattle.std.specs.Prelude.{◌≡◌, ℕ, ◌≤◌, ◌^◌, ◌<◌, length, map, IfOk};
 ghost use Rattle.hd_terms.specs.EditedDump.{standing};
 ghost use Rattle.hd_terms.specs.Settled.{Settled, reached_at};
 ghost use Rattle.hd_strength.specs.Found.{AreSettled, strength_of};

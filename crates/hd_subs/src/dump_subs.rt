@@ -5,6 +5,7 @@ ghost use Rattle.hd_subs.specs.Views.{sub_view};
 ghost use Rattle.hd_subs.specs.ClassSubs.{class_of_sub, IsClassAt};
 
 use crate::sub::Sub;
+use crate::sub_list::SubList;
 use crate::subs::Subs;
 use std::alloc::{AllocError, Global};
 use std::marker::Model;
@@ -69,21 +70,13 @@ impl<'a> DumpSubs<'a> {
         self.len == 0
     }
 
-    /// The part that has one of them, and its index there. They are numbered from 0 through all parts.
-    #[inline(always)]
-    fn place(&self, i: usize) -> (&Subs<'a>, usize)
-        requires { i < length self.now }
-        ensures within { result.1 < length result.0.now }
-        ensures same { slice_get result.0.now result.1 ≡ slice_get self.now i }
+    /// The same sub-records, for a thread that goes over all of them.
+    pub fn as_list(&self) -> SubList<'_>
+        ensures { result ≡ self.now }
     {
-        let mut index = i;
-        for part in self.parts.as_slice() {
-            if index < part.len() {
-                return (part, index);
-            }
-            index -= part.len();
+        SubList {
+            parts: self.parts.as_slice(),
         }
-        unreachable!()
     }
 
     /// One of them; they are numbered from 0 through all parts.
@@ -92,8 +85,7 @@ impl<'a> DumpSubs<'a> {
         requires { i < length self.now }
         ensures { slice_get self.now i ≡ Some (sub_view result) }
     {
-        let (part, index) = self.place(i);
-        part.get(index)
+        self.as_list().get(i)
     }
 
     /// How many there are up to and with the last class, or 0 where none is a class.

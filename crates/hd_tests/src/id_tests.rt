@@ -139,3 +139,25 @@ fn ids_at_the_ends(rt: HostRuntime) {
     let once = [0, u64::MAX, 1, u64::MAX - 7, 4096, 4095, 8];
     assert_eq!(rt; ids.as_slice(), once.as_slice());
 }
+
+/// The ID at an offset of a page of 4,096 addresses. The rows of pages whose numbers are 1,024 apart take turns in one place of
+/// a finder.
+fn id_in(page: u64, offset: u64) -> u64 {
+    page.wrapping_mul(4096).wrapping_add(offset)
+}
+
+#[test]
+fn finder_of_pages_with_one_place(rt: HostRuntime) {
+    let mut ids = ObjectIds::with_capacity(rt.alloc(), 0, 5).expect(&rt, "an index is made");
+    let (first, second, none) = (7, 7 + 1024, 7 + 2048);
+    for id in [id_in(first, 0), id_in(second, 0), id_in(first, 8)] {
+        ids.note(id).expect(&rt, "the ID is noted");
+    }
+    let mut finder = ids.finder();
+    assert_eq!(rt; finder.index_of(id_in(first, 0)), Some(0));
+    assert_eq!(rt; finder.index_of(id_in(second, 0)), Some(1));
+    assert_eq!(rt; finder.index_of(id_in(first, 8)), Some(2));
+    assert_eq!(rt; finder.index_of(id_in(none, 8)), None);
+    assert_eq!(rt; finder.index_of(id_in(first, 8)), Some(2));
+    assert_eq!(rt; finder.index_of(id_in(second, 8)), None);
+}

@@ -12,7 +12,7 @@ use Rattle.hd_graph.proofs.OpenLemmas.{length-le-weight}
 use Rattle.hd_graph.proofs.filling.fill_all_shapes.Goals as goal
 
 pub fill_shape-requires-clause-small : goal.fill_shape-requires-clause-small
-fill_shape-requires-clause-small c = omega (arith, weight-at c.args.list.now c.loop-i.i _ c.get.ensures, c.requires.few)
+fill_shape-requires-clause-small c = omega (arith, weight-at c.args.list.now c.loop-i.i _ (rw c.as_list-subs.ensures at c.get.ensures), c.requires.few)
 
 pub fill_shape-requires-clause-few : goal.fill_shape-requires-clause-few
 fill_shape-requires-clause-few c =
@@ -28,7 +28,7 @@ loop-i-preserved c =
     let next = c.fill_shape.new.shapes.objects in
     let more = subst (λ (l : SizedClasses). next ≡ now ++ cons_option (shape_of_item (known_at l.classes) l.size (sub_view c.get.result).item) []) c.loop-i.invariant.layouts c.in_ok-fill_shape.ensures.filled in
     record {
-      so_far = shapes-next (known_at c.args.layouts.now.classes) c.args.layouts.now.size c.args.list.now c.loop-i.i _ c.get.ensures now next c.loop-i.invariant.so_far more;
+      so_far = shapes-next (known_at c.args.layouts.now.classes) c.args.layouts.now.size c.args.list.now c.loop-i.i _ (rw c.as_list-subs.ensures at c.get.ensures) now next c.loop-i.invariant.so_far more;
       made = subst (λ (l : SizedClasses). AreLayouts l.size l.classes c.fill_shape.new.shapes.layouts) c.loop-i.invariant.layouts c.in_ok-fill_shape.ensures.classes;
       layouts = c.in_ok-fill_shape.ensures.same ∙ c.loop-i.invariant.layouts;
     }

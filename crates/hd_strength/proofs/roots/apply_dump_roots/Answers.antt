@@ -29,7 +29,7 @@ loop-r-preserved g c =
       | in_default w ↦ rw w.parts-is (none_holds dump log c.args.whole r parts c.loop-r.invariant (root_none dump log r (sym w.in_default.is ∙ c.root_object.ensures)))
     ]
 
-pub returns-clause-held : goal.returns-clause-held
-returns-clause-held g c =
+pub returns : goal.returns
+returns g c =
     let end : c.loop-r.r ≡ length c.args.edited.graph.now.roots = omega arith in
     subst (λ (n : ℕ). AreHolding c.args.edited.graph.now c.args.edited.front.now c.args.whole n c.loop-r.parts.items) end c.loop-r.invariant

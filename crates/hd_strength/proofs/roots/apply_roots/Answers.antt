@@ -11,7 +11,7 @@ use Rattle.hd_strength.proofs.roots.apply_roots.Goals.{in-Some, in_default}
 pub loop-k-init : goal.loop-k-init
 loop-k-init g c =
     let none : length c.args.edited.graph.now.roots + 0 ≡ length c.args.edited.graph.now.roots = omega arith in
-    rw none c.in_ok-parts.ensures.held
+    rw none c.in_ok-parts.ensures
 
 pub hold-requires : goal.hold-requires
 hold-requires g c =
@@ -38,8 +38,8 @@ loop-k-preserved g c =
       | in_default w ↦ rw (w.parts-is, next) (none_holds dump log c.args.whole r parts c.loop-k.invariant (root_none dump log r (sym w.in_default.is ∙ c.added_object.ensures)))
     ]
 
-pub returns-clause-held : goal.returns-clause-held
-returns-clause-held g c =
+pub returns : goal.returns
+returns g c =
     let dump = c.args.edited.graph.now in
     let log = c.args.edited.front.now in
     let end : length dump.roots + c.loop-k.k ≡ root_count dump log = omega (arith, c.len-k-end.ensures.len) in

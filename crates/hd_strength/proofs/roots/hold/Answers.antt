@@ -11,8 +11,6 @@ returns c =
     let here : get_or parts k c.index-parts-k-2.result ≡ p = get_or_from_slice_get parts k p c.index-parts-k-2.result c.holder-k.ensures.there in
     rw (here, c.put.ensures, here, read, c.by_root.ensures) (record {
       index = k;
-      part = p;
-      there = c.holder-k.ensures.there;
-      own = c.holder-k.ensures.own;
+      holder = c.holder-k.ensures;
       is = refl;
     })

@@ -1,12 +1,12 @@
-use Rattle.std.proofs.Common.{◌≡◌, ◌∙◌, List, Some, slice_get, length, refl, sym, ap, subst}
+use Rattle.std.proofs.Common.{◌≡◌, ◌∙◌, List, Some, slice_get, length, refl, sym, ap, subst, arith}
 use Rattle.hd_strength.specs.declared.part.Part.{Part}
 use Rattle.hd_strength.specs.Parts.{AreHolding}
 use Rattle.hd_strength.proofs.Ending.{lent}
 use Rattle.hd_strength.proofs.Holding.{all_parts, filled}
 use Rattle.hd_strength.proofs.roots.parts_of.Goals as goal
 
-pub returns-clause-held : goal.returns-clause-held
-returns-clause-held g c =
+pub returns : goal.returns
+returns g c =
     let dump = c.args.edited.graph.now in
     let log = c.args.edited.front.now in
     let n = c.objects-objects.result in
@@ -20,4 +20,4 @@ returns-clause-held g c =
     (λ k p q there here. c.fill_parts.ensures.each k p q (subst (λ (ps : List Part). slice_get ps k ≡ Some p) (sym c.deref_mut.ensures.value) there) here
     (well k q (subst (λ (ps : List Part). slice_get ps k ≡ Some q) (sym (c.deref.ensures.value ∙ is)) here)))
     c.objects-objects.ensures)
-    c.objects-objects.ensures refl)
+    (omega arith) c.objects-objects.ensures refl)

@@ -1,12 +1,12 @@
 use Rattle.std.proofs.Common.{slice_get}
-use Rattle.hd_strength.specs.Parts.{HaveComeTo, AreNoneOffered, IsAsFar}
+use Rattle.hd_strength.specs.Parts.{HasComeTo, AreNoneOffered, IsAsFar}
 use Rattle.hd_strength.proofs.Taking.{offered_by}
 use Rattle.hd_strength.proofs.rounds.accept_offers_of.Given as goal
 
 -- the search has come to the strength, and parts before have none of it offered
 abbrev pub invariant-loop-offer : goal.invariant-loop-offer
 invariant-loop-offer l = record {
-  searching : HaveComeTo l.fn.edited.graph.now l.fn.edited.front.now l.fn.search.whole l.fn.strength l.search.parts.items;
+  searching : HasComeTo l.fn.edited.graph.now l.fn.edited.front.now l.fn.strength l.search;
   none : AreNoneOffered l.search.parts.items l.fn.strength l.fn.k;
   same : IsAsFar l.fn.search l.search;
 }

@@ -24,5 +24,5 @@ loop-k-preserved c = λ j p lt there own. elim (cases_eq j c.loop-k.k) [
 
 pub unreachable-requires : goal.unreachable-requires
 unreachable-requires c =
-    let lt : c.requires.index < length c.args.parts.now = slice_get_within c.args.parts.now c.requires.index c.requires.part c.requires.there in
-    c.loop-k.invariant c.requires.index c.requires.part (omega arith) c.requires.there c.requires.own
+    let lt : c.requires.index < length c.args.parts.now = slice_get_within c.args.parts.now c.requires.index c.requires.holder.part c.requires.holder.there in
+    c.loop-k.invariant c.requires.index c.requires.holder.part (omega arith) c.requires.holder.there c.requires.holder.own

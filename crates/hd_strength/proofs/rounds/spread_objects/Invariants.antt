@@ -1,11 +1,11 @@
 use Rattle.std.proofs.Common.{◌≡◌}
-use Rattle.hd_strength.specs.Parts.{HaveAccepted, to_do_in}
+use Rattle.hd_strength.specs.Parts.{HasAccepted, to_do_in}
 use Rattle.hd_strength.proofs.rounds.spread_objects.Given as goal
 
 -- what was offered of the strength is accepted
 abbrev pub invariant-loop-strength : goal.invariant-loop-strength
 invariant-loop-strength g l = record {
-  searching : HaveAccepted l.fn.edited.graph.now l.fn.edited.front.now l.fn.search.whole l.fn.strength l.search.parts.items;
+  searching : HasAccepted l.fn.edited.graph.now l.fn.edited.front.now l.fn.strength l.search;
   whole : l.search.whole ≡ l.fn.search.whole;
 }
 

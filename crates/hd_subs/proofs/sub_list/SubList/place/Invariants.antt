@@ -1,6 +1,6 @@
 use Rattle.std.proofs.Common.{◌≡◌, ◌<◌, length, slice_get, drop}
 use Rattle.hd_subs.specs.Joined.{joined}
-use Rattle.hd_subs.proofs.dump_subs.DumpSubs.place.Given as goal
+use Rattle.hd_subs.proofs.sub_list.SubList.place.Given as goal
 
 -- what is looked for is at the index in the parts that are left
 abbrev pub invariant-loop-part : goal.invariant-loop-part

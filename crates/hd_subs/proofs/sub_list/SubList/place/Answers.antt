@@ -1,11 +1,11 @@
 use Rattle.std.proofs.Common.{◌∙◌, ◌≤◌, ◌+◌, ◌-◌, drop, slice_index_or, length, slice_get, sym, ap, arith}
 use Rattle.hd_subs.specs.Joined.{joined}
 use Rattle.hd_subs.proofs.JoinedLemmas.{found-here, found-behind, length-behind}
-use Rattle.hd_subs.proofs.dump_subs.DumpSubs.place.Goals as goal
+use Rattle.hd_subs.proofs.sub_list.SubList.place.Goals as goal
 
 pub returns-then-index-len-clause-same : goal.returns-then-index-len-clause-same
 returns-then-index-len-clause-same c =
-    let parts = c.as_slice-part-items.result.now in
+    let parts = c.self.inside.parts.now in
     let k = c.loop-part.part-index in
     let d = c.part-item.result in
     sym (
@@ -16,7 +16,7 @@ returns-then-index-len-clause-same c =
 
 pub loop-part-preserved : goal.loop-part-preserved
 loop-part-preserved c =
-    let parts = c.as_slice-part-items.result.now in
+    let parts = c.self.inside.parts.now in
     let k = c.loop-part.part-index in
     let d = c.part-item.result in
     let past : length (slice_index_or parts k d) ≤ c.loop-part.index = rw (← c.part-item.is) (omega arith) in (
