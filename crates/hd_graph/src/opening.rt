@@ -35,8 +35,8 @@ const MANY: usize = 1 << 18;
 /// The references of the objects of all sub-records of a file, whether their IDs are repeated or not, over no IDs. Where there
 /// are many, those of the last quarter are made beside the others, or, where the system refuses a thread, after them.
 ///
-/// The rows take half as long again as the numbers, so the others are done about when these are. A larger part would be held
-/// twice while it is put behind the others.
+/// The rows take about a quarter longer than the numbers, which are made meanwhile. What one thread makes is held twice while it
+/// is put behind the others, so it is no larger part.
 fn all_rows_of<'a, R: Threads + Sync>(
     rt: &R,
     alloc: Global,

@@ -381,15 +381,6 @@ noted dump log s a b c h same queue =
       less = λ some. omega (arith, h.less some, rest.no_more);
     }
 
--- what was noted before doesn't count
-pub prepared : (dump : Dump) (log : List Event) (s : Strength) (a b c : Part) → IsFit dump s a → IsSameBut a b → b.queue ≡ a.queue → HasRelaxed dump log s b c → HasRelaxed dump log s a c
-prepared dump log s a b c f same queue h =
-    let rest = rested dump log s IsAny a b f same queue in
-    record {
-      gone_on = gone_on_after dump log s IsAny IsAny IsAny a b c rest h.gone_on;
-      less = λ some. omega (arith, h.less (omega (arith, some, ap length queue)), rest.no_more);
-    }
-
 -- a round that has gone so far: nothing has changed yet, or the part has relaxed
 abbrev pub HasBegun : Dump → List Event → Strength → Part → Part → ℕ → Type 0
 HasBegun dump log s start now n = ((n ≡ 0) × (now ≡ start)) ⊎ HasRelaxed dump log s start now

@@ -1,6 +1,6 @@
 use Rattle.std.proofs.Common.{min, ◌≡◌, ◌≢◌, ◌∙◌, ℕ, zero, suc, ◌+◌, ◌-◌, ◌^◌, ◌<◌, ◌≤◌, ◌⊎◌, inl, inr, Bool, true, false, List, [], ◌∷◌, ◌++◌, Contains, length, length-set, set, get_or, replicate, Some, slice_get, refl, sym, ap, subst, arith}
 use Rattle.std.proofs.lemmas.Bool.{cases_eq, cases_lt}
-use Rattle.std.proofs.lemmas.Option.{slice_get_within}
+use Rattle.std.proofs.lemmas.Option.{slice_get_within, slice_get-get_or}
 use Rattle.std.proofs.lemmas.List.{get_or-set_same, get_or-set_other, get_or_past, length-replicate}
 use Rattle.std.proofs.lemmas.List.Elements.{Contains-push, Contains-push_cases, Contains-append_left}
 use Rattle.std.proofs.lemmas.List.Sums.{sum_by-cons}
@@ -21,12 +21,12 @@ use Rattle.hd_strength.specs.Buckets.{bucket}
 use Rattle.hd_strength.specs.Found.{seen}
 use Rattle.hd_strength.specs.Rows.{edge_at, root_at, root_count}
 use Rattle.hd_strength.specs.Growing.{rank_at, AreHeld, IsHeldOrNot}
-use Rattle.hd_strength.specs.Parts.{AreBlank, BeginInSteps, IsOwn, IsNew, IsFresh, IsFit, IsPartOf, IsHolding, AreHolding, IsHeldBy, IsHeldIn, IsOfferedIn, IsSameBut, HasQueued, HaveComeTo, AreInRow, IsDoneIn, found_at, is_handed, unreached_of, unreached_in, with_found}
+use Rattle.hd_strength.specs.Parts.{AreBlank, BeginInSteps, IsOwn, IsNew, IsFresh, IsFit, IsPartOf, IsHolding, AreHolding, IsHeldBy, IsHeldIn, IsOfferedIn, IsReady, AreReady, IsSameBut, HasQueued, HaveEachQueued, HaveNotFailed, HaveComeTo, AreInRow, IsDoneIn, found_at, is_handed, unreached_of, unreached_in, with_found}
 use Rattle.hd_strength.proofs.Lists.{Contains-nil}
 use Rattle.hd_strength.proofs.FoundLemmas.{alike-at, seen-strength}
 use Rattle.hd_strength.proofs.Weights.{unreached_count-le}
 use Rattle.hd_strength.proofs.RowLemmas.{root_stands_at, root_has_number}
-use Rattle.hd_strength.proofs.Rowed.{slice_get-set_other, slice_get-set_cases, row-set, row-holder, row-one}
+use Rattle.hd_strength.proofs.Rowed.{slice_get-set_cases, row-alike, row-set, row-holder, row-one}
 
 -- one more root holds its object
 module _ (dump : Dump) (log : List Event) (ks : List Reached) (n t : ℕ) (h : AreHeld dump log ks n) (lt : t < length ks) (is : root_at dump log n ≡ Some (record { number = n; target = t })) where
@@ -339,35 +339,68 @@ all_queued old new n same h le =
           h.all o (record { first = omega (arith, own.first, same.first); last = omega (arith, own.last, same.first, long) }) (omega (arith, own.last, same.first, long)) (omega (arith, ap (λ (k : Reached). rank k.strength) (finds o)));
     }
 
--- the parts below one have queued what is reached of theirs, and the others are as they were
-pub record HaveQueued (old new : List Part) (end n : ℕ) : Type 0 where
-  pub done : (k : ℕ) (p' : Part) → k < n → slice_get new k ≡ Some p' → (p : Part) × (slice_get old k ≡ Some p) × HasQueued p p'
-  pub rest : (k : ℕ) → n ≤ k → slice_get new k ≡ slice_get old k
+-- what was noted before, but for the queue, doesn't count
+pub queued_after : (a b c : Part) → IsSameBut a b → HasQueued b c → HasQueued a c
+queued_after a b c same h = record {
+  same = record {
+    first = h.same.first ∙ same.first;
+    found = h.same.found ∙ same.found;
+    buckets = h.same.buckets ∙ same.buckets;
+    handed = λ o is. same.handed o (h.same.handed o is);
+    count = h.same.count ∙ same.count;
+  };
+  reached = h.reached;
+  all = h.all;
+}
+
+-- nor what is noted afterwards
+pub queued_noted : (a b c : Part) → HasQueued a b → IsSameBut b c → c.queue ≡ b.queue → HasQueued a c
+queued_noted a b c h same queue =
+    let long : length c.found.list ≡ length b.found.list = ap (λ (f : _). length f.list) same.found in
+    let finds : (o : ℕ) → found_at c o ≡ found_at b o = λ o. ap (λ (f : _). reached_at f.list (o - c.first)) same.found ∙ ap (λ (n : ℕ). reached_at b.found.list (o - n)) same.first in
+    record {
+      same = record {
+        first = same.first ∙ h.same.first;
+        found = same.found ∙ h.same.found;
+        buckets = same.buckets ∙ h.same.buckets;
+        handed = λ o is. h.same.handed o (same.handed o is);
+        count = same.count ∙ h.same.count;
+      };
+      reached = λ o there.
+          let was = h.reached o (subst (λ (xs : List ℕ). Contains xs o) queue there) in
+          (record { first = omega (arith, was.0.first, same.first); last = omega (arith, was.0.last, same.first, long) }, omega (arith, ap (λ (k : Reached). rank k.strength) (finds o), was.1));
+      all = λ o own reached.
+          subst (λ (xs : List ℕ). Contains xs o) (sym queue)
+          (h.all o (record { first = omega (arith, own.first, same.first); last = omega (arith, own.last, same.first, long) }) (omega (arith, ap (λ (k : Reached). rank k.strength) (finds o), reached)));
+    }
+
+-- a part that is the same but for its flags is as ready
+pub still_ready : (a b : Part) → IsReady a → IsSameBut a b → b.queue ≡ a.queue → IsReady b
+still_ready a b ready same queue = record {
+  few = omega (arith, ready.few, same.first, ap (λ (f : _). length f.list) same.found);
+  none_queued = queue ∙ ready.none_queued;
+}
+
+-- each part of a search that has just begun is ready
+pub ready : (dump : Dump) (log : List Event) (parts : List Part) (ks : List Reached) (whole : Bool) (n : ℕ) → IsHolding dump log parts ks whole n → AreReady parts
+ready dump log parts ks whole n h k p there = let f = h.each k p there in record { few = omega (arith, f.within, h.few); none_queued = f.none_queued }
+
+-- all parts have queued what is reached of theirs, and stand in a row as before
+pub record HaveQueued (old new : List Part) (end : ℕ) : Type 0 where
+  pub done : (k : ℕ) (p' : Part) → slice_get new k ≡ Some p' → (p : Part) × (slice_get old k ≡ Some p) × HasQueued p p'
   pub count : length new ≡ length old
   pub row : AreInRow 0 new end
 
--- none has yet
-pub none_has_queued : (parts : List Part) (end : ℕ) → AreInRow 0 parts end → HaveQueued parts parts end 0
-none_has_queued parts end row = record {
-  done = λ k p lt there. absurd (omega arith);
-  rest = λ k le. refl;
-  count = refl;
-  row = row;
-}
-
--- one more has
-pub one_has_queued : (old new : List Part) (end n : ℕ) (p p' : Part) → HaveQueued old new end n → slice_get new n ≡ Some p → HasQueued p p' → HaveQueued old (set new n p') end (n + 1)
-one_has_queued old new end n p p' h there queued = record {
-  done = λ k q lt at. elim (slice_get-set_cases new n k p p' q there at) [
-    | inl both ↦
-        let was : slice_get old n ≡ Some p = sym (h.rest n (omega arith)) ∙ there in
-        (p, subst (λ (k : ℕ). slice_get old k ≡ Some p) (sym both.0) was, subst (HasQueued p) (sym both.1) queued)
-    | inr other ↦ h.done k q (let ne = other.0 in omega arith) other.1
-  ];
-  rest = λ k le. let ne : k ≢ n = λ same. omega arith in slice_get-set_other new n k p' ne ∙ h.rest k (omega arith);
-  count = length-set new n p' ∙ h.count;
-  row = row-set new 0 end n p p' h.row there queued.same.first (ap (λ (f : _). length f.list) queued.same.found);
-}
+-- they have, where each did and memory ran out in none
+pub have_queued : (old sent new now : List Part) (end : ℕ) → sent ≡ old → now ≡ new → length new ≡ length sent → HaveEachQueued sent new → HaveNotFailed now → AreInRow 0 old end → HaveQueued old new end
+have_queued old sent new now end same after count each well row =
+    let counts : length new ≡ length old = count ∙ ap length same in
+    let one : (k : ℕ) (p q : Part) → slice_get old k ≡ Some p → slice_get new k ≡ Some q → HasQueued p q = λ k p q there here. each k p q (subst (λ (ps : List Part). slice_get ps k ≡ Some p) (sym same) there) here (well k q (subst (λ (ps : List Part). slice_get ps k ≡ Some q) (sym after) here)) in
+    record {
+      done = λ k q here. let p : Part = get_or old k q in let there : slice_get old k ≡ Some p = slice_get-get_or old k q (omega (arith, slice_get_within new k q here, counts)) in (p, there, one k p q there here);
+      count = counts;
+      row = row-alike old new 0 end counts (λ k p q there here. let both = (one k p q there here).same in (both.first, ap (λ (f : _). length f.list) both.found)) row;
+    }
 
 -- no more objects are unreached than the parts of a row have
 pub row-unreached : (ps : List Part) (first end : ℕ) → AreInRow first ps end → unreached_in ps + first ≤ end
@@ -375,9 +408,9 @@ row-unreached [] first end row = omega (arith, row)
 row-unreached (p ∷ ps) first end row = omega (arith, sum_by-cons unreached_of p ps, unreached_count-le p.found.list, row-unreached ps (first + length p.found.list) end row.1)
 
 -- all parts have queued what is reached of theirs
-module _ (dump : Dump) (log : List Event) (whole : Bool) (old new : List Part) (ks : List Reached) (h : IsHolding dump log old ks whole (root_count dump log)) (q : HaveQueued old new (length dump.objects) (length old)) where
+module _ (dump : Dump) (log : List Event) (whole : Bool) (old new : List Part) (ks : List Reached) (h : IsHolding dump log old ks whole (root_count dump log)) (q : HaveQueued old new (length dump.objects)) where
   part_was : (k : ℕ) (p : Part) → slice_get new k ≡ Some p → (was : Part) × (slice_get old k ≡ Some was) × HasQueued was p
-  part_was k p there = let lt : k < length new = slice_get_within new k p there in q.done k p (omega (arith, q.count)) there
+  part_was = q.done
 
   -- such a part is as fresh but for its queue
   module _ (was p : Part) (f : IsFresh dump ks whole was) (b : HasQueued was p) where

@@ -57,6 +57,17 @@ row-set (q ∷ qs) first end zero p new row h same len =
     (same ∙ ap (λ (p : Part). p.first) (sym is) ∙ row.0, subst (λ (n : ℕ). AreInRow (first + n) qs end) (sym len') row.1)
 row-set (q ∷ qs) first end (suc k) p new row h same len = (row.0, row-set qs (first + length q.found.list) end k p new row.1 h same len)
 
+-- parts that begin where others do, with as many objects, stand in a row as those do
+pub row-alike : (ps qs : List Part) (first end : ℕ) → length qs ≡ length ps → ((k : ℕ) (p q : Part) → slice_get ps k ≡ Some p → slice_get qs k ≡ Some q → (q.first ≡ p.first) × (length q.found.list ≡ length p.found.list))
+    → AreInRow first ps end → AreInRow first qs end
+row-alike [] [] first end count alike row = row
+row-alike [] (q ∷ qs) first end count alike row = absurd (omega (arith, count))
+row-alike (p ∷ ps) [] first end count alike row = absurd (omega (arith, count))
+row-alike (p ∷ ps) (q ∷ qs) first end count alike row =
+    let both = alike 0 p q refl refl in
+    let rest = row-alike ps qs (first + length p.found.list) end (omega (arith, count)) (λ k x y there here. alike (suc k) x y there here) row.1 in
+    (both.0 ∙ row.0, subst (λ (n : ℕ). AreInRow (first + n) qs end) (sym both.1) rest)
+
 -- the row ends where or after it begins
 pub row-le : (ps : List Part) (first end : ℕ) → AreInRow first ps end → first ≤ end
 row-le [] first end row = omega (arith, row)

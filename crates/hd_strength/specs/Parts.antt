@@ -374,8 +374,21 @@ pub record IsHeldBy (old new : List Part) (o root : ℕ) : Type 0 where
   pub holder : IsHolder old o index
   pub is : new ≡ set old index (with_found holder.part (record { whole = holder.part.found.whole; list = set holder.part.found.list (o - holder.part.first) (seen holder.part.found.whole (reached_by_root root)) }))
 
+-- a part is ready to queue objects: their numbers have 32 bits, and none is queued yet
+pub record IsReady (p : Part) : Type 0 where
+  pub few : p.first + length p.found.list < 2 ^ 32
+  pub none_queued : p.queue ≡ []
+
+-- each part is ready
+abbrev pub AreReady : List Part → Type 0
+AreReady parts = (k : ℕ) (p : Part) → slice_get parts k ≡ Some p → IsReady p
+
 -- the objects of a part that are reached are queued, and nothing else
 pub record HasQueued (old new : Part) : Type 0 where
   pub same : IsSameBut old new
   pub reached : (o : ℕ) → Contains new.queue o → IsOwn new o × (1 ≤ rank (found_at new o).strength)
   pub all : (o : ℕ) → IsOwn new o → 1 ≤ rank (found_at new o).strength → Contains new.queue o
+
+-- each part has queued its objects that are reached, if memory didn't run out
+abbrev pub HaveEachQueued : List Part → List Part → Type 0
+HaveEachQueued old new = (k : ℕ) (p q : Part) → slice_get old k ≡ Some p → slice_get new k ≡ Some q → q.failed ≡ false → HasQueued p q

@@ -26,8 +26,8 @@ pub(crate) struct Part {
     pub(crate) found: Found,
     /// Its objects that are reached and have yet to pass their strength on.
     pub(crate) queue: Queue,
-    /// A flag for each object of the dump: whether it is of another part, and was handed over to that. Empty before the first
-    /// round, and where there is one part.
+    /// A flag for each object of the dump: whether it is of another part, and was handed over to that. Empty before the search
+    /// begins, and where there is one part.
     pub(crate) handed: Vec<bool>,
     /// What references of its objects give, and no target has taken yet.
     pub(crate) buckets: Buckets,

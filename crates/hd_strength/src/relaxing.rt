@@ -188,24 +188,6 @@ fn relax_objects(
     Ok(most)
 }
 
-/// Passes on the strength of at most so many objects that are queued, and notes what is handed over to other parts, if there are
-/// any. The answer is how many objects there were.
-fn relax_among_others(
-    edited: Edited<'_>,
-    part: &mut Part,
-    strength: Strength,
-    most: usize,
-) -> Result<usize, NoMemory>
-    requires removed { IsRemovedBy edited.graph.now edited.front.now edited.removed.now }
-    requires some { 0 < most }
-    requires fit { IsFit edited.graph.now strength part.old }
-    ensures { OnOk result (HasRelaxed edited.entry.graph.now edited.entry.front.now strength part.old part.new) }
-{
-    part.make_flags(edited.graph.objects())?;
-    let passed = relax_objects(edited, part, strength, most)?;
-    Ok(passed)
-}
-
 /// A part's round: objects that are queued pass their strength on. Where all is kept of the objects, these are the ones that are
 /// queued now, so that supports make short chains. Where strengths alone are kept, they are at most so many, and can be ones that
 /// others reach in the round. The part notes how many there were, and whether memory ran out.
@@ -216,7 +198,7 @@ pub(crate) fn relax_round(edited: Edited<'_>, part: &mut Part, strength: Strengt
     ensures { part.new.failed ≡ false → HasRelaxed edited.entry.graph.now edited.entry.front.now strength part.old part.new }
 {
     let most = part.queue.round_len(most);
-    match relax_among_others(edited, part, strength, most) {
+    match relax_objects(edited, part, strength, most) {
         Ok(passed) => {
             part.passed = passed;
             part.failed = false;

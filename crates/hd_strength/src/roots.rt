@@ -2,7 +2,7 @@
 ghost use Rattle.std.specs.Prelude.{◌≡◌, ◌+◌, ◌-◌, ◌^◌, ◌<◌, ◌≤◌, min, false, [], length, IfOk, OnOk};
 ghost use Rattle.hd_terms.specs.declared.Strength.TheVariants as strengths;
 ghost use Rattle.hd_strength.specs.Rows.{root_count};
-ghost use Rattle.hd_strength.specs.Parts.{AreBlank, AreFilled, AreHolding, HasComeTo, HasQueued, IsHeldBy, IsHeldIn, IsNew};
+ghost use Rattle.hd_strength.specs.Parts.{AreBlank, AreFilled, AreHolding, AreReady, HasComeTo, HasQueued, HaveEachQueued, IsHeldBy, IsHeldIn, IsNew, IsReady};
 ghost use Rattle.hd_strength.specs.Removed.{IsRemovedBy};
 
 use crate::edited::{Edited, added_object, root_object};
@@ -134,8 +134,7 @@ fn apply_roots<R: Threads + Sync>(
 
 /// Queues the objects of a part that are reached, in the order of their numbers.
 fn queue_reached(part: &mut Part) -> Result<(), NoMemory>
-    requires few { part.old.first + length part.old.found.list < 2 ^ 32 }
-    requires none { part.old.queue ≡ [] }
+    requires { IsReady part.old }
     ensures { OnOk result (HasQueued part.old part.new) }
 {
     for place in 0..part.found.len() as u32 {
@@ -144,6 +143,45 @@ fn queue_reached(part: &mut Part) -> Result<(), NoMemory>
         }
     }
     Ok(())
+}
+
+/// Makes the flags that a part needs where there are other parts, and queues its objects that are reached. The dump has so many
+/// objects.
+fn prepare(part: &mut Part, objects: u32) -> Result<(), NoMemory>
+    requires { IsReady part.old }
+    ensures { OnOk result (HasQueued part.old part.new) }
+{
+    part.make_flags(objects)?;
+    queue_reached(part)?;
+    Ok(())
+}
+
+/// Begins a part: its objects that are reached are queued. It notes whether memory ran out.
+fn begin_part(part: &mut Part, objects: u32)
+    requires { IsReady part.old }
+    ensures { part.new.failed ≡ false → HasQueued part.old part.new }
+{
+    match prepare(part, objects) {
+        Ok(()) => part.failed = false,
+        Err(NoMemory) => part.failed = true,
+    }
+}
+
+/// Begins each part, in a thread for each. The dump has so many objects.
+fn begin_parts<R: Threads + Sync>(rt: &R, parts: &mut [Part], objects: u32)
+    requires ready { AreReady parts.old }
+    ensures count { length parts.new ≡ length parts.old }
+    ensures each { HaveEachQueued parts.old parts.new }
+{
+    for_each_mut(
+        rt,
+        parts,
+        PARTS,
+        &|_: usize, part: &mut Part|
+            requires { IsReady part.now }
+            ensures { part.exit.now.failed ≡ false → HasQueued part.entry.now part.exit.now }
+        { begin_part(part, objects) },
+    );
 }
 
 /// The beginning of a search: only the objects that roots hold are reached, and these are queued.
@@ -158,8 +196,9 @@ pub(crate) fn begin<R: Threads + Sync>(
     ensures searching { IfOk result (λ search. HasComeTo edited.entry.graph.now edited.entry.front.now strengths.Strong search) }
 {
     let mut parts = apply_roots(rt, alloc, edited, whole)?;
-    for k in 0..parts.len() {
-        queue_reached(&mut parts[k])?;
+    begin_parts(rt, &mut parts, edited.graph.objects());
+    if has_failed(&parts) {
+        return Err(NoMemory);
     }
     Ok(Search { parts, whole })
 }

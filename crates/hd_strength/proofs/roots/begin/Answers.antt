@@ -1,25 +1,26 @@
-use Rattle.std.proofs.Common.{◌≡◌, ◌∙◌, length, slice_get, Some, refl, sym, subst, ℕ, arith}
-use Rattle.std.proofs.lemmas.Option.{slice_get_read}
-use Rattle.hd_strength.proofs.Holding.{HaveQueued, one_has_queued, none_has_queued, begins}
+use Rattle.std.proofs.Common.{◌≡◌, ◌∙◌, List, Some, slice_get, length, sym, ap, subst}
+use Rattle.hd_terms.specs.declared.Strength.TheVariants as strengths
+use Rattle.hd_strength.specs.declared.part.Part.{Part}
+use Rattle.hd_strength.specs.Parts.{AreReady, HaveComeTo}
+use Rattle.hd_strength.specs.Rows.{root_count}
+use Rattle.hd_strength.proofs.Ending.{lent}
+use Rattle.hd_strength.proofs.Holding.{have_queued, ready, begins}
 use Rattle.hd_strength.proofs.roots.begin.Goals as goal
 
-pub queue_reached-requires-clause-none : goal.queue_reached-requires-clause-none
-queue_reached-requires-clause-none g c =
-    let there : slice_get c.loop-k.parts.items c.loop-k.k ≡ Some c.index_mut.result.now = slice_get_read c.loop-k.parts.items (length c.loop-k.parts.items) c.loop-k.k c.index_mut.result.now refl (omega arith) c.index_mut.ensures.value in
-    (c.in_ok-parts.ensures.holds.each c.loop-k.k c.index_mut.result.now (sym (c.loop-k.invariant.rest c.loop-k.k (omega arith)) ∙ there)).none_queued
-
-pub loop-k-init : goal.loop-k-init
-loop-k-init g c = none_has_queued c.in_ok-parts.parts.items (length c.args.edited.graph.now.objects) c.in_ok-parts.ensures.holds.row
-
-pub loop-k-preserved : goal.loop-k-preserved
-loop-k-preserved g c =
-    let there : slice_get c.loop-k.parts.items c.loop-k.k ≡ Some c.index_mut.result.now = slice_get_read c.loop-k.parts.items (length c.loop-k.parts.items) c.loop-k.k c.index_mut.result.now refl (omega arith) c.index_mut.ensures.value in
-    one_has_queued c.in_ok-parts.parts.items c.loop-k.parts.items (length c.args.edited.graph.now.objects) c.loop-k.k c.index_mut.result.now c.queue_reached.new.part c.loop-k.invariant there c.in_ok-queue_reached.ensures
+pub begin_parts-requires-clause-ready : goal.begin_parts-requires-clause-ready
+begin_parts-requires-clause-ready g c = λ κs within.
+    let h = c.in_ok-parts.ensures in
+    let dump = c.args.edited.graph.now in
+    let log = c.args.edited.front.now in
+    subst AreReady (sym c.deref_mut.ensures.value) (ready dump log c.in_ok-parts.parts.items h.kept c.args.whole (root_count dump log) h.holds)
 
 pub returns-clause-searching : goal.returns-clause-searching
 returns-clause-searching g c =
     let dump = c.args.edited.graph.now in
+    let log = c.args.edited.front.now in
     let old = c.in_ok-parts.parts.items in
-    let end : c.loop-k.k ≡ length old = omega (arith, c.len-k-end.ensures, c.in_ok-parts.parts.ok.0) in
+    let new = c.begin_parts.new.parts in
     let h = c.in_ok-parts.ensures in
-    begins dump c.args.edited.front.now c.args.whole old c.loop-k.parts.items h.kept h.holds (subst (λ (n : ℕ). HaveQueued old c.loop-k.parts.items (length dump.objects) n) end c.loop-k.invariant)
+    let is = lent old new c.in_ok-parts.parts.len c.in_ok-parts.parts.ok.0 (c.begin_parts.ensures.count ∙ ap length c.deref_mut.ensures.value) in
+    let queued = have_queued old c.deref_mut.result.now new c.deref.result.now (length dump.objects) c.deref_mut.ensures.value (c.deref.ensures.value ∙ is) c.begin_parts.ensures.count c.begin_parts.ensures.each (c.has_failed.ensures c.if-has_failed.false) h.holds.row in
+    subst (HaveComeTo dump log c.args.whole strengths.Strong) (sym is) (begins dump log c.args.whole old new h.kept h.holds queued)
