@@ -168,4 +168,5 @@ module _ (known : KnownClasses) (bytes : List ℕ) (size : IdSize) (list : List 
     ids_are = ids_are;
     rows_are = h.rows_are ∙ ap (map row_of_entry) (sym none-repeated);
     shapes_are = shapes_are ∙ ap (map shape_of_entry) (sym none-repeated);
+    filled = h.filled;
   }

@@ -1,64 +1,87 @@
--- Counting the slots of objects, one after another.
-use Rattle.std.proofs.Common.{◌≡◌, ◌∙◌, ℕ, ◌+◌, ◌<◌, ◌≤◌, Bool, true, false, not, ◌&&◌, List, [], ◌∷◌, length, take, get_or, cond, eqb, Option, Some, None, refl, sym, ap, arith, zero-add}
+-- Counting the slots of objects.
+use Rattle.std.proofs.Common.{◌≡◌, ◌∙◌, ℕ, ◌+◌, Bool, not, ◌&&◌, List, [], ◌∷◌, length, map, get_or, cond, eqb, Option, Some, None, refl, sym, ap, arith, zero-add}
 use Rattle.std.specs.Prelude.{count_by, sum_by, is_some, is_none}
 use Rattle.std.specs.Option.{option_map}
-use Rattle.std.specs.List.{slice_get, filter_map, cons_option, enumerate_from}
+use Rattle.std.specs.List.{filter_map, cons_option, enumerate_from}
+use Rattle.std.proofs.lemmas.List.{ext_get_or, get_or-map, length-map}
 use Rattle.std.proofs.lemmas.List.Concat.{length-flat_map}
-use Rattle.std.proofs.lemmas.List.Sums.{sum_by-cons, sum_by_more}
-use Rattle.std.proofs.lemmas.Option.{get_or_from_slice_get, slice_get_within, slice_get-get_or}
+use Rattle.std.proofs.lemmas.List.Sums.{sum_by-cons}
+use Rattle.std.proofs.lemmas.Option.{get_or_from_slice_get}
 use Rattle.hd_terms.specs.Dump.{SlotEntry, Object, Dump}
 use Rattle.hd_terms.specs.Edges.{index_of, edge_of, edges_from, edges}
 use Rattle.hd_terms.specs.Paths.{Edge}
 use Rattle.hd_terms.specs.Counts.{is_unresolved, unresolved_of, counts_of}
-use Rattle.hd_graph.specs.declared.counts.SlotCounts.{SlotCounts}
+use Rattle.hd_slots.specs.Table.{is_known, is_absent}
+use Rattle.hd_shapes.specs.Shapes.{ObjectShape}
+use Rattle.hd_graph.specs.Shapes.{HasShape, AreColumns, row_object, row_objects, shape_slots, slot_name, slot_kind}
 use Rattle.hd_graph.specs.Counting.{is_edge, edges_of}
+use Rattle.hd_graph.proofs.ArrayLemmas.{index_of-row_objects, rest-columns}
+use Rattle.hd_graph.proofs.ShapeLemmas.{slot_of, slot-at, length-shape_slots}
 
--- the counts of the first slots
-pub record AreSlotsCounted (objects : List Object) (ss : List SlotEntry) (i : ℕ) (counts : SlotCounts) : Type 0 where
-  pub edges : counts.edges ≡ count_by (is_edge objects) (take i ss)
-  pub unresolved : counts.unresolved ≡ count_by (is_unresolved objects) (take i ss)
-  pub few_edges : counts.edges ≤ i
-  pub few_unresolved : counts.unresolved ≤ i
+-- a sum over what a list is made into, and the same sum by another rule
+module _ {X : Type 0} where
+  count_by-alike : (p q : X → Bool) → ((x : X) → p x ≡ q x) → (xs : List X) → count_by p xs ≡ count_by q xs
+  count_by-alike p q same [] = refl
+  count_by-alike p q same (x ∷ xs) =
+      sum_by-cons (λ y. cond (p y) 1 0) x xs ∙ ap (λ (b : Bool). cond b 1 0 + count_by p xs) (same x) ∙ ap (λ (n : ℕ). cond (q x) 1 0 + n) (count_by-alike p q same xs) ∙ sym (sum_by-cons (λ y. cond (q y) 1 0) x xs)
 
--- the slot at an index
-pub slot-there : (ss : List SlotEntry) (i : ℕ) → i < length ss → (s : SlotEntry) × (slice_get ss i ≡ Some s)
-slot-there [] i lt = absurd (omega arith)
-slot-there (s ∷ ss) i lt = (get_or (s ∷ ss) i s, slice_get-get_or (s ∷ ss) i s lt)
+  sum_by-alike : (f g : X → ℕ) → ((x : X) → f x ≡ g x) → (xs : List X) → sum_by f xs ≡ sum_by g xs
+  sum_by-alike f g same [] = refl
+  sum_by-alike f g same (x ∷ xs) = sum_by-cons f x xs ∙ ap (λ (n : ℕ). n + sum_by f xs) (same x) ∙ ap (λ (n : ℕ). g x + n) (sum_by-alike f g same xs) ∙ sym (sum_by-cons g x xs)
 
--- one more slot, which passes a test or doesn't
-slot-more : (p : SlotEntry → Bool) (ss : List SlotEntry) (i : ℕ) (s : SlotEntry) → slice_get ss i ≡ Some s → (b : Bool) → p s ≡ b → count_by p (take (i + 1) ss) ≡ count_by p (take i ss) + cond b 1 0
-slot-more p ss i s here b e =
-    sum_by_more (λ x. cond (p x) 1 0) ss i s (slice_get_within ss i s here) ∙ ap (λ (x : SlotEntry). count_by p (take i ss) + cond (p x) 1 0) (get_or_from_slice_get ss i s s here)
-    ∙ ap (λ (d : Bool). count_by p (take i ss) + cond d 1 0) e
+-- the IDs in slots
+count_by-ids : (p : ℕ → Bool) (ss : List SlotEntry) → count_by (λ (s : SlotEntry). p s.id) ss ≡ count_by p (map (λ (s : SlotEntry). s.id) ss)
+count_by-ids p [] = refl
+count_by-ids p (s ∷ ss) =
+    sum_by-cons (λ (x : SlotEntry). cond (p x.id) 1 0) s ss ∙ ap (λ (n : ℕ). cond (p s.id) 1 0 + n) (count_by-ids p ss) ∙ sym (sum_by-cons (λ (x : ℕ). cond (p x) 1 0) s.id (map (λ (x : SlotEntry). x.id) ss))
 
-one-or-none : (b : Bool) → cond b 1 0 ≤ 1
-one-or-none true = omega arith
-one-or-none false = omega arith
+-- those of an object's slots are those of its row
+ids-of-slots : (shape : ObjectShape) (row : List ℕ) → HasShape shape row → map (λ (s : SlotEntry). s.id) (shape_slots shape row) ≡ row
+ids-of-slots shape row fits =
+    let ids : SlotEntry → ℕ = λ s. s.id in
+    let ss = shape_slots shape row in
+    let long : length (map ids ss) ≡ length row = length-map ss ids ∙ length-shape_slots shape row fits in
+    ext_get_or 0 (map ids ss) row long
+    (λ i lt.
+    let entry = slot_of (slot_name shape (length row) i) (slot_kind shape (slot_name shape (length row) i)) (get_or row i 0) in
+    get_or-map ids ss i entry 0 (omega (arith, lt, length-map ss ids)) ∙ ap ids (get_or_from_slice_get ss i entry entry (slot-at shape row i fits (omega (arith, lt, long)))))
 
-pub one-more-counted : (objects : List Object) (ss : List SlotEntry) (i : ℕ) (s : SlotEntry) (old new : SlotCounts) → slice_get ss i ≡ Some s → AreSlotsCounted objects ss i old
-    → (edge unresolved : Bool) → is_edge objects s ≡ edge → is_unresolved objects s ≡ unresolved → new.edges ≡ old.edges + cond edge 1 0 → new.unresolved ≡ old.unresolved + cond unresolved 1 0
-    → AreSlotsCounted objects ss (i + 1) new
-one-more-counted objects ss i s old new here h edge unresolved is_edge_s is_unresolved_s edges_are unresolved_are = record {
-  edges = omega (arith, edges_are, h.edges, slot-more (is_edge objects) ss i s here edge is_edge_s);
-  unresolved = omega (arith, unresolved_are, h.unresolved, slot-more (is_unresolved objects) ss i s here unresolved is_unresolved_s);
-  few_edges = omega (arith, edges_are, h.few_edges, one-or-none edge);
-  few_unresolved = omega (arith, unresolved_are, h.few_unresolved, one-or-none unresolved);
-}
+-- what is counted of the IDs in the slots of all objects is what is counted of their rows
+rows-counted : (p : ℕ → Bool) (shapes : List ObjectShape) (ids : List ℕ) (rows : List (List ℕ)) → AreColumns shapes ids rows
+    → sum_by (λ (x : Object). count_by (λ (s : SlotEntry). p s.id) x.slots) (row_objects shapes ids rows) ≡ sum_by (count_by p) rows
+rows-counted p shapes [] [] h = refl
+rows-counted p shapes [] (row ∷ rows) h = absurd (omega (arith, h.rows))
+rows-counted p shapes (id ∷ ids) [] h = absurd (omega (arith, h.rows))
+rows-counted p [] (id ∷ ids) (row ∷ rows) h = absurd (omega (arith, h.shapes))
+rows-counted p (shape ∷ shapes) (id ∷ ids) (row ∷ rows) h =
+    let f : Object → ℕ = λ x. count_by (λ (s : SlotEntry). p s.id) x.slots in
+    let here : count_by (λ (s : SlotEntry). p s.id) (shape_slots shape row) ≡ count_by p row = count_by-ids p (shape_slots shape row) ∙ ap (count_by p) (ids-of-slots shape row h.fit.0) in
+    sum_by-cons f (row_object shape id row) (row_objects shapes ids rows)
+    ∙ ap (λ (n : ℕ). n + sum_by f (row_objects shapes ids rows)) here
+    ∙ ap (λ (n : ℕ). count_by p row + n) (rows-counted p shapes ids rows (rest-columns shape shapes id ids row rows h))
+    ∙ sym (sum_by-cons (count_by p) row rows)
 
--- a slot by the object that is found for its ID
-module _ (objects : List Object) (s : SlotEntry) (target : Option ℕ) (found : target ≡ index_of objects s.id) where
-  pub edge-found : (b : Bool) → is_some target ≡ b → is_edge objects s ≡ b
-  edge-found b e = ap is_some (sym found) ∙ e
+module _ (shapes : List ObjectShape) (ids : List ℕ) (rows : List (List ℕ)) (columns : AreColumns shapes ids rows) where
+  abbrev objects : List Object
+  objects = row_objects shapes ids rows
 
-  pub unresolved-found : (null some : Bool) → eqb s.id 0 ≡ null → is_some target ≡ some → is_unresolved objects s ≡ (not null && not some)
-  unresolved-found null some is e = ap (λ (b : Bool). not b && is_none (index_of objects s.id)) is ∙ ap (λ (b : Bool). not null && not b) (edge-found some e)
+  known-alike : (s : SlotEntry) → is_edge objects s ≡ is_known ids s.id
+  known-alike s = ap is_some (index_of-row_objects shapes s.id ids rows columns)
 
-  pub found-resolved : is_some target ≡ true → is_unresolved objects s ≡ false
-  found-resolved e = unresolved-found (eqb s.id 0) true refl e ∙ no (not (eqb s.id 0))
-    where
-      no : (b : Bool) → (b && false) ≡ false
-      no true = refl
-      no false = refl
+  absent-alike : (s : SlotEntry) → is_unresolved objects s ≡ is_absent ids s.id
+  absent-alike s = ap (λ (o : Option ℕ). not (eqb s.id 0) && is_none o) (index_of-row_objects shapes s.id ids rows columns)
+
+  -- the slots that are edges are as many as the IDs that are objects'
+  pub edges-known : sum_by (edges_of objects) objects ≡ sum_by (count_by (is_known ids)) rows
+  edges-known =
+      sum_by-alike (edges_of objects) (λ (x : Object). count_by (λ (s : SlotEntry). is_known ids s.id) x.slots) (λ x. count_by-alike (is_edge objects) (λ (s : SlotEntry). is_known ids s.id) known-alike x.slots) objects
+      ∙ rows-counted (is_known ids) shapes ids rows columns
+
+  -- and those that are unresolved as many as the IDs that are neither null nor an object's
+  pub unresolved-absent : sum_by (unresolved_of objects) objects ≡ sum_by (count_by (is_absent ids)) rows
+  unresolved-absent =
+      sum_by-alike (unresolved_of objects) (λ (x : Object). count_by (λ (s : SlotEntry). is_absent ids s.id) x.slots) (λ x. count_by-alike (is_unresolved objects) (λ (s : SlotEntry). is_absent ids s.id) absent-alike x.slots) objects
+      ∙ rows-counted (is_absent ids) shapes ids rows columns
 
 module _ (objects : List Object) where
   -- the edges of one object are its slots that are edges

@@ -91,6 +91,7 @@ pub record HasRowsOf (known : KnownClasses) (bytes : List ℕ) (size : IdSize) (
   pub ids_are : c.table.ids ≡ object_ids list
   pub rows_are : c.table.rows ≡ map (λ (a : ObjectEntry). a.1) (entries_of known bytes size list)
   pub shapes_are : c.shapes ≡ map (λ (a : ObjectEntry). a.2) (entries_of known bytes size list)
+  pub filled : c.table.filling ≡ []
 
 -- numbers of four bytes count the classes that are known, and the bytes of their layouts
 pub record AreFewAndShort (classes : Known) : Type 0 where

@@ -1,6 +1,7 @@
 //! Looking up the graph: objects by number or ID, their slots, their sizes, and the roots.
-ghost use Rattle.std.specs.Prelude.{◌≡◌, ◌<◌, ◌^◌, ℕ, length, map, position, slice_get, None, Some, true, ◌≤◌, All, MatchOption};
+ghost use Rattle.std.specs.Prelude.{◌≡◌, ◌<◌, ◌^◌, ℕ, length, map, position, slice_get, None, Some, true, ◌≤◌, All, MatchOption, sum_by};
 ghost use Rattle.std.specs.List.{slice_index_or};
+ghost use Rattle.hd_terms.specs.Counts.{unresolved_of};
 ghost use Rattle.hd_terms.specs.Edges.{index_of};
 ghost use Rattle.hd_terms.specs.EditedDump.{same_slot};
 ghost use Rattle.hd_terms.specs.Dump.{SlotEntry, object_at, name_in};
@@ -8,12 +9,13 @@ ghost use Rattle.hd_terms.specs.declared.Slot.{Slot};
 ghost use Rattle.hd_shapes.specs.Shapes.{shape_bytes};
 ghost use Rattle.hd_shapes.specs.PackedShapes.{shape_view};
 ghost use Rattle.hd_graph.specs.Arrays.{row_index};
+ghost use Rattle.hd_graph.specs.Counting.{edges_of};
 ghost use Rattle.hd_graph.specs.Shapes.{slot_name, slot_kind, shape_index, shape_referent, IsNamedAt, HasFewNames};
 
 use crate::kinds::KindLists;
 use hd_classes::ClassNames;
 use hd_shapes::{Shape, Shapes};
-use hd_slots::{SlotTable, Targets};
+use hd_slots::{IdCounts, SlotTable, Targets};
 use hd_terms::{EdgeKind, Group, Mode, RootKind, Slot};
 use std::marker::Model;
 
@@ -368,6 +370,14 @@ impl Graph {
         ensures target { result.1 ≡ index_of self.now.objects result.0 }
     {
         self.slot_table.get(o, i)
+    }
+
+    /// How many slots of all objects have an ID that is an object's, and how many have one that is neither null nor an object's.
+    pub(crate) fn id_counts(&self) -> IdCounts
+        ensures objects { result.objects ≡ sum_by (edges_of self.now.objects) self.now.objects }
+        ensures others { result.others ≡ sum_by (unresolved_of self.now.objects) self.now.objects }
+    {
+        self.slot_table.counts()
     }
 
     /// The objects that the slots of an object refer to, slot by slot.

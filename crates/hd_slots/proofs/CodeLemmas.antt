@@ -1,12 +1,12 @@
 -- Lemmas on references as numbers of four bytes.
-use Rattle.std.proofs.Common.{◌≡◌, ◌≢◌, ◌∙◌, ℕ, zero, suc, ◌+◌, ◌-◌, ◌<◌, ◌≤◌, ◌^◌, inl, inr, List, [], ◌∷◌, ◌++◌, length, map, get_or, Some, None, refl, sym, ap, arith, All, eqb, eqb-true, ne_eqb, length-append}
+use Rattle.std.proofs.Common.{◌≡◌, ◌≢◌, ◌∙◌, ℕ, zero, suc, ◌+◌, ◌-◌, ◌<◌, ◌≤◌, ◌^◌, inl, inr, Bool, true, false, List, [], ◌∷◌, ◌++◌, length, map, get_or, Some, None, refl, sym, ap, arith, All, cond, ltb, eqb, eqb-true, ne_eqb, length-append}
 use Rattle.std.specs.List.{position, prefix_len}
-use Rattle.std.specs.Prelude.{not}
+use Rattle.std.specs.Prelude.{not, is_some}
 use Rattle.std.proofs.lemmas.Bool.{cases_eq, cases_lt, lt-ltb, le-ltb}
 use Rattle.std.proofs.lemmas.List.{get_or_append_left, get_or-append_right}
 use Rattle.std.proofs.lemmas.List.Elements.{All-head, All-tail, All-weaker}
 use Rattle.std.proofs.lemmas.List.Quantifiers.{position-Some}
-use Rattle.hd_slots.specs.Table.{null_code}
+use Rattle.hd_slots.specs.Table.{null_code, is_known}
 use Rattle.hd_slots.specs.Codes.{id_of_code, IsCode}
 
 -- no object has the ID 0
@@ -82,3 +82,11 @@ ids-longer ids absent more [] h = refl
 ids-longer ids absent more (code ∷ codes) h =
     ap (λ id. id ∷ map (id_of_code ids (absent ++ more)) codes) (id-longer ids absent more code (All-head (IsCode ids absent) code codes h))
     ∙ ap (λ rest. id_of_code ids absent code ∷ rest) (ids-longer ids absent more codes (All-tail (IsCode ids absent) code codes h))
+
+-- an ID is an object's where the number is one
+pub known-code : (ids absent : List ℕ) (code : ℕ) → IsCode ids absent code → is_known ids (id_of_code ids absent code) ≡ ltb code (length ids)
+known-code ids absent code h = ap is_some h.target ∙ some (ltb code (length ids))
+  where
+    some : (b : Bool) → is_some (cond b (Some code) None) ≡ b
+    some true = refl
+    some false = refl

@@ -1,9 +1,11 @@
 -- Lemmas on a list cut at indexes.
-use Rattle.std.proofs.Common.{◌≡◌, ◌∙◌, ℕ, zero, suc, ◌+◌, ◌-◌, ◌<◌, ◌≤◌, List, [], ◌∷◌, ◌++◌, length, map, take, drop, get_or, refl, ap, arith, All}
+use Rattle.std.proofs.Common.{◌≡◌, ◌∙◌, ℕ, zero, suc, ◌+◌, ◌-◌, ◌<◌, ◌≤◌, Bool, List, [], ◌∷◌, ◌++◌, length, map, take, drop, get_or, cond, refl, sym, ap, arith, All}
+use Rattle.std.specs.Prelude.{count_by, sum_by}
 use Rattle.std.proofs.Math.Seq.{drop-append-add}
-use Rattle.std.proofs.lemmas.List.{take-append-le, drop-append-le, length-drop}
+use Rattle.std.proofs.lemmas.List.{take-append-le, drop-append-le, length-drop, drop-take, take-take, take_all}
+use Rattle.std.proofs.lemmas.List.Sums.{sum_by-cons, sum_by-take-drop}
 use Rattle.std.proofs.lemmas.List.Elements.{All-head, All-tail}
-use Rattle.hd_slots.specs.Cuts.{between, rows_from, last_from}
+use Rattle.hd_slots.specs.Cuts.{between, rows_from, last_from, AreRising}
 
 pub length-between : {X : Type 0} (s : ℕ) (es : List ℕ) (xs : List X) → length (between s es xs) ≡ length es
 length-between s [] xs = refl
@@ -122,3 +124,60 @@ module _ {X : Type 0} (xs ys : List X) where
       let n = length xs in
       let seam : last_from 0 ss ≡ n + t = omega (arith, whole, zero_first) in
       last_from-more 0 ss (map (later n) fs) ∙ ap (λ k. last_from k (map (later n) fs)) seam ∙ last_from-later n t fs
+
+-- indexes that rise to one rise to a later one
+pub rising-further : (s : ℕ) (es : List ℕ) (m n : ℕ) → m ≤ n → AreRising s es m → AreRising s es n
+rising-further s [] m n le h = omega (arith, le, h)
+rising-further s (e ∷ es) m n le h = (h.0, rising-further e es m n le h.1)
+
+-- the end is one more
+pub rising-push : (s : ℕ) (es : List ℕ) (n : ℕ) → AreRising s es n → AreRising s (es ++ n ∷ []) n
+rising-push s [] n h = (h, omega arith)
+rising-push s (e ∷ es) n h = (h.0, rising-push e es n h.1)
+
+-- they end where they rise to, or before
+rising-last : (s : ℕ) (es : List ℕ) (n : ℕ) → AreRising s es n → s ≤ last_from s es
+rising-last s [] n h = omega arith
+rising-last s (e ∷ es) n h = omega (arith, h.0, rising-last e es n h.1)
+
+-- indexes that are so much later
+rising-later : (k n t : ℕ) (fs : List ℕ) (m : ℕ) → k ≤ n + t → AreRising t fs m → AreRising k (map (later n) fs) (n + m)
+rising-later k n t [] m le h = omega (arith, le, h)
+rising-later k n t (f ∷ fs) m le h = (omega (arith, le, h.0), rising-later (n + f) n f fs m (omega arith) h.1)
+
+-- and behind others
+rising-more : (s : ℕ) (es : List ℕ) (n t : ℕ) (fs : List ℕ) (m : ℕ) → AreRising s es n → AreRising t fs m → AreRising s (es ++ map (later n) fs) (n + m)
+rising-more s [] n t fs m h k = rising-later s n t fs m (omega (arith, h)) k
+rising-more s (e ∷ es) n t fs m h k = (h.0, rising-more e es n t fs m h.1 k)
+
+pub rising-both : (ss ts : List ℕ) (n m : ℕ) → 0 < length ts → AreRising 0 ss n → AreRising 0 ts m → AreRising 0 (ss ++ map (later n) (drop 1 ts)) (n + m)
+rising-both ss [] n m some h k = absurd (omega arith)
+rising-both ss (t ∷ fs) n m some h k = rising-more 0 ss n t fs m h k.1
+
+-- what is counted of the parts between indexes that rise, and before them, is what is counted up to the last
+module _ {X : Type 0} (p : X → Bool) (xs : List X) where
+  abbrev before : ℕ → ℕ
+  before i = count_by p (take i xs)
+
+  part-counted : (s e : ℕ) → s ≤ e → before s + count_by p (take (e - s) (drop s xs)) ≡ before e
+  part-counted s e le =
+      let f : X → ℕ = λ x. cond (p x) 1 0 in
+      let end : s + (e - s) ≡ e = omega arith in
+      let first : take s (take e xs) ≡ take s xs = take-take s e xs le in
+      let rest : drop s (take e xs) ≡ take (e - s) (drop s xs) = ap (λ (n : ℕ). drop s (take n xs)) (sym end) ∙ drop-take s (e - s) xs in
+      ap (λ (ys : List X). count_by p ys + count_by p (take (e - s) (drop s xs))) (sym first)
+      ∙ ap (λ (ys : List X). count_by p (take s (take e xs)) + count_by p ys) (sym rest)
+      ∙ sum_by-take-drop f (take e xs) s
+
+  parts-counted : (s : ℕ) (es : List ℕ) (n : ℕ) → AreRising s es n → before s + sum_by (count_by p) (between s es xs) ≡ before (last_from s es)
+  parts-counted s [] n h = omega arith
+  parts-counted s (e ∷ es) n h =
+      omega (arith, sum_by-cons (count_by p) (take (e - s) (drop s xs)) (between e es xs), part-counted s e h.0, parts-counted e es n h.1)
+
+  -- so all of a list, where the indexes begin and end with it
+  pub rows-counted : (ss : List ℕ) → 0 < length ss → get_or ss 0 0 ≡ 0 → AreRising 0 ss (length xs) → last_from 0 ss ≡ length xs → sum_by (count_by p) (rows_from ss xs) ≡ count_by p xs
+  rows-counted [] some first rising whole = absurd (omega arith)
+  rows-counted (s ∷ es) some first rising whole =
+      let none : before s ≡ 0 = ap before first in
+      let all : before (last_from s es) ≡ count_by p xs = ap before whole ∙ ap (count_by p) (take_all (length xs) xs (omega arith)) in
+      omega (arith, none, parts-counted s es (length xs) rising.1, all)

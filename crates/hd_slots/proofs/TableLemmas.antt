@@ -1,6 +1,7 @@
 -- Lemmas on rows of IDs: one more ID, one more row, what a row holds.
-use Rattle.std.proofs.Common.{◌≡◌, ◌∙◌, ℕ, suc, ◌+◌, ◌-◌, ◌<◌, ◌≤◌, ◌^◌, List, [], ◌∷◌, ◌++◌, length, map, take, drop, get_or, None, sym, ap, subst, arith, All, eqb, length-append}
+use Rattle.std.proofs.Common.{◌≡◌, ◌∙◌, ℕ, suc, ◌+◌, ◌-◌, ◌<◌, ◌≤◌, ◌^◌, Bool, List, [], ◌∷◌, ◌++◌, length, map, take, drop, get_or, None, sym, ap, subst, arith, All, eqb, length-append}
 use Rattle.std.specs.List.{position}
+use Rattle.std.specs.Prelude.{count_by, sum_by}
 use Rattle.std.proofs.lemmas.List.{ext_get_or, map-append, length-map, drop-append-le, take_all, length-take, length-drop, get_or-take, get_or-drop, get_or-map, drop_all, get_or_append_left}
 use Rattle.std.proofs.lemmas.List.Elements.{All-push, All-weaker, All-append, All-map, All-drop}
 use Rattle.std.proofs.Math.Seq.{drop-append-add}
@@ -8,9 +9,9 @@ use Rattle.hd_terms.specs.declared.IdSize.{IdSize}
 use Rattle.hd_slots.specs.Table.{Rows, Table, row_at, id_at, IsIdWithin}
 use Rattle.hd_slots.specs.Resolving.{AreCodesOf}
 use Rattle.hd_slots.specs.Codes.{id_of_code, object_of_code, IsCode}
-use Rattle.hd_slots.specs.Cuts.{rows_from, last_from}
+use Rattle.hd_slots.specs.Cuts.{rows_from, last_from, AreRising}
 use Rattle.hd_slots.specs.Parts.{rows_of, AreParts, table_from, AreOffsets}
-use Rattle.hd_slots.proofs.CutLemmas.{rows_from-append, rows_from-push, last_from-push, last_from-within, length-rows_from, row-at, later, rows_from-both, last_from-both}
+use Rattle.hd_slots.proofs.CutLemmas.{rows_from-append, rows_from-push, last_from-push, last_from-within, length-rows_from, row-at, later, rows_from-both, last_from-both, rising-further, rising-push, rising-both, rows-counted}
 
 -- rows by offsets of IDs in a file
 module _ (bytes : List ℕ) (size : IdSize) (ids starts offsets : List ℕ) (h : AreOffsets bytes size ids starts offsets) where
@@ -45,6 +46,7 @@ module _ (bytes : List ℕ) (size : IdSize) (ids starts offsets : List ℕ) (h :
       no_null = h.no_null;
       in_file = All-push (IsIdWithin size (length bytes)) offsets offset h.in_file in_file;
       within = All-weaker (λ s. s ≤ length offsets) (λ s. s ≤ length (offsets ++ offset ∷ [])) (λ s le. omega (arith, many)) starts h.within;
+      rising = rising-further 0 starts (length offsets) (length (offsets ++ offset ∷ [])) (omega (arith, many)) h.rising;
       begins = h.begins;
       from_zero = h.from_zero;
       room = omega (arith, many);
@@ -69,6 +71,7 @@ module _ (bytes : List ℕ) (size : IdSize) (ids starts offsets : List ℕ) (h :
     no_null = h.no_null;
     in_file = h.in_file;
     within = All-push (λ s. s ≤ length offsets) starts (length offsets) h.within (omega arith);
+    rising = rising-push 0 starts (length offsets) h.rising;
     begins = omega (arith, length-append starts (length offsets ∷ []));
     from_zero = get_or_append_left starts (length offsets ∷ []) 0 0 h.begins ∙ h.from_zero;
     room = h.room;
@@ -138,6 +141,7 @@ module _ (bytes : List ℕ) (size : IdSize) (ids starts offsets : List ℕ) (h :
           no_null = h.no_null;
           in_file = All-append (IsIdWithin size (length bytes)) offsets offsets' h.in_file k.in_file;
           within = All-append (λ s. s ≤ length (offsets ++ offsets')) starts (map (later (length offsets)) (drop 1 starts')) kept moved;
+          rising = subst (AreRising 0 both_starts) (sym many) (rising-both starts starts' (length offsets) (length offsets') k.begins h.rising k.rising);
           begins = omega (arith, length-append starts (map (later (length offsets)) (drop 1 starts')), h.begins);
           from_zero = get_or_append_left starts (map (later (length offsets)) (drop 1 starts')) 0 0 h.begins ∙ h.from_zero;
           room = omega (arith, many, room);
@@ -145,13 +149,16 @@ module _ (bytes : List ℕ) (size : IdSize) (ids starts offsets : List ℕ) (h :
 
   -- numbers that stand for the IDs have the same rows
   module _ (codes absent : List ℕ) (is : AreCodesOf ids values codes absent) (as_many : length codes ≡ length offsets) where
-    pub parts-resolved : AreParts ids starts codes absent
-    parts-resolved = record {
+    pub parts-resolved : drop (last_from 0 starts) values ≡ [] → AreParts ids starts codes absent
+    parts-resolved filled = record {
       few = h.few;
       no_null = h.no_null;
       codes = is.codes_are;
       within = subst (λ (n : ℕ). All (λ s. s ≤ n) starts) (sym as_many) h.within;
+      rising = subst (AreRising 0 starts) (sym as_many) h.rising;
       begins = h.begins;
+      from_zero = h.from_zero;
+      whole = ends-whole filled ∙ sym as_many;
       room = omega (arith, as_many, h.room);
     }
 
@@ -159,6 +166,12 @@ module _ (bytes : List ℕ) (size : IdSize) (ids starts offsets : List ℕ) (h :
     rows-resolved = ap (λ (xs : List ℕ). let t : Rows = record { ids = ids; rows = rows_from starts xs } in t) is.ids_are
 
 module _ (ids starts items absent : List ℕ) (h : AreParts ids starts items absent) where
+  -- what is counted of the IDs of all rows
+  pub ids-counted : (p : ℕ → Bool) → sum_by (count_by p) (rows_of ids starts items absent).rows ≡ count_by p (map (id_of_code ids absent) items)
+  ids-counted p =
+      let long : length (map (id_of_code ids absent) items) ≡ length items = length-map items (id_of_code ids absent) in
+      rows-counted p (map (id_of_code ids absent) items) starts h.begins h.from_zero (subst (AreRising 0 starts) (sym long) h.rising) (h.whole ∙ sym long)
+
   -- the row of an object
   module _ (o : ℕ) (lt : o < length (rows_from starts (map (id_of_code ids absent) items))) where
     pub starts-before : suc o < length starts

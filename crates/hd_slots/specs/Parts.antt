@@ -3,7 +3,7 @@ use Rattle.std.specs.Prelude.{◌≡◌, ℕ, ◌+◌, ◌<◌, ◌≤◌, ◌^�
 use Rattle.hd_terms.specs.declared.IdSize.{IdSize}
 use Rattle.hd_slots.specs.Table.{Rows, Table, id_at, IsIdWithin}
 use Rattle.hd_slots.specs.Codes.{id_of_code, IsCode}
-use Rattle.hd_slots.specs.Cuts.{rows_from, last_from}
+use Rattle.hd_slots.specs.Cuts.{rows_from, last_from, AreRising}
 
 -- the rows that numbers stand for
 abbrev pub rows_of : (ids starts items absent : List ℕ) → Rows
@@ -15,7 +15,10 @@ pub record AreParts (ids starts items absent : List ℕ) : Type 0 where
   pub no_null : All (λ id. 0 < id) ids
   pub codes : All (IsCode ids absent) items
   pub within : All (λ start. start ≤ length items) starts
+  pub rising : AreRising 0 starts (length items)
   pub begins : 0 < length starts
+  pub from_zero : slice_index starts 0 ≡ 0
+  pub whole : last_from 0 starts ≡ length items
   pub room : length ids + length items < 2 ^ 32
 
 -- the rows that offsets of IDs in a file stand for
@@ -36,6 +39,7 @@ pub record AreOffsets (bytes : List ℕ) (size : IdSize) (ids starts offsets : L
   pub no_null : All (λ id. 0 < id) ids
   pub in_file : All (IsIdWithin size (length bytes)) offsets
   pub within : All (λ start. start ≤ length offsets) starts
+  pub rising : AreRising 0 starts (length offsets)
   pub begins : 0 < length starts
   pub from_zero : slice_index starts 0 ≡ 0
   pub room : length ids + length offsets < 2 ^ 32

@@ -1,6 +1,6 @@
 -- The references of objects, seen as rows of IDs.
 -- Source of the size of an ID: HPROF binary format.
-use Rattle.std.specs.Prelude.{◌≡◌, ℕ, ◌+◌, ◌≤◌, List, [], length, drop}
+use Rattle.std.specs.Prelude.{◌≡◌, ℕ, ◌+◌, ◌≤◌, ◌==◌, Bool, ◌&&◌, not, List, [], length, drop, position, is_some, is_none, count_by, sum_by}
 use Rattle.std.specs.List.{slice_index_or}
 use Rattle.byteorder.specs.Endian.{big_number}
 use Rattle.hd_terms.specs.declared.IdSize.{IdSize}
@@ -24,6 +24,21 @@ pub record Table : Type 0 where
 -- the row of an object
 abbrev pub row_at : Rows → ℕ → List ℕ
 row_at t o = slice_index_or t.rows o []
+
+-- an ID is an object's
+abbrev pub is_known : List ℕ → ℕ → Bool
+is_known ids id = is_some (position (λ x. id == x) ids)
+
+-- an ID is neither null nor an object's
+abbrev pub is_absent : List ℕ → ℕ → Bool
+is_absent ids id = not (id == 0) && is_none (position (λ x. id == x) ids)
+
+-- how many IDs of all rows are objects', and how many are neither null nor an object's
+abbrev pub known_in : Rows → ℕ
+known_in t = sum_by (count_by (is_known t.ids)) t.rows
+
+abbrev pub absent_in : Rows → ℕ
+absent_in t = sum_by (count_by (is_absent t.ids)) t.rows
 
 -- the number that stands for null
 abbrev pub null_code : ℕ

@@ -2,11 +2,13 @@
 //! numbers of objects.
 #![tactic(auto)]
 
+mod counting;
 mod resolving;
 mod slot_table;
 mod targets;
 mod unresolved;
 
+pub use counting::IdCounts;
 pub use slot_table::SlotTable;
 pub use targets::Targets;
 pub use unresolved::UnresolvedSlots;

@@ -1,10 +1,11 @@
 //! The references of all objects by the numbers of the objects referred to, row by row.
 ghost use Rattle.std.specs.Prelude.{◌≡◌, ℕ, ◌+◌, ◌<◌, ◌-◌, ◌^◌, ◌==◌, length, map, position, slice_index, Some};
 ghost use Rattle.hd_slots.specs.Cuts.{last_from};
-ghost use Rattle.hd_slots.specs.Table.{row_at};
+ghost use Rattle.hd_slots.specs.Table.{row_at, known_in, absent_in};
 ghost use Rattle.hd_slots.specs.Codes.{IsCode, id_of_code, target_of_code};
 ghost use Rattle.hd_slots.specs.Parts.{rows_of, AreParts};
 
+use crate::counting::{IdCounts, count_codes};
 use crate::targets::Targets;
 use hd_ids::ObjectIds;
 use std::marker::Model;
@@ -130,6 +131,18 @@ impl SlotTable {
         let start = self.starts.as_slice()[o as usize] as usize;
         let code = self.items.as_slice()[start + i as usize];
         read_code(self.ids.as_slice(), self.absent.as_slice(), code)
+    }
+
+    /// How many IDs of all rows are objects', and how many are others'.
+    pub fn counts(&self) -> IdCounts
+        ensures objects { result.objects ≡ known_in self.now }
+        ensures others { result.others ≡ absent_in self.now }
+    {
+        count_codes(
+            self.ids.as_slice(),
+            self.absent.as_slice(),
+            self.items.as_slice(),
+        )
     }
 
     /// The last ID of an object's row, 0 where it has none.

@@ -199,8 +199,9 @@ impl<'a> UnresolvedSlots<'a> {
         })
     }
 
-    /// The rows by numbers of objects, which are looked for on all processors.
+    /// The rows by numbers of objects, which are looked for on all processors. No row is being filled.
     pub fn resolve<R: Threads + Sync>(self, rt: &R, alloc: Global) -> Result<SlotTable, AllocError>
+        requires filled { self.filling ≡ [] }
         ensures { IfOk result (λ t. t ≡ record { ids = self.entry.ids; rows = self.entry.rows }) }
     {
         let Self {

@@ -1,7 +1,7 @@
-use Rattle.std.proofs.Common.{◌≡◌, ◌∙◌, List, ℕ, [], ◌∷◌, ◌++◌, length, ap}
+use Rattle.std.proofs.Common.{◌≡◌, ◌∙◌, List, ℕ, [], ◌∷◌, ◌++◌, length, sym, ap, subst}
 use Rattle.hd_slots.specs.Table.{Table}
-use Rattle.hd_slots.specs.Parts.{table_from}
-use Rattle.hd_slots.proofs.TableLemmas.{table-end}
+use Rattle.hd_slots.specs.Parts.{table_from, AreOffsets}
+use Rattle.hd_slots.proofs.TableLemmas.{table-end, offsets-end}
 use Rattle.hd_slots.proofs.unresolved.UnresolvedSlots.end_row.Goals as goal
 use Rattle.hd_slots.proofs.unresolved.UnresolvedSlots.end_row.Goals.{In_ok-push}
 
@@ -14,3 +14,8 @@ returns c =
     ap (λ (ss : List ℕ). table_from a.bytes.now a.id_size a.ids ss a.offsets.items) (starts (goal.at.returns c).In_ok-push)
     ∙ table-end a.bytes.now a.id_size a.ids a.starts.items a.offsets.items c.self.invariant
     ∙ ap (λ (t : Table). record t { rows = t.rows ++ t.filling ∷ []; filling = [] }) c.self.view_is
+
+pub invariant_of-self-2 : goal.invariant_of-self-2
+invariant_of-self-2 c =
+    let a = c.self.inside in
+    subst (λ (ss : List ℕ). AreOffsets a.bytes.now a.id_size a.ids ss a.offsets.items) (sym (starts (goal.at.invariant_of-self-2 c).In_ok-push)) (offsets-end a.bytes.now a.id_size a.ids a.starts.items a.offsets.items c.self.invariant)

@@ -29,7 +29,7 @@ new-slot_table-requires g c =
     let b = (goal.at.new-slot_table-requires g c).In_ok-absent in
     subst (λ (xs : List ℕ). AreParts a.ids a.starts.items xs c.in_ok-absent.absent.items)
     (sym (written g b))
-    (parts-resolved a.bytes.now a.id_size a.ids a.starts.items a.offsets.items c.self.invariant c.resolve_offsets.new.items c.in_ok-absent.absent.items (codes g b) (as-many g b))
+    (parts-resolved a.bytes.now a.id_size a.ids a.starts.items a.offsets.items c.self.invariant c.resolve_offsets.new.items c.in_ok-absent.absent.items (codes g b) (as-many g b) (ap (λ (t : Table). t.filling) c.self.view_is ∙ c.requires.filled))
 
 pub returns : goal.returns
 returns g c =
