@@ -19,7 +19,6 @@ use Rattle.hd_terms.specs.Dump.{SlotEntry, Object, Root, Dump, no_object, object
 use Rattle.hd_terms.specs.Edges.{index_of, edge_of}
 use Rattle.hd_terms.specs.EditedDump.{RootOn, standing, standing_from, is_untouched, is_dropped, is_root, adds_root, live_edit_at, root_stands, root_entries, dump_root, root_added, added_root, held_by}
 use Rattle.hd_terms.specs.Log.{live_edit, edit_of, stays}
-use Rattle.hd_graph.proofs.CountLemmas.{slot-there}
 use Rattle.hd_strength.specs.Rows.{width, edge_by, edge_at, added_id, root_by, root_by_event, root_count, root_at, standing_root, standing_dump_root, standing_added_root, added_by}
 use Rattle.hd_strength.proofs.Lists.{Contains-nil, Contains-head, Contains-tail, Contains-cons_cases, Contains-slice_get, flat_map_contains, flat_map_only, filter_map_contains, filter_map_only, filter_contains, filter_only, enumerate_contains, enumerate_only}
 
@@ -34,6 +33,11 @@ entry_to r t = record { number = r; target = t }
 -- the number of an object is below their count
 pub index_of_within : (xs : List Object) (id t : ℕ) → index_of xs id ≡ Some t → t < length xs
 index_of_within xs id t h = (position-Some (λ (x : Object). id == x.id) xs t no_object h).0
+
+-- the slot at an index
+slot-there : (ss : List SlotEntry) (i : ℕ) → i < length ss → (s : SlotEntry) × (slice_get ss i ≡ Some s)
+slot-there [] i lt = absurd (omega arith)
+slot-there (s ∷ ss) i lt = (get_or (s ∷ ss) i s, slice_get-get_or (s ∷ ss) i s lt)
 
 -- the entry of a slot that an object has
 pub slot_at : (dump : Dump) (o i : ℕ) → i < width dump o → (s : SlotEntry) × (slice_get (object_at dump o).slots i ≡ Some s)
