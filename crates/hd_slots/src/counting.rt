@@ -14,7 +14,7 @@ pub struct IdCounts {
     pub others: u64,
 }
 
-/// Whether a number stands for an ID that is neither null nor an object's. Few do.
+/// Whether a number stands for an ID that is neither null nor an object's. Few do, so the processor foresees the answer.
 fn is_other(ids: &[u64], absent: &[u64], code: u32) -> bool
     requires few { length ids.now < 2 ^ 31 }
     requires is { IsCode ids.now absent.now code }
@@ -24,7 +24,8 @@ fn is_other(ids: &[u64], absent: &[u64], code: u32) -> bool
     index >= ids.len() && code != NULL && absent[index - ids.len()] != 0
 }
 
-/// How many of these numbers stand for IDs of objects, and how many for IDs that are neither null nor an object's.
+/// How many of these numbers stand for IDs of objects, and how many for IDs that are neither null nor an object's. Whether one
+/// is an object's is added up, and never asked: the processor can't foresee which references are null.
 pub(crate) fn count_codes(ids: &[u64], absent: &[u64], codes: &[u32]) -> IdCounts
     requires few { length ids.now < 2 ^ 31 }
     requires short { length codes.now < 2 ^ 32 }
