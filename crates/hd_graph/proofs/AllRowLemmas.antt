@@ -61,6 +61,12 @@ at-later list first i s is =
     let lt = slice_get_within list (first + i) s is in
     slice_get-get_or (drop first list) i s (omega (arith, length-drop first list, lt)) ∙ ap (λ (x : Sub). Some x) (get_or-drop first list i s ∙ get_or_from_slice_get list (first + i) s s is)
 
+-- the same by an index of the whole
+pub at-distance : (list : List Sub) (first i : ℕ) (s : Sub) → first ≤ i → slice_get list i ≡ Some s → slice_get (drop first list) (i - first) ≡ Some s
+at-distance list first i s from is =
+    let e : i ≡ first + (i - first) = omega arith in
+    at-later list first (i - first) s (subst (λ (n : ℕ). slice_get list n ≡ Some s) e is)
+
 -- the same of a stretch of the sub-records
 pub stretch-next : (known : KnownClasses) (bytes : List ℕ) (size : IdSize) (list : List Sub) (first i : ℕ) (s : Sub) → slice_get list (first + i) ≡ Some s → (old new : Table)
     → HasAllRows known bytes size (stretch first i list) old → AddsItemRow known old.bytes old.size s.item old new → HasAllRows known bytes size (stretch first (i + 1) list) new
@@ -92,10 +98,6 @@ pub stretches : (list : List Sub) (split len : ℕ) → length list ≤ len → 
 stretches list split len long =
     ap (λ (back : List Sub). take split list ++ back) (take_all (len - split) (drop split list) (omega (arith, length-drop split list, long)))
     ∙ take-append-drop split list
-
-pub stretches-weight : (list : List Sub) (split len : ℕ) → length list ≤ len → weight (stretch 0 split list) + weight (stretch split (len - split) list) ≡ weight list
-stretches-weight list split len long =
-    sym (sum_by-append (λ (x : Sub). item_weight x.item) (stretch 0 split list) (stretch split (len - split) list)) ∙ ap weight (stretches list split len long)
 
 -- one more shape, or none
 pub shapes-next : (known : KnownClasses) (size : IdSize) (list : List Sub) (i : ℕ) (s : Sub) → slice_get list i ≡ Some s → (old new : List ObjectShape)
@@ -165,6 +167,8 @@ module _ (known : KnownClasses) (bytes : List ℕ) (size : IdSize) (list : List 
 
   pub rows-of-all : HasRowsOf known bytes size list (columns (record t { ids = ids }) shapes)
   rows-of-all = record {
+    bytes_are = h.bytes_are;
+    size_is = h.size_is;
     ids_are = ids_are;
     rows_are = h.rows_are ∙ ap (map row_of_entry) (sym none-repeated);
     shapes_are = shapes_are ∙ ap (map shape_of_entry) (sym none-repeated);

@@ -18,7 +18,7 @@ use Rattle.hd_graph.specs.Counting.{is_edge, edges_of}
 use Rattle.hd_graph.proofs.ArrayLemmas.{index_of-row_objects, rest-columns}
 use Rattle.hd_graph.proofs.ShapeLemmas.{slot_of, slot-at, length-shape_slots}
 
--- a sum over what a list is made into, and the same sum by another rule
+-- what is counted or summed of a list by one rule, and by another that says the same of each element
 module _ {X : Type 0} where
   count_by-alike : (p q : X → Bool) → ((x : X) → p x ≡ q x) → (xs : List X) → count_by p xs ≡ count_by q xs
   count_by-alike p q same [] = refl

@@ -9,6 +9,7 @@ pub mod GrownLemmas
 pub mod ArrayLemmas
 pub mod SlotLemmas
 pub mod NumberLemmas
+pub mod JoinLemmas
 pub mod RowLemmas
 pub mod AllRowLemmas
 pub mod TextLemmas

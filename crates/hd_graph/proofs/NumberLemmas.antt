@@ -39,7 +39,7 @@ abbrev pub object_subs : List Sub → List (ℕ × Sub)
 object_subs list = filter_map object_sub list
 
 -- their IDs
-ids-of-subs : (list : List Sub) → filter_map object_id list ≡ map sub_key (object_subs list)
+pub ids-of-subs : (list : List Sub) → filter_map object_id list ≡ map sub_key (object_subs list)
 ids-of-subs [] = refl
 ids-of-subs (s ∷ list) = by_id (id_of_item s.item) (ids-of-subs list)
   where

@@ -88,6 +88,8 @@ HasAllShapes known size list shapes = shapes ≡ filter_map (λ (s : Sub). shape
 
 -- the rows and shapes are those of the objects of sub-records, the first of each ID
 pub record HasRowsOf (known : KnownClasses) (bytes : List ℕ) (size : IdSize) (list : List Sub) (c : Columns) : Type 0 where
+  pub bytes_are : c.table.bytes ≡ bytes
+  pub size_is : c.table.size ≡ size
   pub ids_are : c.table.ids ≡ object_ids list
   pub rows_are : c.table.rows ≡ map (λ (a : ObjectEntry). a.1) (entries_of known bytes size list)
   pub shapes_are : c.shapes ≡ map (λ (a : ObjectEntry). a.2) (entries_of known bytes size list)

@@ -12,8 +12,10 @@ use Rattle.hd_terms.specs.Objects.{is_opaque, opaque_in}
 use Rattle.hd_terms.specs.ReadFaults.{fault}
 use Rattle.hd_graph.specs.declared.graph.StoredRoot.{StoredRoot}
 use Rattle.hd_graph.specs.declared.number.Tally.{Tally}
+use Rattle.hd_graph.specs.declared.number.NumberedStretch.{NumberedStretch}
+use Rattle.hd_graph.specs.declared.numbering.Numbered.{Numbered}
 use Rattle.hd_graph.specs.GraphInside.{root_of_row}
-use Rattle.hd_ids.specs.Noted.{is_noted}
+use Rattle.hd_ids.specs.Noted.{is_noted, are_apart}
 use Rattle.hd_classes.specs.Repeats.{NotesId}
 use Rattle.hd_graph.specs.ArrayRows.{object_id, object_ids, roots_in}
 
@@ -56,3 +58,10 @@ IsNullIdOrMemory id offset f = (f ≡ fault causes.OutOfMemory 0) ⊎ ((id ≡ 0
 -- out of memory, or a fault of a sub-record behind others that were numbered
 abbrev pub StopsAt : KnownClasses → IdSize → Sub → List ℕ → ReadFault → Type 0
 StopsAt known size s ids f = (f ≡ fault causes.OutOfMemory 0) ⊎ ((id : ℕ) × (object_id s ≡ Some id) × IsObjectStop known size s.item id s.offset ids f)
+
+-- two stretches are numbered as one, the second behind the first: no ID is in both
+pub record JoinsNumbers (front back : NumberedStretch) (all : Numbered) : Type 0 where
+  pub apart : are_apart front.ids back.ids ≡ true
+  pub ids_are : all.ids ≡ front.ids ++ back.ids
+  pub roots_are : all.roots.items ≡ front.roots.items ++ back.roots.items
+  pub tally_is : all.tally ≡ record { repeated = front.tally.repeated + back.tally.repeated; opaque = front.tally.opaque + back.tally.opaque }

@@ -13,17 +13,18 @@ use crate::class_shapes::push_class_shape;
 use crate::instance_rows::push_instance_row;
 use crate::instance_shapes::push_instance_shape;
 use hd_classes::{Classes, LayoutBytes};
-use hd_ids::ObjectIds;
+use hd_ids::JoinedIds;
 use hd_shapes::Shapes;
-use hd_slots::UnresolvedSlots;
+use hd_slots::{JoinedRows, UnresolvedSlots};
 use hd_subs::{DumpSubs, Item, Sub, array_class_offset};
 use hd_terms::IdSize;
 use std::alloc::{AllocError, Global};
+use std::sync::Arc;
 
 /// The references of objects, by the file offsets of their IDs, and their shapes.
 #[derive(Drop)]
 pub(crate) struct Rows<'a> {
-    pub(crate) slot_table: UnresolvedSlots<'a>,
+    pub(crate) slot_table: JoinedRows<'a>,
     pub(crate) shapes: Shapes,
 }
 
@@ -194,7 +195,7 @@ fn fill_all_shapes(
 }
 
 /// The references of the objects of some sub-records, whether their IDs are repeated or not, over no IDs: of so many
-/// sub-records from the first on. There is room for the rows of all that follow.
+/// sub-records from the first on.
 pub(crate) fn rows_of_stretch<'a>(
     alloc: Global,
     classes: &Classes,
@@ -211,9 +212,8 @@ pub(crate) fn rows_of_stretch<'a>(
     ensures { IfOk result (HasAllRows (known_at classes.now) bytes.now id_size (stretch first count list.now)) }
 {
     let mut layouts = LayoutBytes::new(alloc, classes, id_size)?;
-    let no_ids = ObjectIds::with_capacity(alloc, 0, 0)?;
-    let room = list.len() - first;
-    let mut slot_table = UnresolvedSlots::new(alloc, bytes, id_size, no_ids, room)?;
+    let no_ids = Arc::new(alloc, JoinedIds::none(alloc)?)?;
+    let mut slot_table = UnresolvedSlots::new(alloc, bytes, id_size, no_ids, count)?;
     fill_all_rows(&mut slot_table, &mut layouts, list, first, count)?;
     Ok(slot_table)
 }
@@ -239,7 +239,7 @@ pub(crate) fn all_shapes_of(
 /// those of the first object of each ID.
 fn first_rows_of<'a>(
     alloc: Global,
-    ids: ObjectIds,
+    ids: JoinedIds,
     classes: &Classes,
     id_size: IdSize,
     bytes: &'a [u8],
@@ -256,8 +256,11 @@ fn first_rows_of<'a>(
     let count = ids.len();
     let mut layouts = LayoutBytes::new(alloc, classes, id_size)?;
     let mut shapes = Shapes::with_capacity(alloc, count, classes.len())?;
+    let ids = Arc::new(alloc, ids)?;
+    let back = UnresolvedSlots::new(alloc, bytes, id_size, Arc::try_clone(&ids)?, 0)?;
     let mut slot_table = UnresolvedSlots::new(alloc, bytes, id_size, ids, count)?;
     fill_first_rows(alloc, &mut slot_table, &mut shapes, &mut layouts, list)?;
+    let slot_table = JoinedRows::join(slot_table, back);
     Ok(Rows { slot_table, shapes })
 }
 
@@ -265,7 +268,7 @@ fn first_rows_of<'a>(
 /// are the same; else they are made anew.
 pub(crate) fn rows_of<'a>(
     alloc: Global,
-    ids: ObjectIds,
+    ids: JoinedIds,
     all: Rows<'a>,
     classes: &Classes,
     id_size: IdSize,
@@ -284,7 +287,7 @@ pub(crate) fn rows_of<'a>(
 {
     let Rows { slot_table, shapes } = all;
     if shapes.len() == ids.len() {
-        let slot_table = slot_table.with_ids(ids);
+        let slot_table = slot_table.with_ids(alloc, ids)?;
         return Ok(Rows { slot_table, shapes });
     }
     drop(slot_table);

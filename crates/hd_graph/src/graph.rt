@@ -259,7 +259,7 @@ impl Graph {
     pub fn objects(&self) -> u32
         ensures { result ≡ length self.now.objects }
     {
-        self.slot_table.ids().len() as u32
+        self.slot_table.objects() as u32
     }
 
     /// The ID of the object of a number.
@@ -267,7 +267,7 @@ impl Graph {
         requires { o < length self.now.objects }
         ensures { result ≡ (object_at self.now o).id }
     {
-        self.slot_table.ids()[o as usize]
+        self.slot_table.id_of(o)
     }
 
     /// The number of the object with an ID, if there is one. No two objects have one ID.

@@ -137,7 +137,7 @@ fn kinds_of_part(
     ensures { IfOk result (AreKindsOfPart (row_objects shapes.now.objects slot_table.now.ids slot_table.now.rows) part) }
 {
     let mut lists = KindLists::none(alloc);
-    let objects = slot_table.ids().len();
+    let objects = slot_table.objects();
     let start = objects * part / PARTS;
     let end = objects * (part + 1) / PARTS;
     for o in start as u32..end as u32 {

@@ -12,6 +12,7 @@ mod instance_shapes;
 mod kinds;
 mod layouts;
 mod number;
+mod numbering;
 mod opening;
 
 pub use graph::{Graph, RootRead, SlotName, SlotRead};

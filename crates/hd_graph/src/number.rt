@@ -1,11 +1,12 @@
 //! Numbering objects in file order, and finding those with ID 0 or with values of the wrong size.
-ghost use Rattle.std.specs.Prelude.{◌≡◌, ◌+◌, ◌<◌, ◌^◌, ℕ, true, not, if◌then◌else◌, length, All, IfOk, IfErr, OnOk};
+ghost use Rattle.std.specs.Prelude.{◌≡◌, ◌+◌, ◌<◌, ◌≤◌, ◌-◌, drop, ◌^◌, ℕ, true, not, if◌then◌else◌, length, All, IfOk, IfErr, OnOk};
 ghost use Rattle.hd_terms.specs.Classes as classes_of;
 ghost use Rattle.hd_terms.specs.SubRecords.{Instance};
 ghost use Rattle.hd_classes.specs.Known.{known_at};
 ghost use Rattle.hd_subs.specs.Views.{sub_view};
 ghost use Rattle.hd_ids.specs.Noted.{is_noted};
 ghost use Rattle.hd_classes.specs.Repeats.{NotesId};
+ghost use Rattle.hd_graph.specs.Building.{stretch};
 ghost use Rattle.hd_graph.specs.Numbering.{IsNumbered, NumbersOneMore, IsObjectFaultOrMemory, NotesObject, IsObjectStop, IsNullIdOrMemory, StopsAt};
 
 use crate::graph::StoredRoot;
@@ -24,9 +25,9 @@ pub(crate) struct Tally {
     pub(crate) opaque: u64,
 }
 
-/// The numbers of the objects, and the roots.
+/// The numbers of the objects of some sub-records, and the roots.
 #[derive(Drop)]
-pub(crate) struct Numbered {
+pub(crate) struct NumberedStretch {
     pub(crate) ids: ObjectIds,
     pub(crate) roots: Vec<StoredRoot>,
     pub(crate) tally: Tally,
@@ -124,20 +125,24 @@ fn number_one(
     Ok(())
 }
 
-/// Numbers the objects by their IDs, each ID once, counts those that are repeated or opaque, and collects the roots. An object
-/// with ID 0, and an instance that doesn't fit its class's layout, are faults. The secret is for the hashes of IDs.
-pub(crate) fn number(
+/// Numbers the objects of the sub-records from one index to another by their IDs, each ID once, counts those that are repeated or
+/// opaque, and collects the roots. An object with ID 0, and an instance that doesn't fit its class's layout, are faults. The secret
+/// is for the hashes of IDs.
+pub(crate) fn number_stretch(
     alloc: Global,
     list: &DumpSubs<'_>,
     classes: &Classes,
     id_size: IdSize,
     secret: u64,
-) -> Result<Numbered, ReadFault>
+    first: usize,
+    end: usize,
+) -> Result<NumberedStretch, ReadFault>
     requires short { All (λ (p : ℕ × classes_of.ResolvedClass). length p.1.layout < 2 ^ 29) classes.now.classes }
-    ensures ok { IfOk result (λ n. IsNumbered (known_at classes.now) id_size list.now n.ids n.roots.items n.tally) }
-    ensures err { IfErr result (λ f. IsObjectFaultOrMemory (known_at classes.now) id_size list.now f) }
+    requires there { (first ≤ end) × (end ≤ length list.now) }
+    ensures ok { IfOk result (λ n. IsNumbered (known_at classes.now) id_size (stretch first (end - first) list.now) n.ids n.roots.items n.tally) }
+    ensures err { IfErr result (λ f. IsObjectFaultOrMemory (known_at classes.now) id_size (drop first list.now) f) }
 {
-    let mut ids = ObjectIds::with_capacity(alloc, list.len(), secret)?;
+    let mut ids = ObjectIds::with_capacity(alloc, end - first, secret)?;
     let mut layouts = LayoutBytes::new(alloc, classes, id_size)?;
     let mut roots = Vec::new(alloc);
     let mut tally = Tally {
@@ -145,9 +150,9 @@ pub(crate) fn number(
         opaque: 0,
     };
     let subs = list.as_list();
-    for i in 0..list.len() {
+    for i in first..end {
         let sub = subs.get(i);
         number_one(&mut ids, &mut roots, &mut tally, &mut layouts, sub)?;
     }
-    Ok(Numbered { ids, roots, tally })
+    Ok(NumberedStretch { ids, roots, tally })
 }

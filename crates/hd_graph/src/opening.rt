@@ -15,13 +15,13 @@ ghost use Rattle.hd_graph.specs.Building.{HasAllRows, HasAllShapes, AreFewAndSho
 use crate::filling::{Rows, all_shapes_of, rows_of, rows_of_stretch};
 use crate::graph::{Graph, Repeats};
 use crate::kinds::kinds_of;
-use crate::number::{Numbered, number};
+use crate::numbering::{Numbered, number};
 use hd_classes::{Classes, RepeatedRecords, names_of};
 use hd_decode::{Gate, decode};
 use hd_ids::secret;
 use hd_records::{Records, read_records};
 use hd_shapes::Shapes;
-use hd_slots::UnresolvedSlots;
+use hd_slots::{JoinedRows, UnresolvedSlots};
 use hd_subs::DumpSubs;
 use hd_terms::{IdSize, Mode, ReadFault};
 use std::alloc::{AllocError, Global};
@@ -33,10 +33,7 @@ use std::thread::{Threads, join};
 const MANY: usize = 1 << 18;
 
 /// The references of the objects of all sub-records of a file, whether their IDs are repeated or not, over no IDs. Where there
-/// are many, those of the last quarter are made beside the others, or, where the system refuses a thread, after them.
-///
-/// The rows take about a quarter longer than the numbers, which are made meanwhile. What one thread makes is held twice while it
-/// is put behind the others, so it is no larger part.
+/// are many, two threads make those of a half each, or, where the system refuses a thread, one after the other.
 fn all_rows_of<'a, R: Threads + Sync>(
     rt: &R,
     alloc: Global,
@@ -44,14 +41,14 @@ fn all_rows_of<'a, R: Threads + Sync>(
     list: &DumpSubs<'_>,
     classes: &Classes,
     id_size: IdSize,
-) -> Result<UnresolvedSlots<'a>, AllocError>
+) -> Result<JoinedRows<'a>, AllocError>
     requires within { AreWithin id_size bytes.now list.now }
     requires small { length bytes.now < 2 ^ 31 }
     requires classes { AreFewAndShort classes.now }
     ensures { IfOk result (HasAllRows (known_at classes.now) bytes.now id_size list.now) }
 {
     let len = list.len();
-    let split = if len < MANY { len } else { len - len / 4 };
+    let split = if len < MANY { len } else { len / 2 };
     let front = || -> Result<UnresolvedSlots<'_>, AllocError>
         requires within { AreWithin id_size bytes.now list.now }
         requires small { length bytes.now < 2 ^ 31 }
@@ -59,9 +56,6 @@ fn all_rows_of<'a, R: Threads + Sync>(
         requires there { split ≤ length list.now }
         ensures { IfOk result (HasAllRows (known_at classes.entry.now) bytes.entry.now id_size (stretch 0 split list.entry.now)) }
     { rows_of_stretch(alloc, classes, id_size, bytes, list, 0, split) };
-    if split == len {
-        return front();
-    }
     let back = || -> Result<UnresolvedSlots<'_>, AllocError>
         requires within { AreWithin id_size bytes.now list.now }
         requires small { length bytes.now < 2 ^ 31 }
@@ -69,9 +63,12 @@ fn all_rows_of<'a, R: Threads + Sync>(
         requires there { split ≤ len × (len ≤ length list.now) }
         ensures { IfOk result (HasAllRows (known_at classes.entry.now) bytes.entry.now id_size (stretch split (len - split) list.entry.now)) }
     { rows_of_stretch(alloc, classes, id_size, bytes, list, split, len - split) };
-    let (front, back) = join(rt, front, back);
-    let all = front?.with_rows_of(&back?)?;
-    Ok(all)
+    let (front, back) = if split == len {
+        (front(), back())
+    } else {
+        join(rt, front, back)
+    };
+    Ok(JoinedRows::join(front?, back?))
 }
 
 /// The references and the shapes of the objects of all sub-records of a file. Neither need the other, so they are made side by
@@ -90,7 +87,7 @@ fn all_of<'a, R: Threads + Sync>(
     ensures rows { IfOk result (λ rows. HasAllRows (known_at classes.now) bytes.now id_size list.now rows.slot_table) }
     ensures shapes { IfOk result (λ rows. HasAllShapes (known_at classes.now) id_size list.now rows.shapes.objects) }
 {
-    let rows = || -> Result<UnresolvedSlots<'_>, AllocError>
+    let rows = || -> Result<JoinedRows<'_>, AllocError>
         requires within { AreWithin id_size bytes.now list.now }
         requires small { length bytes.now < 2 ^ 31 }
         requires classes { AreFewAndShort classes.now }
@@ -131,7 +128,7 @@ fn numbers_and_rows<'a, R: Threads + Sync>(
         requires { AreFewAndShort classes.now }
         ensures ok { IfOk result (λ n. IsNumbered (known_at classes.entry.now) id_size list.entry.now n.ids n.roots.items n.tally) }
         ensures err { IfErr result (λ f. IsObjectFaultOrMemory (known_at classes.entry.now) id_size list.entry.now f) }
-    { number(alloc, list, classes, id_size, secret) };
+    { number(rt, alloc, list, classes, id_size, secret) };
     let rows = || -> Result<Rows<'_>, AllocError>
         requires within { AreWithin id_size bytes.now list.now }
         requires small { length bytes.now < 2 ^ 31 }

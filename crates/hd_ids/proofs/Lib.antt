@@ -2,3 +2,4 @@ pub mod DistinctLemmas
 pub mod PlainLemmas
 pub mod NumberLemmas
 pub mod RowLemmas
+pub mod JoinLemmas

@@ -2,6 +2,7 @@ pub mod AtHand
 pub mod FoundBy
 pub mod IdHash
 pub mod Index
+pub mod Joined
 pub mod Noted
 pub mod PageHash
 pub mod Numbers

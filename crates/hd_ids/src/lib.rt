@@ -4,6 +4,7 @@
 mod finder;
 mod id_hasher;
 mod ids;
+mod joined;
 mod near;
 mod numbers;
 mod page_hasher;
@@ -16,4 +17,5 @@ mod seed;
 pub use finder::Finder;
 pub use id_hasher::IdHasher;
 pub use ids::ObjectIds;
+pub use joined::{JoinedFinder, JoinedIds};
 pub use seed::secret;

@@ -1,7 +1,6 @@
 -- Lemmas on a list cut at indexes.
-use Rattle.std.proofs.Common.{◌≡◌, ◌∙◌, ℕ, zero, suc, ◌+◌, ◌-◌, ◌<◌, ◌≤◌, Bool, List, [], ◌∷◌, ◌++◌, length, map, take, drop, get_or, cond, refl, sym, ap, arith, All}
+use Rattle.std.proofs.Common.{◌≡◌, ◌∙◌, ℕ, zero, suc, ◌+◌, ◌-◌, ◌<◌, ◌≤◌, Bool, List, [], ◌∷◌, ◌++◌, length, take, drop, get_or, cond, refl, sym, ap, arith, All}
 use Rattle.std.specs.Prelude.{count_by, sum_by}
-use Rattle.std.proofs.Math.Seq.{drop-append-add}
 use Rattle.std.proofs.lemmas.List.{take-append-le, drop-append-le, length-drop, drop-take, take-take, take_all}
 use Rattle.std.proofs.lemmas.List.Sums.{sum_by-cons, sum_by-take-drop}
 use Rattle.std.proofs.lemmas.List.Elements.{All-head, All-tail}
@@ -73,58 +72,6 @@ pub last-none : (row : List ℕ) → length row ≡ 0 → last_from 0 row ≡ 0
 last-none [] none = refl
 last-none (id ∷ rest) none = absurd (omega arith)
 
--- more cuts make more parts
-between-more : {X : Type 0} (s : ℕ) (es fs : List ℕ) (xs : List X) → between s (es ++ fs) xs ≡ between s es xs ++ between (last_from s es) fs xs
-between-more s [] fs xs = refl
-between-more s (e ∷ es) fs xs = ap (λ r. take (e - s) (drop s xs) ∷ r) (between-more e es fs xs)
-
--- the index so much later
-abbrev pub later : ℕ → ℕ → ℕ
-later n s = n + s
-
--- cuts that are as much later as the list is
-between-later : {X : Type 0} (s : ℕ) (es : List ℕ) (xs ys : List X) → between (length xs + s) (map (later (length xs)) es) (xs ++ ys) ≡ between s es ys
-between-later s [] xs ys = refl
-between-later s (e ∷ es) xs ys =
-    let n = length xs in
-    let width : n + e - (n + s) ≡ e - s = omega arith in
-    let rest = between (n + e) (map (later n) es) (xs ++ ys) in
-    ap (λ k. take k (drop (n + s) (xs ++ ys)) ∷ rest) width
-    ∙ ap (λ zs. take (e - s) zs ∷ rest) (drop-append-add xs ys s)
-    ∙ ap (λ r. take (e - s) (drop s ys) ∷ r) (between-later e es xs ys)
-
-last_from-more : (d : ℕ) (ss fs : List ℕ) → last_from d (ss ++ fs) ≡ last_from (last_from d ss) fs
-last_from-more d [] fs = refl
-last_from-more d (s ∷ ss) fs = last_from-more s ss fs
-
-last_from-later : (n d : ℕ) (ss : List ℕ) → last_from (n + d) (map (later n) ss) ≡ n + last_from d ss
-last_from-later n d [] = refl
-last_from-later n d (s ∷ ss) = last_from-later n s ss
-
--- two lists that are cut, one behind the other: the first up to its end, the second from its beginning
-module _ {X : Type 0} (xs ys : List X) where
-  pub rows_from-both : (ss ts : List ℕ) → 0 < length ss → 0 < length ts → All (λ e. e ≤ length xs) ss → last_from 0 ss ≡ length xs → get_or ts 0 0 ≡ 0
-      → rows_from (ss ++ map (later (length xs)) (drop 1 ts)) (xs ++ ys) ≡ rows_from ss xs ++ rows_from ts ys
-  rows_from-both [] ts some others within whole zero_first = absurd (omega arith)
-  rows_from-both (s ∷ es) [] some others within whole zero_first = absurd (omega arith)
-  rows_from-both (s ∷ es) (t ∷ fs) some others within whole zero_first =
-      let n = length xs in
-      let more = map (later n) fs in
-      let here : between s es (xs ++ ys) ≡ between s es xs = between-append s es xs ys (All-head (λ e. e ≤ n) s es within) (All-tail (λ e. e ≤ n) s es within) in
-      let seam : last_from s es ≡ n + t = omega (arith, whole, zero_first) in
-      between-more s es more (xs ++ ys)
-      ∙ ap (λ r. r ++ between (last_from s es) more (xs ++ ys)) here
-      ∙ ap (λ k. between s es xs ++ between k more (xs ++ ys)) seam
-      ∙ ap (λ r. between s es xs ++ r) (between-later t fs xs ys)
-
-  pub last_from-both : (ss ts : List ℕ) → 0 < length ts → last_from 0 ss ≡ length xs → get_or ts 0 0 ≡ 0
-      → last_from 0 (ss ++ map (later (length xs)) (drop 1 ts)) ≡ length xs + last_from 0 ts
-  last_from-both ss [] others whole zero_first = absurd (omega arith)
-  last_from-both ss (t ∷ fs) others whole zero_first =
-      let n = length xs in
-      let seam : last_from 0 ss ≡ n + t = omega (arith, whole, zero_first) in
-      last_from-more 0 ss (map (later n) fs) ∙ ap (λ k. last_from k (map (later n) fs)) seam ∙ last_from-later n t fs
-
 -- indexes that rise to one rise to a later one
 pub rising-further : (s : ℕ) (es : List ℕ) (m n : ℕ) → m ≤ n → AreRising s es m → AreRising s es n
 rising-further s [] m n le h = omega (arith, le, h)
@@ -134,25 +81,6 @@ rising-further s (e ∷ es) m n le h = (h.0, rising-further e es m n le h.1)
 pub rising-push : (s : ℕ) (es : List ℕ) (n : ℕ) → AreRising s es n → AreRising s (es ++ n ∷ []) n
 rising-push s [] n h = (h, omega arith)
 rising-push s (e ∷ es) n h = (h.0, rising-push e es n h.1)
-
--- they end where they rise to, or before
-rising-last : (s : ℕ) (es : List ℕ) (n : ℕ) → AreRising s es n → s ≤ last_from s es
-rising-last s [] n h = omega arith
-rising-last s (e ∷ es) n h = omega (arith, h.0, rising-last e es n h.1)
-
--- indexes that are so much later
-rising-later : (k n t : ℕ) (fs : List ℕ) (m : ℕ) → k ≤ n + t → AreRising t fs m → AreRising k (map (later n) fs) (n + m)
-rising-later k n t [] m le h = omega (arith, le, h)
-rising-later k n t (f ∷ fs) m le h = (omega (arith, le, h.0), rising-later (n + f) n f fs m (omega arith) h.1)
-
--- and behind others
-rising-more : (s : ℕ) (es : List ℕ) (n t : ℕ) (fs : List ℕ) (m : ℕ) → AreRising s es n → AreRising t fs m → AreRising s (es ++ map (later n) fs) (n + m)
-rising-more s [] n t fs m h k = rising-later s n t fs m (omega (arith, h)) k
-rising-more s (e ∷ es) n t fs m h k = (h.0, rising-more e es n t fs m h.1 k)
-
-pub rising-both : (ss ts : List ℕ) (n m : ℕ) → 0 < length ts → AreRising 0 ss n → AreRising 0 ts m → AreRising 0 (ss ++ map (later n) (drop 1 ts)) (n + m)
-rising-both ss [] n m some h k = absurd (omega arith)
-rising-both ss (t ∷ fs) n m some h k = rising-more 0 ss n t fs m h k.1
 
 -- what is counted of the parts between indexes that rise, and before them, is what is counted up to the last
 module _ {X : Type 0} (p : X → Bool) (xs : List X) where

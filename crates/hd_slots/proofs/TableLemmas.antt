@@ -3,15 +3,14 @@ use Rattle.std.proofs.Common.{◌≡◌, ◌∙◌, ℕ, suc, ◌+◌, ◌-◌, 
 use Rattle.std.specs.List.{position}
 use Rattle.std.specs.Prelude.{count_by, sum_by}
 use Rattle.std.proofs.lemmas.List.{ext_get_or, map-append, length-map, drop-append-le, take_all, length-take, length-drop, get_or-take, get_or-drop, get_or-map, drop_all, get_or_append_left}
-use Rattle.std.proofs.lemmas.List.Elements.{All-push, All-weaker, All-append, All-map, All-drop}
-use Rattle.std.proofs.Math.Seq.{drop-append-add}
+use Rattle.std.proofs.lemmas.List.Elements.{All-push, All-weaker}
 use Rattle.hd_terms.specs.declared.IdSize.{IdSize}
 use Rattle.hd_slots.specs.Table.{Rows, Table, row_at, id_at, IsIdWithin}
 use Rattle.hd_slots.specs.Resolving.{AreCodesOf}
 use Rattle.hd_slots.specs.Codes.{id_of_code, object_of_code, IsCode}
 use Rattle.hd_slots.specs.Cuts.{rows_from, last_from, AreRising}
 use Rattle.hd_slots.specs.Parts.{rows_of, AreParts, table_from, AreOffsets}
-use Rattle.hd_slots.proofs.CutLemmas.{rows_from-append, rows_from-push, last_from-push, last_from-within, length-rows_from, row-at, later, rows_from-both, last_from-both, rising-further, rising-push, rising-both, rows-counted}
+use Rattle.hd_slots.proofs.CutLemmas.{rows_from-append, rows_from-push, last_from-push, last_from-within, length-rows_from, row-at, rising-further, rising-push, rows-counted}
 
 -- rows by offsets of IDs in a file
 module _ (bytes : List ℕ) (size : IdSize) (ids starts offsets : List ℕ) (h : AreOffsets bytes size ids starts offsets) where
@@ -82,70 +81,6 @@ module _ (bytes : List ℕ) (size : IdSize) (ids starts offsets : List ℕ) (h :
   ends-whole none =
       let most = last_from-within (length offsets) 0 starts (omega arith) h.within in
       omega (arith, most, ap (λ (xs : List ℕ). length xs) none, length-drop (last_from 0 starts) values, length-map offsets (id_at bytes size))
-
-  -- the rows of others behind them
-  module _ (ids' starts' offsets' : List ℕ) (k : AreOffsets bytes size ids' starts' offsets') (filled : drop (last_from 0 starts) values ≡ []) where
-    abbrev values' : List ℕ
-    values' = map (id_at bytes size) offsets'
-
-    abbrev pub both_starts : List ℕ
-    both_starts = starts ++ map (later (length offsets)) (drop 1 starts')
-
-    both : map (id_at bytes size) (offsets ++ offsets') ≡ values ++ values'
-    both = map-append (id_at bytes size) offsets offsets'
-
-    as_long : length values ≡ length offsets
-    as_long = length-map offsets (id_at bytes size)
-
-    whole : last_from 0 starts ≡ length values
-    whole = ends-whole filled ∙ sym as_long
-
-    abbrev starts_by : ℕ → List ℕ
-    starts_by n = starts ++ map (later n) (drop 1 starts')
-
-    both-rows : rows_from both_starts (map (id_at bytes size) (offsets ++ offsets')) ≡ rows_from starts values ++ rows_from starts' values'
-    both-rows =
-        ap (rows_from both_starts) both
-        ∙ ap (λ (n : ℕ). rows_from (starts_by n) (values ++ values')) (sym as_long)
-        ∙ rows_from-both values values' starts starts' h.begins k.begins (subst (λ (n : ℕ). All (λ s. s ≤ n) starts) (sym as_long) h.within) whole k.from_zero
-
-    both-filled : drop (last_from 0 starts') values' ≡ [] → drop (last_from 0 both_starts) (map (id_at bytes size) (offsets ++ offsets')) ≡ []
-    both-filled none =
-        ap (drop (last_from 0 both_starts)) both
-        ∙ ap (λ (n : ℕ). drop (last_from 0 (starts_by n)) (values ++ values')) (sym as_long)
-        ∙ ap (λ (n : ℕ). drop n (values ++ values')) (last_from-both values values' starts starts' k.begins whole k.from_zero)
-        ∙ drop-append-add values values' (last_from 0 starts')
-        ∙ none
-
-    pub table-both : drop (last_from 0 starts') values' ≡ []
-        → table_from bytes size ids both_starts (offsets ++ offsets')
-        ≡ record (table_from bytes size ids starts offsets) { rows = rows_from starts values ++ rows_from starts' values'; count = length offsets + length offsets' }
-    table-both none =
-        let t : List (List ℕ) → List ℕ → ℕ → Table = λ rs fs n. record { bytes = bytes; size = size; ids = ids; rows = rs; filling = fs; count = n } in
-        let fs = drop (last_from 0 both_starts) (map (id_at bytes size) (offsets ++ offsets')) in
-        let rows = rows_from starts values ++ rows_from starts' values' in
-        ap (λ rs. t rs fs (length (offsets ++ offsets'))) both-rows
-        ∙ ap (λ gs. t rows gs (length (offsets ++ offsets'))) (both-filled none ∙ sym filled)
-        ∙ ap (λ n. t rows (drop (last_from 0 starts) values) n) (length-append offsets offsets')
-
-    pub offsets-both : length ids + length offsets + length offsets' < 2 ^ 32 → AreOffsets bytes size ids both_starts (offsets ++ offsets')
-    offsets-both room =
-        let many : length (offsets ++ offsets') ≡ length offsets + length offsets' = length-append offsets offsets' in
-        let kept : All (λ s. s ≤ length (offsets ++ offsets')) starts = All-weaker (λ s. s ≤ length offsets) (λ s. s ≤ length (offsets ++ offsets')) (λ s le. omega (arith, many)) starts h.within in
-        let moved : All (λ s. s ≤ length (offsets ++ offsets')) (map (later (length offsets)) (drop 1 starts')) =
-        All-map (λ s. s ≤ length (offsets ++ offsets')) (later (length offsets)) (drop 1 starts')
-        (All-weaker (λ s. s ≤ length offsets') (λ s. length offsets + s ≤ length (offsets ++ offsets')) (λ s le. omega (arith, many)) (drop 1 starts') (All-drop (λ s. s ≤ length offsets') 1 starts' k.within)) in
-        record {
-          small = h.small;
-          few = h.few;
-          no_null = h.no_null;
-          in_file = All-append (IsIdWithin size (length bytes)) offsets offsets' h.in_file k.in_file;
-          within = All-append (λ s. s ≤ length (offsets ++ offsets')) starts (map (later (length offsets)) (drop 1 starts')) kept moved;
-          rising = subst (AreRising 0 both_starts) (sym many) (rising-both starts starts' (length offsets) (length offsets') k.begins h.rising k.rising);
-          begins = omega (arith, length-append starts (map (later (length offsets)) (drop 1 starts')), h.begins);
-          from_zero = get_or_append_left starts (map (later (length offsets)) (drop 1 starts')) 0 0 h.begins ∙ h.from_zero;
-          room = omega (arith, many, room);
-        }
 
   -- numbers that stand for the IDs have the same rows
   module _ (codes absent : List ℕ) (is : AreCodesOf ids values codes absent) (as_many : length codes ≡ length offsets) where

@@ -3,5 +3,6 @@ pub mod Codes
 pub mod Cuts
 pub mod Parts
 pub mod Inside
+pub mod JoinedInside
 pub mod UnresolvedInside
 pub mod Resolving

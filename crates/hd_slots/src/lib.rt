@@ -3,12 +3,15 @@
 #![tactic(auto)]
 
 mod counting;
+mod joined_rows;
+mod resolved_rows;
 mod resolving;
 mod slot_table;
 mod targets;
 mod unresolved;
 
 pub use counting::IdCounts;
+pub use joined_rows::JoinedRows;
 pub use slot_table::SlotTable;
 pub use targets::Targets;
 pub use unresolved::UnresolvedSlots;

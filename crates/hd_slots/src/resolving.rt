@@ -4,8 +4,8 @@ ghost use Rattle.hd_slots.specs.Table.{id_at, IsIdWithin};
 ghost use Rattle.hd_slots.specs.Codes.{IsCode, IsLonger, id_of_code};
 ghost use Rattle.hd_slots.specs.Resolving.{found_code, id_of_found, IsFound, IsMarked, IsUnmarked, KeepsBlock, AreCodesOf};
 
-use crate::slot_table::NULL;
-use hd_ids::{Finder, ObjectIds};
+use crate::resolved_rows::NULL;
+use hd_ids::{JoinedFinder, JoinedIds};
 use hd_terms::IdSize;
 use rayon::prelude::par_chunks_mut_for_each;
 use std::alloc::{AllocError, Global};
@@ -23,7 +23,7 @@ const PART: usize = 65_536;
 /// The number of the object whose ID lies at an offset of the file, `NULL` for the ID 0, and the marked offset where no object
 /// has the ID.
 #[inline(always)]
-fn found(finder: &mut Finder<'_>, id_size: IdSize, bytes: &[u8], offset: u32) -> u32
+fn found(finder: &mut JoinedFinder<'_>, id_size: IdSize, bytes: &[u8], offset: u32) -> u32
     requires within { IsIdWithin id_size (length bytes.now) offset }
     requires small { length bytes.now < 2 ^ 31 }
     requires few { length finder.old < 2 ^ 31 }
@@ -42,7 +42,7 @@ fn found(finder: &mut Finder<'_>, id_size: IdSize, bytes: &[u8], offset: u32) ->
 
 /// Turns the offsets of IDs of one part into what is found there. IDs that follow one another are mostly near, so one finder
 /// finds all.
-fn find_part(ids: &ObjectIds, id_size: IdSize, bytes: &[u8], part: &mut [u32])
+fn find_part(ids: &JoinedIds, id_size: IdSize, bytes: &[u8], part: &mut [u32])
     requires within { All (IsIdWithin id_size (length bytes.now)) part.old }
     requires small { length bytes.now < 2 ^ 31 }
     requires few { length ids.now < 2 ^ 31 }
@@ -57,7 +57,7 @@ fn find_part(ids: &ObjectIds, id_size: IdSize, bytes: &[u8], part: &mut [u32])
 /// Turns offsets of IDs into what is found there, on all processors, part by part.
 fn find_objects<R: Threads + Sync>(
     rt: &R,
-    ids: &ObjectIds,
+    ids: &JoinedIds,
     id_size: IdSize,
     bytes: &[u8],
     items: &mut [u32],
@@ -88,7 +88,7 @@ fn is_marked(item: u32) -> bool
 /// The number for a marked offset: the next behind those of the objects and of the absent IDs so far, of which the ID at the
 /// offset is one from then on.
 fn number_for(
-    ids: &[u64],
+    ids: &JoinedIds,
     id_size: IdSize,
     bytes: &[u8],
     absent: &mut Vec<u64>,
@@ -120,7 +120,7 @@ fn none_marked(items: &[u32]) -> bool
 
 /// Does for one block what `keep_absent` does for all. The block begins at `start`; the answer is where the next begins.
 fn keep_block(
-    ids: &[u64],
+    ids: &JoinedIds,
     id_size: IdSize,
     bytes: &[u8],
     items: &mut [u32],
@@ -152,7 +152,7 @@ fn keep_block(
 /// Keeps the IDs that are no object's, and gives each a number behind those of the objects. Of the others nothing is written.
 fn keep_absent(
     alloc: Global,
-    ids: &[u64],
+    ids: &JoinedIds,
     id_size: IdSize,
     bytes: &[u8],
     items: &mut [u32],
@@ -175,7 +175,7 @@ fn keep_absent(
 pub(crate) fn resolve_offsets<R: Threads + Sync>(
     rt: &R,
     alloc: Global,
-    ids: &ObjectIds,
+    ids: &JoinedIds,
     id_size: IdSize,
     bytes: &[u8],
     items: &mut [u32],
@@ -189,6 +189,6 @@ pub(crate) fn resolve_offsets<R: Threads + Sync>(
     ensures same_len { length items.new ≡ length items.old }
 {
     find_objects(rt, ids, id_size, bytes, items);
-    let absent = keep_absent(alloc, ids.as_slice(), id_size, bytes, items)?;
+    let absent = keep_absent(alloc, ids, id_size, bytes, items)?;
     Ok(absent)
 }

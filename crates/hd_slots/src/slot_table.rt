@@ -2,92 +2,60 @@
 ghost use Rattle.std.specs.Prelude.{◌≡◌, ℕ, ◌+◌, ◌<◌, ◌-◌, ◌^◌, ◌==◌, length, map, position, slice_index, Some};
 ghost use Rattle.hd_slots.specs.Cuts.{last_from};
 ghost use Rattle.hd_slots.specs.Table.{row_at, known_in, absent_in};
-ghost use Rattle.hd_slots.specs.Codes.{IsCode, id_of_code, target_of_code};
-ghost use Rattle.hd_slots.specs.Parts.{rows_of, AreParts};
+ghost use Rattle.hd_slots.specs.JoinedInside.{joined_rows};
 
-use crate::counting::{IdCounts, count_codes};
+use crate::counting::IdCounts;
+use crate::resolved_rows::ResolvedRows;
 use crate::targets::Targets;
-use hd_ids::ObjectIds;
 use std::marker::Model;
 
-/// Stands for null in a slot.
-pub(crate) const NULL: u32 = 0xffff_ffff;
-
-/// The references of objects: for each object a row of IDs, each kept as a number of four bytes. A number below that
-/// of the objects is the object's; `NULL` is null; any other stands for an ID that is no object's.
+/// The references of all objects, a row of IDs for each, in two parts: the rows of the second lie behind those of the first.
+#[derive(Drop)]
 pub struct SlotTable {
-    ids: ObjectIds,
-    starts: Vec<u32>,
-    items: Vec<u32>,
-    absent: Vec<u64>,
-}
-
-impl Drop for SlotTable {
-    /// Drops the fields. A derived drop would be proved anew at each place that lets go of one.
-    fn drop(self) {
-        let Self {
-            ids,
-            starts,
-            items,
-            absent,
-        } = self;
-    }
+    front: ResolvedRows,
+    /// How many rows the first part has.
+    front_rows: usize,
+    back: ResolvedRows,
 }
 
 impl Model for SlotTable {
     ghost use Rattle.hd_slots.specs.Table.{Rows};
+    ghost use Rattle.hd_slots.specs.JoinedInside.{joined_rows, AreOfOneDump};
 
     ghost Value = { Rows };
 
-    ghost use Rattle.hd_slots.specs.Inside.{rows_in, AreRows};
+    ghost view = { λ a. joined_rows a.front a.back };
 
-    ghost view = { rows_in };
-
-    ghost invariant = { AreRows };
-}
-
-/// The ID that a number stands for, and the number of its object, if it is one's.
-fn read_code(ids: &[u64], absent: &[u64], code: u32) -> (u64, Option<u32>)
-    requires few { length ids.now < 2 ^ 32 - 1 }
-    requires is { IsCode ids.now absent.now code }
-    ensures id { result.0 ≡ id_of_code ids.now absent.now code }
-    ensures target { result.1 ≡ target_of_code ids.now code }
-{
-    if code == NULL {
-        return (0, None);
-    }
-    let index = code as usize;
-    if index < ids.len() {
-        (ids[index], Some(code))
-    } else {
-        (absent[index - ids.len()], None)
-    }
+    ghost invariant = { λ a. AreOfOneDump a.front a.front_rows a.back };
 }
 
 impl SlotTable {
-    /// The references of the objects of these IDs: rows that start at these indexes of one list of numbers.
-    pub(crate) fn new(
-        ids: ObjectIds,
-        starts: Vec<u32>,
-        items: Vec<u32>,
-        absent: Vec<u64>,
-    ) -> SlotTable
-        requires { AreParts ids starts.items items.items absent.items }
-        ensures { result ≡ rows_of ids starts.items items.items absent.items }
+    /// The rows of both parts, which are over the same IDs.
+    pub(crate) fn new(front: ResolvedRows, back: ResolvedRows) -> SlotTable
+        requires { back.ids ≡ front.ids }
+        ensures { result ≡ joined_rows front back }
     {
+        let front_rows = front.rows();
         SlotTable {
-            ids,
-            starts,
-            items,
-            absent,
+            front,
+            front_rows,
+            back,
         }
     }
 
-    /// The IDs of the objects, by number.
-    pub fn ids(&self) -> &[u64]
-        ensures { result.now ≡ self.now.ids }
+    /// How many objects there are.
+    pub fn objects(&self) -> usize
+        ensures { result ≡ length self.now.ids }
     {
-        self.ids.as_slice()
+        self.front.objects()
+    }
+
+    /// The ID of the object of a number.
+    pub fn id_of(&self, o: u32) -> u64
+        requires { o < length self.now.ids }
+        ensures { result ≡ slice_index self.now.ids o }
+    {
+        self.front.id_of(o)
     }
 
     /// The number of the object with an ID. No two objects have one ID.
@@ -95,10 +63,7 @@ impl SlotTable {
         ensures first { result ≡ position (λ x. id == x) self.now.ids }
         ensures distinct { (o : ℕ) → o < length self.now.ids → slice_index self.now.ids o ≡ id → result ≡ Some o }
     {
-        match self.ids.index_of(id) {
-            Some(object) => Some(object as u32),
-            None => None,
-        }
+        self.front.index_of(id)
     }
 
     /// How many IDs the row of an object has.
@@ -106,8 +71,11 @@ impl SlotTable {
         requires { o < length self.now.rows }
         ensures { result ≡ length (row_at self.now o) }
     {
-        let starts = self.starts.as_slice();
-        starts[o as usize + 1].saturating_sub(starts[o as usize])
+        if (o as usize) < self.front_rows {
+            self.front.row_len(o)
+        } else {
+            self.back.row_len((o as usize - self.front_rows) as u32)
+        }
     }
 
     /// The objects that the row of an object refers to, ID by ID.
@@ -116,9 +84,11 @@ impl SlotTable {
         requires { o < length self.now.rows }
         ensures { result ≡ map (λ id. position (λ x. id == x) self.now.ids) (row_at self.now o) }
     {
-        let start = self.starts.as_slice()[o as usize] as usize;
-        let len = self.row_len(o) as usize;
-        Targets::new(&self.items.as_slice()[start..start + len], self.ids.len())
+        if (o as usize) < self.front_rows {
+            self.front.targets(o)
+        } else {
+            self.back.targets((o as usize - self.front_rows) as u32)
+        }
     }
 
     /// The ID at an index of an object's row, and the number of its object, if it is one's.
@@ -128,9 +98,11 @@ impl SlotTable {
         ensures id { result.0 ≡ slice_index (row_at self.now o) i }
         ensures target { result.1 ≡ position (λ x. result.0 == x) self.now.ids }
     {
-        let start = self.starts.as_slice()[o as usize] as usize;
-        let code = self.items.as_slice()[start + i as usize];
-        read_code(self.ids.as_slice(), self.absent.as_slice(), code)
+        if (o as usize) < self.front_rows {
+            self.front.get(o, i)
+        } else {
+            self.back.get((o as usize - self.front_rows) as u32, i)
+        }
     }
 
     /// How many IDs of all rows are objects', and how many are others'.
@@ -138,11 +110,12 @@ impl SlotTable {
         ensures objects { result.objects ≡ known_in self.now }
         ensures others { result.others ≡ absent_in self.now }
     {
-        count_codes(
-            self.ids.as_slice(),
-            self.absent.as_slice(),
-            self.items.as_slice(),
-        )
+        let front = self.front.counts();
+        let back = self.back.counts();
+        IdCounts {
+            objects: front.objects + back.objects,
+            others: front.others + back.others,
+        }
     }
 
     /// The last ID of an object's row, 0 where it has none.
@@ -150,9 +123,10 @@ impl SlotTable {
         requires { o < length self.now.rows }
         ensures { result ≡ last_from 0 (row_at self.now o) }
     {
-        match self.row_len(o) {
-            0 => 0,
-            len => self.get(o, len - 1).0,
+        if (o as usize) < self.front_rows {
+            self.front.last(o)
+        } else {
+            self.back.last((o as usize - self.front_rows) as u32)
         }
     }
 }

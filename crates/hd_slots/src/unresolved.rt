@@ -1,14 +1,16 @@
 //! The references of all objects as the file has them: the offset of each ID, row by row.
 ghost use Rattle.std.specs.Prelude.{◌≡◌, ◌+◌, ◌<◌, ◌-◌, ◌^◌, [], ◌∷◌, ◌++◌, length, map, All, IfOk, OnOk, IsTrue, ◌↔◌, Some, slice_get};
+ghost use Rattle.std.specs.Arc.{arc_value};
 ghost use Rattle.hd_terms.specs.Records.{id_len};
 ghost use Rattle.hd_slots.specs.Table.{id_at, IsIdWithin};
 
+use crate::resolved_rows::ResolvedRows;
 use crate::resolving::resolve_offsets;
-use crate::slot_table::SlotTable;
-use hd_ids::ObjectIds;
+use hd_ids::JoinedIds;
 use hd_terms::IdSize;
 use std::alloc::{AllocError, Global};
 use std::marker::Model;
+use std::sync::Arc;
 use std::thread::Threads;
 
 /// A file of so many bytes is large: there is room at once for IDs in all of it. In a smaller one there is room for IDs in half of
@@ -20,7 +22,7 @@ const LARGE: usize = 1 << 26;
 pub struct UnresolvedSlots<'a> {
     bytes: &'a [u8],
     id_size: IdSize,
-    ids: ObjectIds,
+    ids: Arc<JoinedIds>,
     starts: Vec<u32>,
     offsets: Vec<u32>,
 }
@@ -50,17 +52,6 @@ impl<'a> Model for UnresolvedSlots<'a> {
     ghost invariant = { IsUnresolved };
 }
 
-/// Adds starts of rows that are so much later.
-fn push_later(starts: &mut Vec<u32>, base: u32, more: &[u32]) -> Result<(), AllocError>
-    requires { All (λ start. base + start < 2 ^ 32) more.now }
-    ensures { OnOk result (starts.new.items ≡ starts.old.items ++ map (λ start. base + start) more.now) }
-{
-    for i in 0..more.len() {
-        starts.push(base + more[i])?;
-    }
-    Ok(())
-}
-
 impl<'a> UnresolvedSlots<'a> {
     /// No rows yet, over the objects of these IDs, in the order of their numbers. There is room for the starts of `rows` rows, and,
     /// where the system has it, for as many IDs as would fill the file, or half of one that isn't large.
@@ -68,13 +59,13 @@ impl<'a> UnresolvedSlots<'a> {
         alloc: Global,
         bytes: &'a [u8],
         id_size: IdSize,
-        ids: ObjectIds,
+        ids: Arc<JoinedIds>,
         rows: usize,
     ) -> Result<UnresolvedSlots<'a>, AllocError>
         requires small { length bytes.now < 2 ^ 31 }
-        requires few { length ids < 2 ^ 31 }
-        requires no_null { All (λ id. 0 < id) ids }
-        ensures { IfOk result (λ t. t ≡ record { bytes = bytes.now; size = id_size; ids = ids; rows = []; filling = []; count = 0 }) }
+        requires few { length (arc_value ids) < 2 ^ 31 }
+        requires no_null { All (λ id. 0 < id) (arc_value ids) }
+        ensures { IfOk result (λ t. t ≡ record { bytes = bytes.now; size = id_size; ids = arc_value ids; rows = []; filling = []; count = 0 }) }
     {
         let mut starts = Vec::with_capacity(alloc, rows.saturating_add(1))?;
         starts.push(0)?;
@@ -136,16 +127,15 @@ impl<'a> UnresolvedSlots<'a> {
         ensures { IsTrue result ↔ (slice_get self.now.ids (length self.now.rows) ≡ Some id) }
     {
         let next = self.starts.len() - 1;
-        let ids = self.ids.as_slice();
-        next < ids.len() && ids[next] == id
+        next < self.ids.len() && self.ids.get(next) == id
     }
 
     /// The same rows, over the objects of these IDs.
-    pub fn with_ids(self, ids: ObjectIds) -> UnresolvedSlots<'a>
-        requires few { length ids < 2 ^ 31 }
-        requires no_null { All (λ id. 0 < id) ids }
-        requires room { length ids + self.count < 2 ^ 32 }
-        ensures { result ≡ record self.entry { ids = ids } }
+    pub(crate) fn with_ids(self, ids: Arc<JoinedIds>) -> UnresolvedSlots<'a>
+        requires few { length (arc_value ids) < 2 ^ 31 }
+        requires no_null { All (λ id. 0 < id) (arc_value ids) }
+        requires room { length (arc_value ids) + self.count < 2 ^ 32 }
+        ensures { result ≡ record self.entry { ids = arc_value ids } }
     {
         let Self {
             bytes,
@@ -164,43 +154,12 @@ impl<'a> UnresolvedSlots<'a> {
         }
     }
 
-    /// The same rows, and behind them those of others, which are of the same file. No row is being filled.
-    ///
-    /// # Errors
-    ///
-    /// Out of memory.
-    pub fn with_rows_of(
-        self,
-        others: &UnresolvedSlots<'_>,
-    ) -> Result<UnresolvedSlots<'a>, AllocError>
-        requires bytes { others.now.bytes ≡ self.bytes }
-        requires size { others.now.size ≡ self.size }
-        requires filled { self.filling ≡ [] }
-        requires others_filled { others.now.filling ≡ [] }
-        requires room { length self.ids + self.count + others.now.count < 2 ^ 32 }
-        ensures { IfOk result (λ t. t ≡ record self.entry { rows = self.entry.rows ++ others.entry.now.rows; count = self.entry.count + others.entry.now.count }) }
-    {
-        let Self {
-            bytes,
-            id_size,
-            ids,
-            mut starts,
-            mut offsets,
-        } = self;
-        let base = offsets.len() as u32;
-        offsets.extend_from_slice(others.offsets.as_slice())?;
-        push_later(&mut starts, base, &others.starts.as_slice()[1..])?;
-        Ok(UnresolvedSlots {
-            bytes,
-            id_size,
-            ids,
-            starts,
-            offsets,
-        })
-    }
-
     /// The rows by numbers of objects, which are looked for on all processors. No row is being filled.
-    pub fn resolve<R: Threads + Sync>(self, rt: &R, alloc: Global) -> Result<SlotTable, AllocError>
+    pub(crate) fn resolve<R: Threads + Sync>(
+        self,
+        rt: &R,
+        alloc: Global,
+    ) -> Result<ResolvedRows, AllocError>
         requires filled { self.filling ≡ [] }
         ensures { IfOk result (λ t. t ≡ record { ids = self.entry.ids; rows = self.entry.rows }) }
     {
@@ -212,7 +171,7 @@ impl<'a> UnresolvedSlots<'a> {
             offsets: mut items,
         } = self;
         let absent = resolve_offsets(rt, alloc, &ids, id_size, bytes, items.as_mut_slice())?;
-        let slot_table = SlotTable::new(ids, starts, items, absent);
+        let slot_table = ResolvedRows::new(ids, starts, items, absent);
         Ok(slot_table)
     }
 }

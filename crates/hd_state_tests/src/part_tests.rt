@@ -66,6 +66,30 @@ fn row_through_all_parts(rt: HostRuntime) {
     }
 }
 
+#[test]
+fn id_of_both_halves(rt: HostRuntime) {
+    // the last array has the ID of the first, which two threads number: it is the first that stands
+    let mut text = to_and_fro(&rt, rt.alloc());
+    text.push_str("array 1: 2\n").expect(&rt, "the text grows");
+    let graph = graph_of(&rt, rt.alloc(), text.as_str()).expect(&rt, "the dump opens");
+    assert_eq!(rt; graph.objects(), ARRAYS);
+    let numbers = [1, 2, 0x249f0, 0x249f1, 0x493e0, 0x493e1].map(|id| graph.index_of(id));
+    let wanted = [
+        Some(0),
+        Some(1),
+        Some(149_999),
+        Some(150_000),
+        Some(299_999),
+        None,
+    ];
+    assert_eq!(rt; numbers, wanted);
+    let first = graph
+        .slot_index(0, Slot::Element(0))
+        .expect(&rt, "the slot is there");
+    assert!(rt; first < graph.slots_len(0));
+    assert_eq!(rt; graph.slots(0, first).target, Some(299_999));
+}
+
 /// How many arrays of a crowd the first array refers to. So many wait at once that a round has several threads.
 const FAN: u32 = 100_000;
 

@@ -1,6 +1,7 @@
 //! The IDs of objects, compared with a set of the library: close together, at odd addresses, far apart, and repeated.
-use hd_ids::ObjectIds;
+use hd_ids::{JoinedIds, ObjectIds};
 use indexmap::IndexSet;
+use std::alloc::Global;
 use std::process::Abort;
 
 /// The next number of a sequence that looks random.
@@ -140,7 +141,7 @@ fn ids_at_the_ends(rt: HostRuntime) {
     assert_eq!(rt; ids.as_slice(), once.as_slice());
 }
 
-/// The ID at an offset of a page of 4,096 addresses. The rows of pages whose numbers are 1,024 apart take turns in one place of
+/// The ID at an offset of a page of 4,096 addresses. The rows of pages whose numbers are 512 apart take turns in one place of
 /// a finder.
 fn id_in(page: u64, offset: u64) -> u64 {
     page.wrapping_mul(4096).wrapping_add(offset)
@@ -149,7 +150,7 @@ fn id_in(page: u64, offset: u64) -> u64 {
 #[test]
 fn finder_of_pages_with_one_place(rt: HostRuntime) {
     let mut ids = ObjectIds::with_capacity(rt.alloc(), 0, 5).expect(&rt, "an index is made");
-    let (first, second, none) = (7, 7 + 1024, 7 + 2048);
+    let (first, second, none) = (7, 7 + 512, 7 + 1024);
     for id in [id_in(first, 0), id_in(second, 0), id_in(first, 8)] {
         ids.note(id).expect(&rt, "the ID is noted");
     }
@@ -160,4 +161,52 @@ fn finder_of_pages_with_one_place(rt: HostRuntime) {
     assert_eq!(rt; finder.index_of(id_in(none, 8)), None);
     assert_eq!(rt; finder.index_of(id_in(first, 8)), Some(2));
     assert_eq!(rt; finder.index_of(id_in(second, 8)), None);
+}
+
+/// These IDs, noted one after another.
+fn ids_of<R: Abort>(rt: &R, alloc: Global, more: &[u64]) -> ObjectIds {
+    let mut ids = ObjectIds::with_capacity(alloc, 0, 9).expect(rt, "an index is made");
+    for id in more {
+        ids.note(*id).expect(rt, "the ID is noted");
+    }
+    ids
+}
+
+#[test]
+fn ids_of_two_parts(rt: HostRuntime) {
+    // 0x1008 and 0x1010 lie on one page, 0x9000 on another
+    let front = ids_of(&rt, rt.alloc(), &[0x1008, 0x9000]);
+    let back = ids_of(&rt, rt.alloc(), &[0x2000, 0x1010]);
+    let ids = JoinedIds::join(front, back).expect(&rt, "no ID is in both");
+    assert_eq!(rt; ids.len(), 4);
+    let numbers = [0x1008, 0x9000, 0x2000, 0x1010, 0x1018].map(|id| ids.index_of(id));
+    assert_eq!(rt; numbers, [Some(0), Some(1), Some(2), Some(3), None]);
+    let mut finder = ids.finder();
+    for (number, id) in [0x1008, 0x9000, 0x2000, 0x1010].into_iter().enumerate() {
+        assert_eq!(rt; finder.index_of(id), Some(number));
+        if number < ids.len() {
+            assert_eq!(rt; ids.get(number), id);
+        }
+    }
+    assert_eq!(rt; finder.index_of(0x1018), None);
+}
+
+#[test]
+fn ids_of_both_parts(rt: HostRuntime) {
+    let front = ids_of(&rt, rt.alloc(), &[0x1008, 0x9000]);
+    let back = ids_of(&rt, rt.alloc(), &[0x2000, 0x1008]);
+    assert!(rt; JoinedIds::join(front, back).is_none());
+}
+
+#[test]
+fn ids_of_one_part(rt: HostRuntime) {
+    let none = JoinedIds::none(rt.alloc()).expect(&rt, "an index is made");
+    assert_eq!(rt; (none.len(), none.index_of(8)), (0, None));
+    let front = ids_of(&rt, rt.alloc(), &[8, 16]);
+    let alone = JoinedIds::alone(rt.alloc(), front).expect(&rt, "an index is made");
+    assert_eq!(rt; alone.len(), 2);
+    assert_eq!(rt;
+        [8, 16, 24].map(|id| alone.index_of(id)),
+        [Some(0), Some(1), None]
+    );
 }

@@ -1,4 +1,4 @@
-use Rattle.std.proofs.Common.{◌≡◌, ◌+◌, ◌<◌, ℕ, List, length, ap, subst, arith}
+use Rattle.std.proofs.Common.{◌≡◌, ◌+◌, ◌<◌, ℕ, length, subst, arith}
 use Rattle.hd_graph.specs.Shapes.{row_objects}
 use Rattle.hd_graph.specs.Kinds.{IsReferentEdge, AreKindsBetween, part_start}
 use Rattle.hd_graph.proofs.ArrayLemmas.{length-row_objects}
@@ -8,13 +8,13 @@ use Rattle.hd_graph.proofs.kinds.kinds_of_part.Goals.{in-Some+in_ok-push, in_def
 
 pub loop-o-init : goal.loop-o-init
 loop-o-init c =
-    kinds-none (row_objects c.args.shapes.now.objects c.args.slot_table.now.ids c.args.slot_table.now.rows) (part_start (length c.ids-objects.result.now) c.args.part) c.none-lists.result c.none-lists.ensures
+    kinds-none (row_objects c.args.shapes.now.objects c.args.slot_table.now.ids c.args.slot_table.now.rows) (part_start c.objects-objects.result c.args.part) c.none-lists.result c.none-lists.ensures
 
 pub loop-o-preserved : goal.loop-o-preserved
 loop-o-preserved c =
     let objects = row_objects c.args.shapes.now.objects c.args.slot_table.now.ids c.args.slot_table.now.rows in
-    let n : ℕ = length c.ids-objects.result.now in
-    let many : n ≡ length c.args.slot_table.now.ids = ap (λ (xs : List ℕ). length xs) c.ids-objects.ensures in
+    let n : ℕ = c.objects-objects.result in
+    let many : n ≡ length c.args.slot_table.now.ids = c.objects-objects.ensures in
     let all = length-row_objects c.args.shapes.now.objects c.args.slot_table.now.ids c.args.slot_table.now.rows c.requires.columns in
     let lt : c.loop-o.o < length objects = omega (arith, c.loop-o-test.true, part-within n (c.args.part + 1) (omega (arith, c.requires.part)), many, all) in
     elim c.match-referent_edge.branch [
@@ -31,8 +31,8 @@ loop-o-preserved c =
 pub returns : goal.returns
 returns c =
     let objects = row_objects c.args.shapes.now.objects c.args.slot_table.now.ids c.args.slot_table.now.rows in
-    let n : ℕ = length c.ids-objects.result.now in
-    let many : n ≡ length c.args.slot_table.now.ids = ap (λ (xs : List ℕ). length xs) c.ids-objects.ensures in
+    let n : ℕ = c.objects-objects.result in
+    let many : n ≡ length c.args.slot_table.now.ids = c.objects-objects.ensures in
     let all : n ≡ length objects = omega (arith, many, length-row_objects c.args.shapes.now.objects c.args.slot_table.now.ids c.args.slot_table.now.rows c.requires.columns) in
     let end : c.loop-o.o ≡ part_start n (c.args.part + 1) = omega (arith, c.loop-o-test.false, part-order n c.args.part) in
     subst (λ (m : ℕ). AreKindsBetween objects (part_start m c.args.part) (part_start m (c.args.part + 1)) c.loop-o.lists) all

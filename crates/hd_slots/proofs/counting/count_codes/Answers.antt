@@ -4,11 +4,11 @@ use Rattle.std.proofs.lemmas.Bool.{lt-ltb, le-ltb}
 use Rattle.std.proofs.lemmas.List.{length-map, get_or-map}
 use Rattle.std.proofs.lemmas.List.Sums.{count_by_more_yes, count_by_more_no}
 use Rattle.hd_slots.specs.Table.{is_known, is_absent}
-use Rattle.hd_slots.specs.Codes.{IsCode, id_of_code}
+use Rattle.hd_slots.specs.Codes.{id_of_code}
 use Rattle.hd_slots.specs.declared.counting.IdCounts.{IdCounts}
 use Rattle.hd_slots.proofs.CodeLemmas.{known-code}
 use Rattle.hd_slots.proofs.counting.count_codes.Goals as goal
-use Rattle.hd_slots.proofs.counting.count_codes.Goals.{then-code-ids, else-code-ids, then-is_other, else-is_other}
+use Rattle.hd_slots.proofs.counting.count_codes.Goals.{then-code-objects, else-code-objects, then-is_other, else-is_other}
 
 pub loop-i-preserved : goal.loop-i-preserved
 loop-i-preserved c =
@@ -24,13 +24,13 @@ loop-i-preserved c =
     let known : is_known ids (get_or xs i 0) ≡ ltb code (length ids) = ap (is_known ids) here ∙ known-code ids absent code (c.requires.codes i 0 lt) in
     let other : is_absent ids (get_or xs i 0) ≡ c.is_other.result = ap (is_absent ids) here ∙ sym c.is_other.ensures in
     let h = c.loop-i.invariant in
-    let first : (c.if-code-ids.counts.objects ≡ count_by (is_known ids) (take (i + 1) xs)) × (c.if-code-ids.counts.objects ≤ i + 1) × (c.if-code-ids.counts.others ≡ c.loop-i.counts.others) = elim c.if-code-ids.branch [
-      | then-code-ids w ↦
+    let first : (c.if-code-objects.counts.objects ≡ count_by (is_known ids) (take (i + 1) xs)) × (c.if-code-objects.counts.objects ≤ i + 1) × (c.if-code-objects.counts.others ≡ c.loop-i.counts.others) = elim c.if-code-objects.branch [
+      | then-code-objects w ↦
           let objects = ap (λ (x : IdCounts). x.objects) w.counts-is in
-          (omega (arith, objects, h.objects, count_by_more_yes (is_known ids) xs i 0 within (known ∙ lt-ltb code (length ids) w.if-code-ids.true)), omega (arith, objects, h.few_objects), ap (λ (x : IdCounts). x.others) w.counts-is)
-      | else-code-ids w ↦
+          (omega (arith, objects, h.objects, count_by_more_yes (is_known ids) xs i 0 within (known ∙ lt-ltb code (length ids) (omega (arith, w.if-code-objects.true, c.len-objects.ensures)))), omega (arith, objects, h.few_objects), ap (λ (x : IdCounts). x.others) w.counts-is)
+      | else-code-objects w ↦
           let objects = ap (λ (x : IdCounts). x.objects) w.counts-is in
-          (omega (arith, objects, h.objects, count_by_more_no (is_known ids) xs i 0 within (known ∙ le-ltb code (length ids) (omega (arith, w.if-code-ids.false)))), omega (arith, objects, h.few_objects), ap (λ (x : IdCounts). x.others) w.counts-is)
+          (omega (arith, objects, h.objects, count_by_more_no (is_known ids) xs i 0 within (known ∙ le-ltb code (length ids) (omega (arith, w.if-code-objects.false, c.len-objects.ensures)))), omega (arith, objects, h.few_objects), ap (λ (x : IdCounts). x.others) w.counts-is)
     ] in
     elim c.if-is_other.branch [
       | then-is_other w ↦

@@ -7,15 +7,11 @@ use Rattle.hd_slots.proofs.resolving.resolve_offsets.Goals as goal
 pub keep_absent-requires-clause-found : goal.keep_absent-requires-clause-found
 keep_absent-requires-clause-found g c =
     let found = all-found c.args.ids.now c.args.bytes.now c.args.id_size c.requires.few c.requires.small c.requires.no_null c.args.items.now c.requires.within in
-    let all : All (IsFound c.args.ids.now c.args.bytes.now c.args.id_size) c.find_objects.new.items =
-    subst (All (IsFound c.args.ids.now c.args.bytes.now c.args.id_size)) (sym c.find_objects.ensures) found.0 in
-    subst (λ (ids : List ℕ). All (IsFound ids c.args.bytes.now c.args.id_size) c.find_objects.new.items) (sym c.as_slice.ensures.ids) all
+    subst (All (IsFound c.args.ids.now c.args.bytes.now c.args.id_size)) (sym c.find_objects.ensures) found.0
 
 pub returns-clause-codes : goal.returns-clause-codes
 returns-clause-codes g c =
     let found = all-found c.args.ids.now c.args.bytes.now c.args.id_size c.requires.few c.requires.small c.requires.no_null c.args.items.now c.requires.within in
     let wanted : map (id_of_found c.args.ids.now c.args.bytes.now c.args.id_size) c.find_objects.new.items ≡ map (id_at c.args.bytes.now c.args.id_size) c.args.items.now =
     ap (map (id_of_found c.args.ids.now c.args.bytes.now c.args.id_size)) c.find_objects.ensures ∙ found.1 in
-    let codes : AreCodesOf c.args.ids.now (map (id_of_found c.args.ids.now c.args.bytes.now c.args.id_size) c.find_objects.new.items) c.keep_absent.new.items c.in_ok-absent.absent.items =
-    subst (λ (ids : List ℕ). AreCodesOf ids (map (id_of_found ids c.args.bytes.now c.args.id_size) c.find_objects.new.items) c.keep_absent.new.items c.in_ok-absent.absent.items) c.as_slice.ensures.ids c.in_ok-absent.ensures in
-    subst (λ (xs : List ℕ). AreCodesOf c.args.ids.now xs c.keep_absent.new.items c.in_ok-absent.absent.items) wanted codes
+    subst (λ (xs : List ℕ). AreCodesOf c.args.ids.now xs c.keep_absent.new.items c.in_ok-absent.absent.items) wanted c.in_ok-absent.ensures

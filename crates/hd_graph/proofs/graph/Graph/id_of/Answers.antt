@@ -1,19 +1,19 @@
-use Rattle.std.proofs.Common.{◌∙◌, ℕ, ◌<◌, List, length, get_or, ap, sym, arith}
+use Rattle.std.proofs.Common.{◌∙◌, ◌<◌, length, ap, sym, arith}
 use Rattle.hd_terms.specs.Dump.{Object, Dump, object_at}
 use Rattle.hd_graph.specs.Shapes.{row_objects}
 use Rattle.hd_graph.proofs.ArrayLemmas.{length-row_objects, row_objects-at, any_shape}
 use Rattle.hd_graph.proofs.graph.Graph.id_of.Goals as goal
 
-pub bounds-ids-o : goal.bounds-ids-o
-bounds-ids-o c =
+pub id_of-requires : goal.id_of-requires
+id_of-requires c =
     let a = c.self.inside in
     let lt : c.args.o < length (row_objects a.shapes.objects a.slot_table.ids a.slot_table.rows) = rw (← c.self.view_is) at c.requires in
-    rw c.ids.ensures (omega (arith, length-row_objects a.shapes.objects a.slot_table.ids a.slot_table.rows c.self.invariant.columns))
+    omega (arith, length-row_objects a.shapes.objects a.slot_table.ids a.slot_table.rows c.self.invariant.columns)
 
 pub returns : goal.returns
 returns c =
     let a = c.self.inside in
     let lt : c.args.o < length (row_objects a.shapes.objects a.slot_table.ids a.slot_table.rows) = rw (← c.self.view_is) at c.requires in
-    ap (λ (ids : List ℕ). get_or ids c.args.o 0) c.ids.ensures
+    c.id_of.ensures
     ∙ sym (ap (λ (x : Object). x.id) (row_objects-at a.shapes.objects a.slot_table.ids a.slot_table.rows c.self.invariant.columns any_shape c.args.o (omega (arith, length-row_objects a.shapes.objects a.slot_table.ids a.slot_table.rows c.self.invariant.columns))))
     ∙ ap (λ (dump : Dump). (object_at dump c.args.o).id) c.self.view_is

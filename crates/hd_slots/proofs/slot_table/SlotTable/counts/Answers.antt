@@ -1,20 +1,19 @@
-use Rattle.std.proofs.Common.{◌∙◌, List, ℕ, map, sym, ap}
-use Rattle.std.specs.Prelude.{count_by}
-use Rattle.hd_slots.specs.Table.{Rows, is_known, is_absent, known_in, absent_in}
-use Rattle.hd_slots.specs.Codes.{id_of_code}
-use Rattle.hd_slots.proofs.TableLemmas.{ids-counted}
+use Rattle.std.proofs.Common.{◌≡◌, ◌∙◌, ℕ, List, ap, arith}
+use Rattle.std.specs.Prelude.{count_by, sum_by}
+use Rattle.std.proofs.lemmas.List.Sums.{sum_by-append}
+use Rattle.hd_slots.specs.Table.{is_known, is_absent, known_in, absent_in}
 use Rattle.hd_slots.proofs.slot_table.SlotTable.counts.Goals as goal
 
 pub returns-clause-objects : goal.returns-clause-objects
 returns-clause-objects c =
     let a = c.self.inside in
-    c.count_codes.ensures.objects
-    ∙ rw (c.as_slice.ensures.ids, c.as_slice-2.ensures.value, c.as_slice-3.ensures.value) (sym (ids-counted a.ids a.starts.items a.items.items a.absent.items c.self.invariant (is_known a.ids)))
-    ∙ ap known_in c.self.view_is
+    let back : c.counts-back.result.objects ≡ sum_by (count_by (is_known a.front.ids)) a.back.rows =
+    c.counts-back.ensures.objects ∙ ap (λ (ids : List ℕ). sum_by (count_by (is_known ids)) a.back.rows) c.self.invariant.ids_are in
+    omega (arith, c.counts-front.ensures.objects, back, sum_by-append (count_by (is_known a.front.ids)) a.front.rows a.back.rows) ∙ ap known_in c.self.view_is
 
 pub returns-clause-others : goal.returns-clause-others
 returns-clause-others c =
     let a = c.self.inside in
-    c.count_codes.ensures.others
-    ∙ rw (c.as_slice.ensures.ids, c.as_slice-2.ensures.value, c.as_slice-3.ensures.value) (sym (ids-counted a.ids a.starts.items a.items.items a.absent.items c.self.invariant (is_absent a.ids)))
-    ∙ ap absent_in c.self.view_is
+    let back : c.counts-back.result.others ≡ sum_by (count_by (is_absent a.front.ids)) a.back.rows =
+    c.counts-back.ensures.others ∙ ap (λ (ids : List ℕ). sum_by (count_by (is_absent ids)) a.back.rows) c.self.invariant.ids_are in
+    omega (arith, c.counts-front.ensures.others, back, sum_by-append (count_by (is_absent a.front.ids)) a.front.rows a.back.rows) ∙ ap absent_in c.self.view_is

@@ -1,4 +1,5 @@
 use Rattle.std.proofs.Common.{◌≡◌, ◌∙◌, List, ℕ, [], ◌∷◌, ◌++◌, length, sym, ap, subst}
+use Rattle.std.specs.Arc.{arc_value}
 use Rattle.hd_slots.specs.Table.{Table}
 use Rattle.hd_slots.specs.Parts.{table_from, AreOffsets}
 use Rattle.hd_slots.proofs.TableLemmas.{table-end, offsets-end}
@@ -11,11 +12,11 @@ starts c = c.in_ok-push.ensures.items ∙ ap (λ (n : ℕ). c.self.inside.starts
 pub returns : goal.returns
 returns c =
     let a = c.self.inside in
-    ap (λ (ss : List ℕ). table_from a.bytes.now a.id_size a.ids ss a.offsets.items) (starts (goal.at.returns c).In_ok-push)
-    ∙ table-end a.bytes.now a.id_size a.ids a.starts.items a.offsets.items c.self.invariant
+    ap (λ (ss : List ℕ). table_from a.bytes.now a.id_size (arc_value a.ids) ss a.offsets.items) (starts (goal.at.returns c).In_ok-push)
+    ∙ table-end a.bytes.now a.id_size (arc_value a.ids) a.starts.items a.offsets.items c.self.invariant
     ∙ ap (λ (t : Table). record t { rows = t.rows ++ t.filling ∷ []; filling = [] }) c.self.view_is
 
 pub invariant_of-self-2 : goal.invariant_of-self-2
 invariant_of-self-2 c =
     let a = c.self.inside in
-    subst (λ (ss : List ℕ). AreOffsets a.bytes.now a.id_size a.ids ss a.offsets.items) (sym (starts (goal.at.invariant_of-self-2 c).In_ok-push)) (offsets-end a.bytes.now a.id_size a.ids a.starts.items a.offsets.items c.self.invariant)
+    subst (λ (ss : List ℕ). AreOffsets a.bytes.now a.id_size (arc_value a.ids) ss a.offsets.items) (sym (starts (goal.at.invariant_of-self-2 c).In_ok-push)) (offsets-end a.bytes.now a.id_size (arc_value a.ids) a.starts.items a.offsets.items c.self.invariant)

@@ -1,7 +1,7 @@
 use Rattle.std.proofs.Common.{◌∙◌, ◌-◌, sym, arith}
 use Rattle.hd_slots.specs.Table.{row_at}
 use Rattle.hd_slots.proofs.CutLemmas.{last-at, last-none}
-use Rattle.hd_slots.proofs.slot_table.SlotTable.last.Goals as goal
+use Rattle.hd_slots.proofs.resolved_rows.ResolvedRows.last.Goals as goal
 
 pub returns-in-0 : goal.returns-in-0
 returns-in-0 c = sym (last-none (row_at c.args.self.now c.args.o) (omega arith))

@@ -1,0 +1,124 @@
+//! Numbering the objects of a file by two threads.
+ghost use Rattle.std.specs.Prelude.{◌≡◌, ◌+◌, ◌-◌, ◌<◌, ◌≤◌, ◌^◌, ◌++◌, ℕ, false, true, length, drop, All, IfOk, IfErr, MatchOption};
+ghost use Rattle.hd_terms.specs.Classes as classes_of;
+ghost use Rattle.hd_ids.specs.Noted.{are_apart};
+ghost use Rattle.hd_classes.specs.Known.{known_at};
+ghost use Rattle.hd_graph.specs.Building.{stretch};
+ghost use Rattle.hd_graph.specs.Numbering.{IsNumbered, IsObjectFaultOrMemory, JoinsNumbers};
+
+use crate::graph::StoredRoot;
+use crate::number::{NumberedStretch, Tally, number_stretch};
+use hd_classes::Classes;
+use hd_ids::JoinedIds;
+use hd_subs::DumpSubs;
+use hd_terms::{IdSize, ReadFault};
+use std::alloc::{AllocError, Global};
+use std::thread::{Threads, join};
+
+/// From how many sub-records on two threads number the objects.
+const MANY: usize = 1 << 18;
+
+/// The numbers of the objects of a file, and the roots.
+#[derive(Drop)]
+pub(crate) struct Numbered {
+    pub(crate) ids: JoinedIds,
+    pub(crate) roots: Vec<StoredRoot>,
+    pub(crate) tally: Tally,
+}
+
+/// The objects of two stretches of sub-records, those of the second numbered behind those of the first; `None` if an ID is in both.
+fn join_numbers(
+    front: NumberedStretch,
+    back: NumberedStretch,
+) -> Result<Option<Numbered>, AllocError>
+    requires repeated { front.tally.repeated + back.tally.repeated < 2 ^ 64 }
+    requires opaque { front.tally.opaque + back.tally.opaque < 2 ^ 64 }
+    ensures { IfOk result (λ joined. MatchOption joined (are_apart front.ids back.ids ≡ false) (JoinsNumbers front back)) }
+{
+    let NumberedStretch {
+        ids,
+        mut roots,
+        tally,
+    } = front;
+    let NumberedStretch {
+        ids: more_ids,
+        roots: more_roots,
+        tally: more,
+    } = back;
+    let Some(ids) = JoinedIds::join(ids, more_ids) else {
+        return Ok(None);
+    };
+    roots.extend_from_slice(more_roots.as_slice())?;
+    let tally = Tally {
+        repeated: tally.repeated + more.repeated,
+        opaque: tally.opaque + more.opaque,
+    };
+    Ok(Some(Numbered { ids, roots, tally }))
+}
+
+/// The same by one thread.
+fn number_alone(
+    alloc: Global,
+    list: &DumpSubs<'_>,
+    classes: &Classes,
+    id_size: IdSize,
+    secret: u64,
+) -> Result<Numbered, ReadFault>
+    requires short { All (λ (p : ℕ × classes_of.ResolvedClass). length p.1.layout < 2 ^ 29) classes.now.classes }
+    ensures ok { IfOk result (λ n. IsNumbered (known_at classes.now) id_size list.now n.ids n.roots.items n.tally) }
+    ensures err { IfErr result (λ f. IsObjectFaultOrMemory (known_at classes.now) id_size list.now f) }
+{
+    let NumberedStretch { ids, roots, tally } = number_stretch(
+        alloc,
+        list,
+        classes,
+        id_size,
+        secret,
+        0,
+        list.len(),
+    )?;
+    let ids = JoinedIds::alone(alloc, ids)?;
+    Ok(Numbered { ids, roots, tally })
+}
+
+/// Numbers the objects by their IDs, each ID once, counts those that are repeated or opaque, and collects the roots. An object
+/// with ID 0, and an instance that doesn't fit its class's layout, are faults. The secret is for the hashes of IDs.
+///
+/// Where there are many, two threads number a half each, or, where the system refuses a thread, one after the other. If an ID is in
+/// both halves, or there is a fault, one thread does all anew.
+pub(crate) fn number<R: Threads + Sync>(
+    rt: &R,
+    alloc: Global,
+    list: &DumpSubs<'_>,
+    classes: &Classes,
+    id_size: IdSize,
+    secret: u64,
+) -> Result<Numbered, ReadFault>
+    requires short { All (λ (p : ℕ × classes_of.ResolvedClass). length p.1.layout < 2 ^ 29) classes.now.classes }
+    ensures ok { IfOk result (λ n. IsNumbered (known_at classes.now) id_size list.now n.ids n.roots.items n.tally) }
+    ensures err { IfErr result (λ f. IsObjectFaultOrMemory (known_at classes.now) id_size list.now f) }
+{
+    let len = list.len();
+    if len < MANY {
+        return number_alone(alloc, list, classes, id_size, secret);
+    }
+    let half = len / 2;
+    let front = || -> Result<NumberedStretch, ReadFault>
+        requires short { All (λ (p : ℕ × classes_of.ResolvedClass). length p.1.layout < 2 ^ 29) classes.now.classes }
+        requires there { half ≤ length list.now }
+        ensures { IfOk result (λ n. IsNumbered (known_at classes.entry.now) id_size (stretch 0 (half - 0) list.entry.now) n.ids n.roots.items n.tally) }
+    { number_stretch(alloc, list, classes, id_size, secret, 0, half) };
+    let back = || -> Result<NumberedStretch, ReadFault>
+        requires short { All (λ (p : ℕ × classes_of.ResolvedClass). length p.1.layout < 2 ^ 29) classes.now.classes }
+        requires there { (half ≤ len) × (len ≤ length list.now) }
+        ensures { IfOk result (λ n. IsNumbered (known_at classes.entry.now) id_size (stretch half (len - half) list.entry.now) n.ids n.roots.items n.tally) }
+    { number_stretch(alloc, list, classes, id_size, secret, half, len) };
+    let (front, back) = join(rt, front, back);
+    if let Ok(front) = front
+        && let Ok(back) = back
+        && let Some(numbered) = join_numbers(front, back)?
+    {
+        return Ok(numbered);
+    }
+    number_alone(alloc, list, classes, id_size, secret)
+}

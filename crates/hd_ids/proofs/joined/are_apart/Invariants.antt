@@ -1,0 +1,8 @@
+use Rattle.std.proofs.Common.{◌≡◌, false, take}
+use Rattle.std.specs.List.{list_any}
+use Rattle.hd_ids.specs.Noted.{is_noted}
+use Rattle.hd_ids.proofs.joined.are_apart.Given as goal
+
+-- none of the IDs so far is one of the first part
+abbrev pub invariant-loop-id : goal.invariant-loop-id
+invariant-loop-id l = (list_any (is_noted l.front) (take l.id-index l.back) ≡ false) × (l.finder ≡ l.front)

@@ -1,0 +1,183 @@
+//! The IDs of two parts of a dump, one behind the other.
+ghost use Rattle.std.specs.Prelude.{◌≡◌, ℕ, ◌==◌, ◌<◌, ◌++◌, [], length, true, false, position, Some, slice_index, IfOk, MatchOption};
+ghost use Rattle.hd_ids.specs.Noted.{are_apart};
+
+use crate::finder::Finder;
+use crate::ids::ObjectIds;
+use std::alloc::{AllocError, Global};
+use std::marker::Model;
+
+/// IDs of objects, each once, in two parts: those of the second are numbered behind those of the first.
+///
+/// Two threads number a part of the objects each, and nothing has to be copied where the parts are put together. Few pages of the
+/// heap have IDs of both. An ID is looked for in the first part, and where it isn't there in the second.
+pub struct JoinedIds {
+    front: ObjectIds,
+    /// How many IDs the first part has.
+    front_len: usize,
+    back: ObjectIds,
+}
+
+impl Drop for JoinedIds {
+    /// Drops the fields. A derived drop would be proved anew at each place that lets go of one.
+    fn drop(self) {
+        let Self {
+            front,
+            front_len: _,
+            back,
+        } = self;
+    }
+}
+
+impl Model for JoinedIds {
+    ghost use Rattle.std.specs.Prelude.{ℕ, List, ◌++◌};
+    ghost use Rattle.hd_ids.specs.Joined.{AreJoined};
+
+    ghost Value = { List ℕ };
+
+    ghost view = { λ a. a.front ++ a.back };
+
+    ghost invariant = { λ a. AreJoined a.front a.front_len a.back };
+}
+
+/// Whether no ID is in both.
+fn are_apart(front: &ObjectIds, back: &[u64]) -> bool
+    ensures { result ≡ are_apart front.now back.now }
+{
+    let mut finder = front.finder();
+    for id in back {
+        if finder.index_of(*id).is_some() {
+            return false;
+        }
+    }
+    true
+}
+
+impl JoinedIds {
+    /// No IDs.
+    ///
+    /// # Errors
+    ///
+    /// Out of memory.
+    pub fn none(alloc: Global) -> Result<JoinedIds, AllocError>
+        ensures { IfOk result (λ ids. ids ≡ []) }
+    {
+        let front = ObjectIds::with_capacity(alloc, 0, 0)?;
+        JoinedIds::alone(alloc, front)
+    }
+
+    /// These IDs, with none behind them.
+    ///
+    /// # Errors
+    ///
+    /// Out of memory.
+    pub fn alone(alloc: Global, ids: ObjectIds) -> Result<JoinedIds, AllocError>
+        ensures { IfOk result (λ joined. joined ≡ ids) }
+    {
+        let front_len = ids.as_slice().len();
+        let back = ObjectIds::with_capacity(alloc, 0, 0)?;
+        Ok(JoinedIds {
+            front: ids,
+            front_len,
+            back,
+        })
+    }
+
+    /// These IDs, those of the second part behind those of the first; `None` if an ID is in both.
+    pub fn join(front: ObjectIds, back: ObjectIds) -> Option<JoinedIds>
+        ensures { MatchOption result (are_apart front back ≡ false) (λ ids. (are_apart front back ≡ true) × (ids ≡ front ++ back)) }
+    {
+        let front_len = front.as_slice().len();
+        if !are_apart(&front, back.as_slice()) {
+            return None;
+        }
+        Some(JoinedIds {
+            front,
+            front_len,
+            back,
+        })
+    }
+
+    /// How many IDs there are.
+    pub fn len(&self) -> usize
+        ensures { result ≡ length self.now }
+    {
+        self.front_len + self.back.len()
+    }
+
+    /// The ID of a number.
+    #[inline(always)]
+    pub fn get(&self, number: usize) -> u64
+        requires { number < length self.now }
+        ensures { result ≡ slice_index self.now number }
+    {
+        if number < self.front_len {
+            self.front.as_slice()[number]
+        } else {
+            self.back.as_slice()[number - self.front_len]
+        }
+    }
+
+    /// The number of an ID, if it is one of them.
+    pub fn index_of(&self, id: u64) -> Option<usize>
+        ensures first { result ≡ position (λ x. id == x) self.now }
+        ensures distinct { (o : ℕ) → o < length self.now → slice_index self.now o ≡ id → result ≡ Some o }
+    {
+        match self.front.index_of(id) {
+            Some(number) => Some(number),
+            None => match self.back.index_of(id) {
+                Some(number) => Some(self.front_len + number),
+                None => None,
+            },
+        }
+    }
+
+    /// What finds the numbers of these IDs, one after another.
+    pub fn finder(&self) -> JoinedFinder<'_>
+        ensures { result ≡ self.now }
+    {
+        JoinedFinder {
+            front: self.front.finder(),
+            front_len: self.front_len,
+            back: self.back.finder(),
+        }
+    }
+}
+
+/// Finds the numbers of IDs of two parts, one after another. An ID that lies near one that was asked for is found quicker; no
+/// answer depends on that.
+#[derive(Drop)]
+pub struct JoinedFinder<'a> {
+    front: Finder<'a>,
+    /// How many IDs the first part has.
+    front_len: usize,
+    back: Finder<'a>,
+}
+
+impl<'a> Model for JoinedFinder<'a> {
+    ghost use Rattle.std.specs.Prelude.{ℕ, List, ◌++◌};
+    ghost use Rattle.hd_ids.specs.Joined.{AreFound};
+
+    ghost Value = { List ℕ };
+
+    ghost view = { λ a. a.front ++ a.back };
+
+    ghost invariant = { λ a. AreFound a.front a.front_len a.back };
+}
+
+impl<'a> JoinedFinder<'a> {
+    /// The number of an ID, if it is one of them.
+    #[inline(always)]
+    pub fn index_of(&mut self, id: u64) -> Option<usize>
+        ensures first { result ≡ position (λ x. id == x) self.old }
+        ensures same { self.new ≡ self.old }
+    {
+        match self.front.index_of(id) {
+            Some(number) => Some(number),
+            None => match self.back.index_of(id) {
+                Some(number) => Some(self.front_len + number),
+                None => None,
+            },
+        }
+    }
+}
