@@ -10,8 +10,8 @@ use std::convert::AsSlice;
 use std::marker::Model;
 use std::thread::Threads;
 
-/// How often what is to be filled is cut in halves, so that up to four threads fill it.
-const CUTS: u32 = 2;
+/// How many threads fill memory at most.
+const THREADS: usize = 4;
 
 /// Bytes in memory, with room for more directly after them.
 pub struct Buffer<A: Allocator> {
@@ -108,7 +108,7 @@ impl<A: Allocator> Buffer<A> {
         } = self;
         let offset = filled.len();
         let (piece, room) = split(room, count);
-        let piece = fill_piece(rt, piece, offset, CUTS, f);
+        let piece = fill_piece(rt, piece, offset, THREADS, f);
         Buffer {
             filled: unite(filled, piece),
             room,

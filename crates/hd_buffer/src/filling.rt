@@ -44,14 +44,15 @@ fn fill_runs<F: Fn(usize, &mut [u8])>(piece: Piece, offset: usize, f: &F) -> Pie
     done
 }
 
-/// The same by up to 2^`cuts` threads: a piece that is longer than a run is cut in halves, which are filled side by side, each in
-/// the same way. Where the system refuses a thread, one half is filled after the other.
-#[cycle(halves)]
+/// The same by up to `threads` threads: a part of the piece for each, of which the calling thread fills the last. It begins the
+/// others, so that none waits on the processor of another one that began it. Where the system refuses a thread, one part is filled
+/// after the other.
+#[cycle(parts)]
 pub(crate) fn fill_piece<R: Threads + Sync, F: Fn(usize, &mut [u8]) + Sync>(
     rt: &R,
     piece: Piece,
     offset: usize,
-    cuts: u32,
+    threads: usize,
     f: &F,
 ) -> Piece
     requires empty { piece.len ≡ 0 }
@@ -60,22 +61,22 @@ pub(crate) fn fill_piece<R: Threads + Sync, F: Fn(usize, &mut [u8]) + Sync>(
     ensures full { (result.len ≡ piece.cap) × (result.cap ≡ piece.cap) × (result.ptr ≡ piece.ptr) }
     ensures filled { FilledFrom F.Fn f.now offset result.items }
 {
-    if cuts == 0 || piece.capacity() <= RUN {
+    if threads <= 1 || piece.capacity() <= RUN {
         return fill_runs(piece, offset, f);
     }
-    let cuts_left = cuts - 1;
-    let middle = piece.capacity() / 2;
+    let threads_left = threads - 1;
+    let middle = piece.capacity() / threads;
     let (first, second) = split(piece, middle);
     let fill_first = move || -> Piece
-        requires { IsSync R.row × IsSync F.row × (first.len ≡ 0) × (offset + first.cap < 2 ^ 64) × TakesZeros F.Fn f.now offset (offset + first.cap) }
+        requires { IsSync F.row × (first.len ≡ 0) × (offset + first.cap < 2 ^ 64) × TakesZeros F.Fn f.now offset (offset + first.cap) }
         ensures full { (result.len ≡ first.cap) × (result.cap ≡ first.cap) × (result.ptr ≡ first.ptr) }
         ensures filled { FilledFrom F.Fn f.entry.now offset result.items }
-    { fill_piece(rt, first, offset, cuts_left, f) };
+    { fill_runs(first, offset, f) };
     let fill_second = move || -> Piece
         requires { IsSync R.row × IsSync F.row × (second.len ≡ 0) × (offset + middle + second.cap < 2 ^ 64) × TakesZeros F.Fn f.now (offset + middle) (offset + middle + second.cap) }
         ensures full { (result.len ≡ second.cap) × (result.cap ≡ second.cap) × (result.ptr ≡ second.ptr) }
         ensures filled { FilledFrom F.Fn f.entry.now (offset + middle) result.items }
-    { fill_piece(rt, second, offset + middle, cuts_left, f) };
+    { fill_piece(rt, second, offset + middle, threads_left, f) };
     let (first, second) = join(rt, fill_first, fill_second);
     unite(first, second)
 }

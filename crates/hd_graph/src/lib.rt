@@ -14,6 +14,7 @@ mod layouts;
 mod number;
 mod numbering;
 mod opening;
+mod sharing;
 
 pub use graph::{Graph, RootRead, SlotName, SlotRead};
 pub use opening::open_dump;

@@ -1,5 +1,5 @@
-//! Numbering the objects of a file by two threads.
-ghost use Rattle.std.specs.Prelude.{◌≡◌, ◌+◌, ◌-◌, ◌<◌, ◌≤◌, ◌^◌, ◌++◌, ℕ, false, true, length, drop, All, IfOk, IfErr, MatchOption};
+//! The numbers of the objects of a file, by those of two stretches of its sub-records.
+ghost use Rattle.std.specs.Prelude.{◌≡◌, ◌+◌, ◌-◌, ◌<◌, ◌≤◌, ◌^◌, ℕ, false, length, All, IfOk, IfErr, MatchOption};
 ghost use Rattle.hd_terms.specs.Classes as classes_of;
 ghost use Rattle.hd_ids.specs.Noted.{are_apart};
 ghost use Rattle.hd_classes.specs.Known.{known_at};
@@ -13,10 +13,6 @@ use hd_ids::JoinedIds;
 use hd_subs::DumpSubs;
 use hd_terms::{IdSize, ReadFault};
 use std::alloc::{AllocError, Global};
-use std::thread::{Threads, join};
-
-/// From how many sub-records on two threads number the objects.
-const MANY: usize = 1 << 18;
 
 /// The numbers of the objects of a file, and the roots.
 #[derive(Drop)]
@@ -56,7 +52,7 @@ fn join_numbers(
     Ok(Some(Numbered { ids, roots, tally }))
 }
 
-/// The same by one thread.
+/// The numbers of the objects of all sub-records, one after the other.
 fn number_alone(
     alloc: Global,
     list: &DumpSubs<'_>,
@@ -81,39 +77,29 @@ fn number_alone(
     Ok(Numbered { ids, roots, tally })
 }
 
-/// Numbers the objects by their IDs, each ID once, counts those that are repeated or opaque, and collects the roots. An object
-/// with ID 0, and an instance that doesn't fit its class's layout, are faults. The secret is for the hashes of IDs.
+/// The numbers of the objects of a file: each ID once, how many objects are repeated or opaque, and the roots. An object with ID 0,
+/// and an instance that doesn't fit its class's layout, are faults. The secret is for the hashes of IDs.
 ///
-/// Where there are many, two threads number a half each, or, where the system refuses a thread, one after the other. If an ID is in
-/// both halves, or there is a fault, one thread does all anew.
-pub(crate) fn number<R: Threads + Sync>(
-    rt: &R,
+/// They are made of those of the first sub-records and of the others. If an ID is in both, or there is a fault, all objects are
+/// numbered anew, one after the other.
+pub(crate) fn numbers_of_both(
     alloc: Global,
     list: &DumpSubs<'_>,
     classes: &Classes,
     id_size: IdSize,
     secret: u64,
+    split: usize,
+    front: Result<NumberedStretch, ReadFault>,
+    back: Result<NumberedStretch, ReadFault>,
 ) -> Result<Numbered, ReadFault>
     requires short { All (λ (p : ℕ × classes_of.ResolvedClass). length p.1.layout < 2 ^ 29) classes.now.classes }
+    requires there { split ≤ length list.now }
+    requires count { length list.now < 2 ^ 64 }
+    requires front { IfOk front (λ n. IsNumbered (known_at classes.now) id_size (stretch 0 split list.now) n.ids n.roots.items n.tally) }
+    requires back { IfOk back (λ n. IsNumbered (known_at classes.now) id_size (stretch split (length list.now - split) list.now) n.ids n.roots.items n.tally) }
     ensures ok { IfOk result (λ n. IsNumbered (known_at classes.now) id_size list.now n.ids n.roots.items n.tally) }
     ensures err { IfErr result (λ f. IsObjectFaultOrMemory (known_at classes.now) id_size list.now f) }
 {
-    let len = list.len();
-    if len < MANY {
-        return number_alone(alloc, list, classes, id_size, secret);
-    }
-    let half = len / 2;
-    let front = || -> Result<NumberedStretch, ReadFault>
-        requires short { All (λ (p : ℕ × classes_of.ResolvedClass). length p.1.layout < 2 ^ 29) classes.now.classes }
-        requires there { half ≤ length list.now }
-        ensures { IfOk result (λ n. IsNumbered (known_at classes.entry.now) id_size (stretch 0 (half - 0) list.entry.now) n.ids n.roots.items n.tally) }
-    { number_stretch(alloc, list, classes, id_size, secret, 0, half) };
-    let back = || -> Result<NumberedStretch, ReadFault>
-        requires short { All (λ (p : ℕ × classes_of.ResolvedClass). length p.1.layout < 2 ^ 29) classes.now.classes }
-        requires there { (half ≤ len) × (len ≤ length list.now) }
-        ensures { IfOk result (λ n. IsNumbered (known_at classes.entry.now) id_size (stretch half (len - half) list.entry.now) n.ids n.roots.items n.tally) }
-    { number_stretch(alloc, list, classes, id_size, secret, half, len) };
-    let (front, back) = join(rt, front, back);
     if let Ok(front) = front
         && let Ok(back) = back
         && let Some(numbered) = join_numbers(front, back)?

@@ -1,4 +1,5 @@
-pub mod CutLemmas
 pub mod CodeLemmas
-pub mod TableLemmas
+pub mod CutLemmas
+pub mod PairLemmas
 pub mod ResolvingLemmas
+pub mod TableLemmas

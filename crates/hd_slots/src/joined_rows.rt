@@ -2,13 +2,14 @@
 ghost use Rattle.std.specs.Prelude.{◌≡◌, ◌+◌, ◌<◌, ◌^◌, [], length, All, IfOk};
 ghost use Rattle.hd_slots.specs.JoinedInside.{joined_table};
 
+use crate::resolved_rows::ResolvedRows;
 use crate::slot_table::SlotTable;
 use crate::unresolved::UnresolvedSlots;
 use hd_ids::JoinedIds;
 use std::alloc::{AllocError, Global};
 use std::marker::Model;
 use std::sync::Arc;
-use std::thread::Threads;
+use std::thread::{Threads, map_vec};
 
 /// The references of objects as the file has them, in two parts: the rows of the second lie behind those of the first.
 ///
@@ -63,7 +64,7 @@ impl<'a> JoinedRows<'a> {
         })
     }
 
-    /// The rows by numbers of objects, which are looked for on all processors.
+    /// The rows by numbers of objects, which are looked for on all processors, those of both parts side by side.
     ///
     /// # Errors
     ///
@@ -72,8 +73,23 @@ impl<'a> JoinedRows<'a> {
         ensures { IfOk result (λ t. t ≡ record { ids = self.entry.ids; rows = self.entry.rows }) }
     {
         let Self { front, back } = self;
-        let front = front.resolve(rt, alloc)?;
-        let back = back.resolve(rt, alloc)?;
-        Ok(SlotTable::new(front, back))
+        let mut parts = Vec::with_capacity(alloc, 2)?;
+        parts.push(front)?;
+        parts.push(back)?;
+        let mut resolved = map_vec(
+            rt,
+            parts,
+            &|part: UnresolvedSlots<'_>| -> Result<ResolvedRows, AllocError>
+                requires { part.filling ≡ [] }
+                ensures { IfOk result (λ t. t ≡ record { ids = part.entry.ids; rows = part.entry.rows }) }
+            { part.resolve(rt, alloc) },
+        )?;
+        let Some(back) = resolved.pop() else {
+            unreachable!()
+        };
+        let Some(front) = resolved.pop() else {
+            unreachable!()
+        };
+        Ok(SlotTable::new(front?, back?))
     }
 }

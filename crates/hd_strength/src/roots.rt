@@ -10,8 +10,9 @@ use crate::part::Part;
 use crate::rounds::{PARTS, Search, has_failed, holder};
 use hd_supports::{GROUP, PackedReached};
 use hd_terms::NoMemory;
+use hd_threads::for_each_mut;
 use std::alloc::Global;
-use std::thread::{Threads, for_each_mut};
+use std::thread::Threads;
 
 /// How many objects a part has at least, but for the last one, where strengths alone are asked for.
 const LEAST: u32 = 4096;

@@ -27,7 +27,8 @@ use crate::edited::Edited;
 use crate::part::Part;
 use crate::relaxing::{Gain, keep, relax_round};
 use hd_terms::{NoMemory, Strength};
-use std::thread::{Threads, for_each_mut};
+use hd_threads::for_each_mut;
+use std::thread::Threads;
 
 /// How many parts there are at most, and threads that work on them.
 pub(crate) const PARTS: usize = 4;

@@ -1,6 +1,5 @@
-use Rattle.std.proofs.Common.{◌≡◌, ◌∙◌, List, Some, slice_get, length, sym, ap, subst}
+use Rattle.std.proofs.Common.{◌∙◌, length, sym, ap, subst}
 use Rattle.hd_terms.specs.declared.Strength.TheVariants as strengths
-use Rattle.hd_strength.specs.declared.part.Part.{Part}
 use Rattle.hd_strength.specs.Parts.{AreReady, HaveComeTo}
 use Rattle.hd_strength.specs.Rows.{root_count}
 use Rattle.hd_strength.proofs.Ending.{lent}
