@@ -10,8 +10,8 @@ use crate::shares::shares_of;
 use hd_records::Records;
 use hd_subs::{DumpSubs, SegmentReader, Subs};
 use hd_terms::{IdSize, ReadFault, Span};
+use hd_threads::map_indices;
 use std::alloc::Global;
-use std::thread;
 use std::thread::Threads;
 
 /// The sub-records of a worker's share of the segments, in file order.
@@ -81,7 +81,7 @@ pub fn decode<'a, R: Threads + Sync, G: Gate>(
         gate.enter(worker as u32);
         read_share(alloc, bytes, id_size, shares[worker])
     };
-    let parts = thread::map_indices(rt, alloc, shares.len(), &read)?;
+    let parts = map_indices(rt, alloc, shares.len(), &read)?;
     let list = join_parts(alloc, parts)?;
     Ok(list)
 }

@@ -11,8 +11,9 @@ use crate::graph::{Graph, index_in, kind_of_slot, referent_in};
 use hd_shapes::Shapes;
 use hd_slots::SlotTable;
 use hd_terms::{EdgeKind, RefKind, Slot};
+use hd_threads::map_indices;
 use std::alloc::{AllocError, Global};
-use std::thread::{Threads, map_indices};
+use std::thread::Threads;
 
 /// A reference from an object to an object: the number of the first, and the index of the slot among its slots.
 #[derive(Clone, Copy)]

@@ -1,4 +1,5 @@
 //! How many objects have each strength, and how many bytes, with no edit.
+ghost use denote.Param.Send.{IsSync};
 ghost use Rattle.std.specs.Prelude.{◌≡◌, ◌+◌, ◌<◌, ◌≤◌, ◌^◌, [], length, map, IfOk};
 ghost use Rattle.hd_terms.specs.declared.Strength.{Strength as OneStrength};
 ghost use Rattle.hd_terms.specs.Totals.{IsTotal};
@@ -14,6 +15,9 @@ use hd_totals::StrengthTotals;
 use std::alloc::Global;
 use std::thread::{Threads, join};
 
+/// In how many shares the objects are counted.
+const SHARES: u32 = 4;
+
 /// The totals of the objects from one number on, before another.
 fn count_part(graph: &Graph, strengths: &[Strength], start: u32, end: u32) -> StrengthTotals
     requires count { length strengths.now ≡ length graph.now.objects }
@@ -28,53 +32,45 @@ fn count_part(graph: &Graph, strengths: &[Strength], start: u32, end: u32) -> St
     totals
 }
 
-/// The same as `count_part`, in two halves side by side; where the system refuses a thread, one after the other.
-fn count_halves<R: Threads + Sync>(
+/// The same as `count_part`, in so many shares side by side. The calling thread begins a thread for each but the last, and counts that
+/// one itself; where the system refuses a thread, one share after the other.
+#[cycle(shares)]
+fn count_shares<R: Threads + Sync>(
     rt: &R,
     graph: &Graph,
     strengths: &[Strength],
     start: u32,
     end: u32,
+    shares: u32,
 ) -> StrengthTotals
     requires count { length strengths.now ≡ length graph.now.objects }
     requires order { start ≤ end }
     requires within { end ≤ length graph.now.objects }
     ensures { AreCounted graph.now (map only_strength strengths.now) start end result }
 {
-    let middle = start + (end - start) / 2;
-    let (one, other) = join(
-        rt,
-        || -> StrengthTotals
-            requires { (length strengths.now ≡ length graph.now.objects) × (start ≤ middle) × (middle ≤ length graph.now.objects) }
-            ensures { AreCounted graph.entry.now (map only_strength strengths.entry.now) start middle result }
-        { count_part(graph, strengths, start, middle) },
-        || -> StrengthTotals
-            requires { (length strengths.now ≡ length graph.now.objects) × (middle ≤ end) × (end ≤ length graph.now.objects) }
-            ensures { AreCounted graph.entry.now (map only_strength strengths.entry.now) middle end result }
-        { count_part(graph, strengths, middle, end) },
-    );
+    if shares <= 1 {
+        return count_part(graph, strengths, start, end);
+    }
+    let middle = start + (end - start) / shares;
+    let shares_left = shares - 1;
+    let share = || -> StrengthTotals
+        requires { (length strengths.now ≡ length graph.now.objects) × (start ≤ middle) × (middle ≤ length graph.now.objects) }
+        ensures { AreCounted graph.entry.now (map only_strength strengths.entry.now) start middle result }
+    { count_part(graph, strengths, start, middle) };
+    let others = || -> StrengthTotals
+        requires { IsSync R.row × (length strengths.now ≡ length graph.now.objects) × (middle ≤ end) × (end ≤ length graph.now.objects) }
+        ensures { AreCounted graph.entry.now (map only_strength strengths.entry.now) middle end result }
+    { count_shares(rt, graph, strengths, middle, end, shares_left) };
+    let (one, other) = join(rt, share, others);
     one.sum(other)
 }
 
-/// The totals of all objects, in four parts side by side.
+/// The totals of all objects.
 fn count_totals<R: Threads + Sync>(rt: &R, graph: &Graph, strengths: &[Strength]) -> StrengthTotals
     requires { length strengths.now ≡ length graph.now.objects }
     ensures { AreCounted graph.now (map only_strength strengths.now) 0 (length graph.now.objects) result }
 {
-    let end = graph.objects();
-    let middle = end / 2;
-    let (one, other) = join(
-        rt,
-        || -> StrengthTotals
-            requires { (length strengths.now ≡ length graph.now.objects) × (middle ≤ length graph.now.objects) }
-            ensures { AreCounted graph.entry.now (map only_strength strengths.entry.now) 0 middle result }
-        { count_halves(rt, graph, strengths, 0, middle) },
-        || -> StrengthTotals
-            requires { (length strengths.now ≡ length graph.now.objects) × (middle ≤ end) × (end ≤ length graph.now.objects) }
-            ensures { AreCounted graph.entry.now (map only_strength strengths.entry.now) middle end result }
-        { count_halves(rt, graph, strengths, middle, end) },
-    );
-    one.sum(other)
+    count_shares(rt, graph, strengths, 0, graph.objects(), SHARES)
 }
 
 /// How many objects of a graph have each strength with no edit, and their recorded bytes. Nothing is kept for edits.

@@ -1,5 +1,5 @@
-//! Tests of calls at each place of a list.
-use hd_threads::for_each_mut;
+//! Tests of calls at each place of a list, and with each number.
+use hd_threads::{for_each_mut, map_indices};
 use std::rt::HostRuntime;
 
 /// Writes ten times the place, and the item's last digit behind it.
@@ -21,4 +21,15 @@ fn each_place_is_told(rt: HostRuntime) {
     let mut none: [u64; 0] = [];
     for_each_mut(&rt, none.as_mut_slice(), 4, &write_place);
     assert!(rt; none.as_slice().is_empty());
+}
+
+#[test]
+fn answers_are_in_order(rt: HostRuntime) {
+    let ten_times = |i: usize| -> u64 { (i as u64).wrapping_mul(10) };
+    let answers = map_indices(&rt, rt.alloc(), 5, &ten_times).expect(&rt, "there is memory");
+    assert_eq!(rt; answers.as_slice(), [0, 10, 20, 30, 40].as_slice());
+    let one = map_indices(&rt, rt.alloc(), 1, &ten_times).expect(&rt, "there is memory");
+    assert_eq!(rt; one.as_slice(), [0].as_slice());
+    let none = map_indices(&rt, rt.alloc(), 0, &ten_times).expect(&rt, "there is memory");
+    assert!(rt; none.is_empty());
 }

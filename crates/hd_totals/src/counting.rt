@@ -1,4 +1,5 @@
 //! Counting objects by their groups and strengths, part by part, by several threads.
+ghost use denote.Param.Send.{IsSync};
 ghost use Rattle.std.specs.Prelude.{◌≡◌, ◌+◌, ◌<◌, ◌≤◌, ◌^◌, length, IfOk, OnOk};
 ghost use Rattle.hd_terms.specs.declared.Group.{Group as OneGroup};
 ghost use Rattle.hd_terms.specs.declared.Strength.{Strength as OneStrength};
@@ -14,6 +15,9 @@ use hd_supports::Supports;
 use hd_terms::{NoMemory, Strength};
 use std::alloc::Global;
 use std::thread::{Threads, join};
+
+/// In how many shares the objects are counted.
+const SHARES: u32 = 4;
 
 /// The totals of some of the objects: the keys of their groups, and the totals of each, in the same order.
 #[derive(Drop)]
@@ -121,37 +125,42 @@ fn join_parts(one: Counted, other: Counted) -> Result<Counted, NoMemory>
     Ok(Counted { keys, rows })
 }
 
-/// The same as `count_part`, in two halves side by side; where the system refuses a thread, one after the other.
-fn count_halves<R: Threads + Sync>(
+/// The same as `count_part`, in so many shares side by side. The calling thread begins a thread for each but the last, and counts that
+/// one itself; where the system refuses a thread, one share after the other.
+#[cycle(shares)]
+fn count_shares<R: Threads + Sync>(
     rt: &R,
     alloc: Global,
     graph: &Graph,
     supports: &Supports,
     start: u32,
     end: u32,
+    shares: u32,
 ) -> Result<Counted, NoMemory>
     requires count { length supports.now ≡ length graph.now.objects }
     requires order { start ≤ end }
     requires within { end ≤ length graph.now.objects }
     ensures { IfOk result (AreGroupsCounted graph.now supports.now start end) }
 {
-    let middle = start + (end - start) / 2;
-    let (one, other) = join(
-        rt,
-        || -> Result<Counted, NoMemory>
-            requires { (length supports.now ≡ length graph.now.objects) × (start ≤ middle) × (middle ≤ length graph.now.objects) }
-            ensures { IfOk result (AreGroupsCounted graph.entry.now supports.entry.now start middle) }
-        { count_part(alloc, graph, supports, start, middle) },
-        || -> Result<Counted, NoMemory>
-            requires { (length supports.now ≡ length graph.now.objects) × (middle ≤ end) × (end ≤ length graph.now.objects) }
-            ensures { IfOk result (AreGroupsCounted graph.entry.now supports.entry.now middle end) }
-        { count_part(alloc, graph, supports, middle, end) },
-    );
+    if shares <= 1 {
+        return count_part(alloc, graph, supports, start, end);
+    }
+    let middle = start + (end - start) / shares;
+    let shares_left = shares - 1;
+    let share = || -> Result<Counted, NoMemory>
+        requires { (length supports.now ≡ length graph.now.objects) × (start ≤ middle) × (middle ≤ length graph.now.objects) }
+        ensures { IfOk result (AreGroupsCounted graph.entry.now supports.entry.now start middle) }
+    { count_part(alloc, graph, supports, start, middle) };
+    let others = || -> Result<Counted, NoMemory>
+        requires { IsSync R.row × (length supports.now ≡ length graph.now.objects) × (middle ≤ end) × (end ≤ length graph.now.objects) }
+        ensures { IfOk result (AreGroupsCounted graph.entry.now supports.entry.now middle end) }
+    { count_shares(rt, alloc, graph, supports, middle, end, shares_left) };
+    let (one, other) = join(rt, share, others);
     let both = join_parts(one?, other?)?;
     Ok(both)
 }
 
-/// The totals of all objects, in four parts side by side.
+/// The totals of all objects.
 pub(crate) fn count_all<R: Threads + Sync>(
     rt: &R,
     alloc: Global,
@@ -163,18 +172,5 @@ pub(crate) fn count_all<R: Threads + Sync>(
     ensures few { length graph.now.objects < 2 ^ 32 }
 {
     let end = graph.objects();
-    let middle = end / 2;
-    let (one, other) = join(
-        rt,
-        || -> Result<Counted, NoMemory>
-            requires { (length supports.now ≡ length graph.now.objects) × (middle ≤ length graph.now.objects) }
-            ensures { IfOk result (AreGroupsCounted graph.entry.now supports.entry.now 0 middle) }
-        { count_halves(rt, alloc, graph, supports, 0, middle) },
-        || -> Result<Counted, NoMemory>
-            requires { (length supports.now ≡ length graph.now.objects) × (middle ≤ end) × (end ≤ length graph.now.objects) }
-            ensures { IfOk result (AreGroupsCounted graph.entry.now supports.entry.now middle end) }
-        { count_halves(rt, alloc, graph, supports, middle, end) },
-    );
-    let all = join_parts(one?, other?)?;
-    Ok(all)
+    count_shares(rt, alloc, graph, supports, 0, end, SHARES)
 }

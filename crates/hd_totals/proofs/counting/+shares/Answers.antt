@@ -1,24 +1,23 @@
-use Rattle.std.proofs.Common.{ℕ, subst, arith}
-use Rattle.hd_totals.specs.Counting.{totals_of, AreTotalsBetween}
+use Rattle.std.proofs.Common.{arith}
+use Rattle.hd_totals.specs.Counting.{totals_of}
 use Rattle.hd_totals.specs.Running.{strength_in}
 use Rattle.hd_totals.proofs.CountingLemmas.{counts-fit, bytes-fit, both-between}
-use Rattle.hd_totals.proofs.counting.count_all.Goals as goal
+use Rattle.hd_totals.proofs.counting.+shares.Goals as goal
 
 pub join_parts-requires-clause-counts : goal.join_parts-requires-clause-counts
-join_parts-requires-clause-counts g c =
+join_parts-requires-clause-counts g t c =
     let first = rw c.in_ok-one.was at c.join-one.ensures.first in
     let second = rw c.in_ok-other.was at c.join-one.ensures.second in
     counts-fit c.args.graph.now (strength_in c.args.supports.now) _ _ _ (totals_of c.in_ok-one.field-0) (totals_of c.in_ok-other.field-0) first second (omega arith)
 
 pub join_parts-requires-clause-bytes : goal.join_parts-requires-clause-bytes
-join_parts-requires-clause-bytes g c =
+join_parts-requires-clause-bytes g t c =
     let first = rw c.in_ok-one.was at c.join-one.ensures.first in
     let second = rw c.in_ok-other.was at c.join-one.ensures.second in
     bytes-fit c.args.graph.now (strength_in c.args.supports.now) _ _ _ (totals_of c.in_ok-one.field-0) (totals_of c.in_ok-other.field-0) first second (omega arith)
 
-pub returns-clause-counted : goal.returns-clause-counted
-returns-clause-counted g c =
+pub returns : goal.returns
+returns g t c =
     let first = rw c.in_ok-one.was at c.join-one.ensures.first in
     let second = rw c.in_ok-other.was at c.join-one.ensures.second in
-    subst (λ (end : ℕ). AreTotalsBetween c.args.graph.now (strength_in c.args.supports.now) 0 end (totals_of c.in_ok-all.all)) c.objects-end.ensures
-    (both-between c.args.graph.now (strength_in c.args.supports.now) _ _ _ (totals_of c.in_ok-one.field-0) (totals_of c.in_ok-other.field-0) first second (totals_of c.in_ok-all.all) c.in_ok-all.ensures)
+    both-between c.args.graph.now (strength_in c.args.supports.now) _ _ _ (totals_of c.in_ok-one.field-0) (totals_of c.in_ok-other.field-0) first second (totals_of c.in_ok-both.both) c.in_ok-both.ensures
