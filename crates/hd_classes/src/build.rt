@@ -19,7 +19,7 @@ use crate::linked::LinkedClass;
 use crate::linking::keep_class;
 use crate::path::{Path, climb};
 use crate::source::{Source, source_of};
-use hd_ids::IdHasher;
+use hd_hashers::IdHasher;
 use hd_records::Records;
 use hd_subs::DumpSubs;
 use hd_terms::{Cause, ReadFault, class_chains};

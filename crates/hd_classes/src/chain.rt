@@ -3,7 +3,7 @@ ghost use Rattle.std.specs.Prelude.{◌≡◌, ◌∷◌, [], MatchOption};
 ghost use Rattle.hd_classes.specs.Links.{IsLinked, numbered, views};
 
 use crate::linked::LinkedClass;
-use hd_ids::IdHasher;
+use hd_hashers::IdHasher;
 use indexmap::IndexMap;
 use std::marker::Model;
 

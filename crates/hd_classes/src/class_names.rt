@@ -7,7 +7,7 @@ ghost use Rattle.hd_classes.specs.Names.{AreCopies, CopiesText, AddsName, first_
 
 use crate::classes::Classes;
 use crate::names::bytes_of;
-use hd_ids::IdHasher;
+use hd_hashers::IdHasher;
 use hd_records::Loads;
 use hd_terms::Span;
 use indexmap::IndexMap;

@@ -9,7 +9,7 @@ use crate::known::ResolvedClass;
 use crate::layout::Layout;
 use crate::linked::{LinkedClass, first_declaring};
 use crate::repeats::RepeatedRecords;
-use hd_ids::IdHasher;
+use hd_hashers::IdHasher;
 use hd_terms::{EdgeKind, Span};
 use indexmap::IndexMap;
 use std::alloc::Global;

@@ -3,7 +3,7 @@ ghost use Rattle.std.specs.Prelude.{IfOk, OnOk};
 ghost use Rattle.hd_subs.specs.Views.{sub_view};
 ghost use Rattle.hd_classes.specs.FirstClass.{HasFirstClasses, NotesOneMore};
 
-use hd_ids::IdHasher;
+use hd_hashers::IdHasher;
 use hd_subs::{ClassDump, DumpSubs, Item, Sub};
 use indexmap::{IndexMap, IndexSet};
 use std::alloc::{AllocError, Global};

@@ -1,6 +1,6 @@
 //! Guesses at the numbers of classes, by their IDs.
 use crate::linked::LinkedClass;
-use hd_ids::IdHasher;
+use hd_hashers::IdHasher;
 use indexmap::IndexMap;
 use std::alloc::{AllocError, Global};
 

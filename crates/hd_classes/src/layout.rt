@@ -5,7 +5,7 @@ ghost use Rattle.hd_classes.specs.Links.{IsLinked, Declares, numbered, views};
 
 use crate::known::LayoutField;
 use crate::linked::LinkedClass;
-use hd_ids::IdHasher;
+use hd_hashers::IdHasher;
 use indexmap::IndexMap;
 use std::marker::Model;
 

@@ -12,7 +12,7 @@ ghost use Rattle.hd_classes.specs.Linking.{IsInherited, IsLinkedUnder, AreKept, 
 use crate::known::LayoutField;
 use crate::linked::{LinkedClass, first_declaring};
 use crate::source::Source;
-use hd_ids::IdHasher;
+use hd_hashers::IdHasher;
 use hd_subs::ClassDump;
 use hd_terms::{EdgeKind, ReadFault, class_chains};
 use indexmap::IndexMap;

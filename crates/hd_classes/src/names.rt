@@ -8,7 +8,7 @@ ghost use Rattle.hd_terms.specs.FirstRecords.{repeats};
 ghost use Rattle.hd_terms.specs.Classes.{bytes_of_span, slashed};
 ghost use Rattle.hd_classes.specs.Sources.{HasFirstTexts, HasFirstNames, KeepsFirst};
 
-use hd_ids::IdHasher;
+use hd_hashers::IdHasher;
 use hd_records::{Loads, Texts};
 use hd_terms::Span;
 use indexmap::IndexMap;

@@ -5,7 +5,7 @@ ghost use Rattle.hd_classes.specs.Paths.{IsPath};
 
 use crate::linked::LinkedClass;
 use crate::source::Source;
-use hd_ids::IdHasher;
+use hd_hashers::IdHasher;
 use hd_subs::ClassDump;
 use indexmap::{IndexMap, IndexSet};
 use std::alloc::{AllocError, Global};

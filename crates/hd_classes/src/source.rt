@@ -9,7 +9,7 @@ ghost use Rattle.hd_classes.specs.Sources.{IsSourceOf, IsSource, table_of};
 use crate::first_class::{FirstClass, first_classes};
 use crate::names::{bytes_of, first_names, first_texts};
 use crate::repeats::RepeatedRecords;
-use hd_ids::IdHasher;
+use hd_hashers::IdHasher;
 use hd_records::Records;
 use hd_subs::{ClassDump, DumpSubs};
 use hd_terms::Span;

@@ -99,6 +99,16 @@ stretches list split len long =
     ap (λ (back : List Sub). take split list ++ back) (take_all (len - split) (drop split list) (omega (arith, length-drop split list, long)))
     ∙ take-append-drop split list
 
+-- the shapes of two stretches, one behind the other
+pub shapes-both : (known : KnownClasses) (size : IdSize) (list : List Sub) (split len : ℕ) (front back : List ObjectShape) → length list ≤ len
+    → HasAllShapes known size (stretch 0 split list) front → HasAllShapes known size (stretch split (len - split) list) back → HasAllShapes known size list (front ++ back)
+shapes-both known size list split len front back long h k =
+    let shape = λ (x : Sub). shape_of_item known size x.item in
+    ap (λ (ss : List ObjectShape). ss ++ back) h
+    ∙ ap (λ (ss : List ObjectShape). filter_map shape (stretch 0 split list) ++ ss) k
+    ∙ sym (filter_map-append shape (stretch 0 split list) (stretch split (len - split) list))
+    ∙ ap (filter_map shape) (stretches list split len long)
+
 -- one more shape, or none
 pub shapes-next : (known : KnownClasses) (size : IdSize) (list : List Sub) (i : ℕ) (s : Sub) → slice_get list i ≡ Some s → (old new : List ObjectShape)
     → HasAllShapes known size (take i list) old → new ≡ old ++ cons_option (shape_of_item known size s.item) [] → HasAllShapes known size (take (i + 1) list) new

@@ -14,7 +14,7 @@ use crate::instance_rows::push_instance_row;
 use crate::instance_shapes::push_instance_shape;
 use hd_classes::{Classes, LayoutBytes};
 use hd_ids::JoinedIds;
-use hd_shapes::Shapes;
+use hd_shapes::{JoinedShapes, Shapes};
 use hd_slots::{JoinedRows, UnresolvedSlots};
 use hd_subs::{DumpSubs, Item, Sub, array_class_offset};
 use hd_terms::IdSize;
@@ -25,7 +25,7 @@ use std::sync::Arc;
 #[derive(Drop)]
 pub(crate) struct Rows<'a> {
     pub(crate) slot_table: JoinedRows<'a>,
-    pub(crate) shapes: Shapes,
+    pub(crate) shapes: JoinedShapes,
 }
 
 /// The ID of the object of a sub-record, if it is one.
@@ -73,7 +73,7 @@ fn fill_row(
 
 /// Adds the shape of the object of a sub-record, if it is one.
 #[inline(always)]
-fn fill_shape(
+pub(crate) fn fill_shape(
     alloc: Global,
     shapes: &mut Shapes,
     layouts: &mut LayoutBytes<'_>,
@@ -175,25 +175,6 @@ fn fill_all_rows(
     Ok(())
 }
 
-/// Adds the shape of the object of each sub-record that is one, whether its ID is an earlier one's or not.
-fn fill_all_shapes(
-    alloc: Global,
-    shapes: &mut Shapes,
-    layouts: &mut LayoutBytes<'_>,
-    list: &DumpSubs<'_>,
-) -> Result<(), AllocError>
-    requires few { weight list.now ≤ 2147483647 }
-    requires empty { shapes.old.objects ≡ [] }
-    requires classes { AreLayouts layouts.old.size layouts.old.classes shapes.old.layouts }
-    ensures { OnOk result (HasAllShapes (known_at layouts.old.classes) layouts.old.size list.now shapes.new.objects) }
-{
-    let subs = list.as_list();
-    for i in 0..list.len() {
-        fill_shape(alloc, shapes, layouts, subs.get(i))?;
-    }
-    Ok(())
-}
-
 /// The references of the objects of some sub-records, whether their IDs are repeated or not, over no IDs: of so many
 /// sub-records from the first on.
 pub(crate) fn rows_of_stretch<'a>(
@@ -216,23 +197,6 @@ pub(crate) fn rows_of_stretch<'a>(
     let mut slot_table = UnresolvedSlots::new(alloc, bytes, id_size, no_ids, count)?;
     fill_all_rows(&mut slot_table, &mut layouts, list, first, count)?;
     Ok(slot_table)
-}
-
-/// The shapes of the objects of all sub-records, whether their IDs are repeated or not.
-pub(crate) fn all_shapes_of(
-    alloc: Global,
-    classes: &Classes,
-    id_size: IdSize,
-    list: &DumpSubs<'_>,
-) -> Result<Shapes, AllocError>
-    requires few { weight list.now ≤ 2147483647 }
-    requires classes { AreFewAndShort classes.now }
-    ensures { IfOk result (λ shapes. HasAllShapes (known_at classes.now) id_size list.now shapes.objects) }
-{
-    let mut layouts = LayoutBytes::new(alloc, classes, id_size)?;
-    let mut shapes = Shapes::with_capacity(alloc, list.len(), classes.len())?;
-    fill_all_shapes(alloc, &mut shapes, &mut layouts, list)?;
-    Ok(shapes)
 }
 
 /// The references and the shapes of the objects of a file, by the file offsets of the references' IDs, where IDs are repeated:
@@ -260,8 +224,11 @@ fn first_rows_of<'a>(
     let back = UnresolvedSlots::new(alloc, bytes, id_size, Arc::try_clone(&ids)?, 0)?;
     let mut slot_table = UnresolvedSlots::new(alloc, bytes, id_size, ids, count)?;
     fill_first_rows(alloc, &mut slot_table, &mut shapes, &mut layouts, list)?;
-    let slot_table = JoinedRows::join(slot_table, back);
-    Ok(Rows { slot_table, shapes })
+    let none = Shapes::with_capacity(alloc, 0, 0)?;
+    Ok(Rows {
+        slot_table: JoinedRows::join(slot_table, back),
+        shapes: JoinedShapes::join(shapes, none),
+    })
 }
 
 /// The references and the shapes of the objects of these IDs, each once, by those of all sub-records. Where no ID is repeated they

@@ -14,7 +14,7 @@ ghost use Rattle.hd_graph.specs.Shapes.{slot_name, slot_kind, shape_index, shape
 
 use crate::kinds::KindLists;
 use hd_classes::ClassNames;
-use hd_shapes::{Shape, Shapes};
+use hd_shapes::{JoinedShapes, Shape};
 use hd_slots::{IdCounts, SlotTable, Targets};
 use hd_terms::{EdgeKind, Group, Mode, RootKind, Slot};
 use std::marker::Model;
@@ -22,7 +22,7 @@ use std::marker::Model;
 /// The objects, references and roots of a dump. Objects are numbered from 0 in file order.
 pub struct Graph {
     slot_table: SlotTable,
-    shapes: Shapes,
+    shapes: JoinedShapes,
     roots: Vec<StoredRoot>,
     repeats: Repeats,
     opaque: u64,
@@ -199,7 +199,7 @@ impl Graph {
     /// instances are opaque, how phantom references are followed, the names of classes, and the references of each kind.
     pub(crate) fn new(
         slot_table: SlotTable,
-        shapes: Shapes,
+        shapes: JoinedShapes,
         roots: Vec<StoredRoot>,
         repeats: Repeats,
         opaque: u64,

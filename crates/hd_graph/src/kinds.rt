@@ -8,7 +8,7 @@ ghost use Rattle.hd_graph.specs.Shapes.{AreColumns, row_objects};
 ghost use Rattle.hd_graph.specs.Kinds.{kept_of, IsReferentEdge, AreKindsOfPart, AreKinds};
 
 use crate::graph::{Graph, index_in, kind_of_slot, referent_in};
-use hd_shapes::Shapes;
+use hd_shapes::JoinedShapes;
 use hd_slots::SlotTable;
 use hd_terms::{EdgeKind, RefKind, Slot};
 use hd_threads::map_indices;
@@ -105,7 +105,7 @@ impl KindLists {
 const PARTS: usize = 4;
 
 /// The index of an object's referent among its slots, and the kind of the reference there, if it refers to an object.
-fn referent_edge(slot_table: &SlotTable, shapes: &Shapes, o: u32) -> Option<(u32, EdgeKind)>
+fn referent_edge(slot_table: &SlotTable, shapes: &JoinedShapes, o: u32) -> Option<(u32, EdgeKind)>
     requires columns { AreColumns shapes.now.objects slot_table.now.ids slot_table.now.rows }
     requires object { o < length slot_table.now.ids }
     ensures { IsReferentEdge (row_objects shapes.now.objects slot_table.now.ids slot_table.now.rows) o result }
@@ -129,7 +129,7 @@ fn referent_edge(slot_table: &SlotTable, shapes: &Shapes, o: u32) -> Option<(u32
 fn kinds_of_part(
     alloc: Global,
     slot_table: &SlotTable,
-    shapes: &Shapes,
+    shapes: &JoinedShapes,
     part: usize,
 ) -> Result<KindLists, AllocError>
     requires columns { AreColumns shapes.now.objects slot_table.now.ids slot_table.now.rows }
@@ -155,7 +155,7 @@ pub(crate) fn kinds_of<R: Threads + Sync>(
     rt: &R,
     alloc: Global,
     slot_table: &SlotTable,
-    shapes: &Shapes,
+    shapes: &JoinedShapes,
 ) -> Result<KindLists, AllocError>
     requires columns { AreColumns shapes.now.objects slot_table.now.ids slot_table.now.rows }
     requires few { length slot_table.now.ids < 2 ^ 31 }

@@ -1,4 +1,4 @@
-//! Numbering objects in file order, and finding those with ID 0 or with values of the wrong size.
+//! Numbering objects in file order with their shapes, and finding those with ID 0 or with values of the wrong size.
 ghost use Rattle.std.specs.Prelude.{◌≡◌, ◌+◌, ◌<◌, ◌≤◌, ◌-◌, drop, ◌^◌, ℕ, true, not, if◌then◌else◌, length, All, IfOk, IfErr, OnOk};
 ghost use Rattle.hd_terms.specs.Classes as classes_of;
 ghost use Rattle.hd_terms.specs.SubRecords.{Instance};
@@ -6,12 +6,15 @@ ghost use Rattle.hd_classes.specs.Known.{known_at};
 ghost use Rattle.hd_subs.specs.Views.{sub_view};
 ghost use Rattle.hd_ids.specs.Noted.{is_noted};
 ghost use Rattle.hd_classes.specs.Repeats.{NotesId};
-ghost use Rattle.hd_graph.specs.Building.{stretch};
+ghost use Rattle.hd_graph.specs.ArrayRows.{weight};
+ghost use Rattle.hd_graph.specs.Building.{HasAllShapes, AreFewAndShort, stretch};
 ghost use Rattle.hd_graph.specs.Numbering.{IsNumbered, NumbersOneMore, IsObjectFaultOrMemory, NotesObject, IsObjectStop, IsNullIdOrMemory, StopsAt};
 
+use crate::filling::fill_shape;
 use crate::graph::StoredRoot;
 use hd_classes::{Classes, Fit, LayoutBytes, note_id};
 use hd_ids::ObjectIds;
+use hd_shapes::Shapes;
 use hd_subs::{DumpSubs, Item, Sub};
 use hd_terms::{Cause, IdSize, ReadFault, Span};
 use std::alloc::Global;
@@ -25,10 +28,12 @@ pub(crate) struct Tally {
     pub(crate) opaque: u64,
 }
 
-/// The numbers of the objects of some sub-records, and the roots.
+/// The numbers of the objects of some sub-records, and the roots; and the shapes of the objects of all these sub-records, whether
+/// their IDs are repeated or not.
 #[derive(Drop)]
 pub(crate) struct NumberedStretch {
     pub(crate) ids: ObjectIds,
+    pub(crate) shapes: Shapes,
     pub(crate) roots: Vec<StoredRoot>,
     pub(crate) tally: Tally,
 }
@@ -126,8 +131,8 @@ fn number_one(
 }
 
 /// Numbers the objects of the sub-records from one index to another by their IDs, each ID once, counts those that are repeated or
-/// opaque, and collects the roots. An object with ID 0, and an instance that doesn't fit its class's layout, are faults. The secret
-/// is for the hashes of IDs.
+/// opaque, and collects the roots and all shapes. An object with ID 0, and an instance that doesn't fit its class's layout, are
+/// faults. The secret is for the hashes of IDs.
 pub(crate) fn number_stretch(
     alloc: Global,
     list: &DumpSubs<'_>,
@@ -137,13 +142,16 @@ pub(crate) fn number_stretch(
     first: usize,
     end: usize,
 ) -> Result<NumberedStretch, ReadFault>
-    requires short { All (λ (p : ℕ × classes_of.ResolvedClass). length p.1.layout < 2 ^ 29) classes.now.classes }
+    requires few { weight list.now ≤ 2147483647 }
+    requires classes { AreFewAndShort classes.now }
     requires there { (first ≤ end) × (end ≤ length list.now) }
+    ensures shapes { IfOk result (λ n. HasAllShapes (known_at classes.now) id_size (stretch first (end - first) list.now) n.shapes.objects) }
     ensures ok { IfOk result (λ n. IsNumbered (known_at classes.now) id_size (stretch first (end - first) list.now) n.ids n.roots.items n.tally) }
     ensures err { IfErr result (λ f. IsObjectFaultOrMemory (known_at classes.now) id_size (drop first list.now) f) }
 {
     let mut ids = ObjectIds::with_capacity(alloc, end - first, secret)?;
     let mut layouts = LayoutBytes::new(alloc, classes, id_size)?;
+    let mut shapes = Shapes::with_capacity(alloc, end - first, classes.len())?;
     let mut roots = Vec::new(alloc);
     let mut tally = Tally {
         repeated: 0,
@@ -153,6 +161,12 @@ pub(crate) fn number_stretch(
     for i in first..end {
         let sub = subs.get(i);
         number_one(&mut ids, &mut roots, &mut tally, &mut layouts, sub)?;
+        fill_shape(alloc, &mut shapes, &mut layouts, sub)?;
     }
-    Ok(NumberedStretch { ids, roots, tally })
+    Ok(NumberedStretch {
+        ids,
+        shapes,
+        roots,
+        tally,
+    })
 }

@@ -17,7 +17,7 @@ use crate::numbering::Numbered;
 use crate::sharing::numbers_and_rows;
 use hd_classes::{Classes, RepeatedRecords, names_of};
 use hd_decode::{Gate, decode};
-use hd_ids::secret;
+use hd_hashers::secret;
 use hd_records::{Records, read_records};
 use hd_subs::DumpSubs;
 use hd_terms::{Mode, ReadFault};
@@ -57,10 +57,17 @@ impl Graph {
         let RepeatedRecords { texts, loads } = classes.repeated();
         let classes = classes.without_names(alloc);
         let (numbered, rows) = numbers_and_rows(rt, alloc, bytes, list, &classes, id_size, secret)?;
-        let Numbered { ids, roots, tally } = numbered;
-        let Rows { slot_table, shapes } = rows_of(
-            alloc, ids, rows, &classes, id_size, bytes, list,
-        )?;
+        let Numbered {
+            ids,
+            shapes,
+            roots,
+            tally,
+        } = numbered;
+        let all = Rows {
+            slot_table: rows,
+            shapes,
+        };
+        let Rows { slot_table, shapes } = rows_of(alloc, ids, all, &classes, id_size, bytes, list)?;
         let slot_table = slot_table.resolve(rt, alloc)?;
         let kinds = kinds_of(rt, alloc, &slot_table, &shapes)?;
         let repeats = Repeats {

@@ -3,3 +3,4 @@ pub mod PlainLemmas
 pub mod NumberLemmas
 pub mod RowLemmas
 pub mod JoinLemmas
+pub mod GuessLemmas

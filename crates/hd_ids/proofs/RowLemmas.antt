@@ -209,9 +209,12 @@ module _ (pages numbers ids : List ℕ) (last_page last_row : ℕ) (h : AreRows 
       }
 
 -- an ID at a place of distinct ones has that position
+pub row-of-place : (pages : List ℕ) (page row : ℕ) → IsDistinct nat_eq pages → row < length pages → slice_index pages row ≡ page → row_of pages page ≡ row
+row-of-place pages page row distinct lt is =
+    position_or_len_is (λ k. eqb page k) pages row 0 (omega arith)
+    (λ k below. ne_eqb page (get_or pages k 0) (λ e. eqb-false (get_or pages k 0) (get_or pages row 0) (apart_from_distinct nat_eq pages k row 0 distinct below lt) (sym e ∙ sym is)))
+    (λ _. eq-eqb page (get_or pages row 0) (sym is))
+
 pub position-of-place : (ids : List ℕ) (id o : ℕ) → IsDistinct nat_eq ids → o < length ids → slice_index ids o ≡ id → position (λ k. eqb id k) ids ≡ Some o
 position-of-place ids id o distinct lt is =
-    let place : position_or_len (λ k. eqb id k) ids ≡ o = position_or_len_is (λ k. eqb id k) ids o 0 (omega arith)
-    (λ k below. ne_eqb id (get_or ids k 0) (λ e. eqb-false (get_or ids k 0) (get_or ids o 0) (apart_from_distinct nat_eq ids k o 0 distinct below lt) (sym e ∙ sym is)))
-    (λ _. eq-eqb id (get_or ids o 0) (sym is)) in
-    rw (place, lt-ltb o (length ids) lt) refl
+    rw (row-of-place ids id o distinct lt is, lt-ltb o (length ids) lt) refl

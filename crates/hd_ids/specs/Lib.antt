@@ -1,10 +1,8 @@
 pub mod AtHand
 pub mod FoundBy
-pub mod IdHash
 pub mod Index
+pub mod Guessing
 pub mod Joined
 pub mod Noted
-pub mod PageHash
 pub mod Numbers
 pub mod Rows
-pub mod Scatter

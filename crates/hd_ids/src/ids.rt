@@ -1,5 +1,5 @@
 //! Numbering IDs: the number of an ID is its index in the order in which IDs are first met.
-ghost use Rattle.std.specs.Prelude.{◌≡◌, nat_eq, ◌<◌, ◌==◌, ℕ, [], length, not, position, Some, slice_index, IfOk, OnOk, OnErr};
+ghost use Rattle.std.specs.Prelude.{◌≡◌, nat_eq, ◌<◌, ◌==◌, ℕ, [], length, not, position, Some, slice_index, IfOk, OnOk, OnErr, IfSome};
 ghost use Rattle.std.specs.List.{IsDistinct};
 ghost use Rattle.hd_ids.specs.Noted.{is_noted, noted};
 
@@ -100,6 +100,16 @@ impl ObjectIds {
             Index::Plain(plain) => FoundBy::Plain(plain),
         };
         Finder { by }
+    }
+
+    /// The IDs by pages, if they are found so.
+    pub(crate) fn paged(&self) -> Option<&PagedIds>
+        ensures { IfSome result (λ paged. paged.now ≡ self.now) }
+    {
+        match &self.index {
+            Index::Paged(paged) => Some(paged),
+            Index::Plain(_) => None,
+        }
     }
 
     /// Notes an ID, and answers whether it is new. Out of memory, nothing is noted.

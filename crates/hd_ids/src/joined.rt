@@ -1,8 +1,10 @@
 //! The IDs of two parts of a dump, one behind the other.
-ghost use Rattle.std.specs.Prelude.{◌≡◌, ℕ, ◌==◌, ◌<◌, ◌++◌, [], length, true, false, position, Some, slice_index, IfOk, MatchOption};
+ghost use Rattle.std.specs.Prelude.{◌≡◌, ℕ, ◌==◌, ◌<◌, ◌++◌, [], length, true, false, position, Some, slice_index, IfOk, IfSome, MatchOption};
 ghost use Rattle.hd_ids.specs.Noted.{are_apart};
 
+use crate::directory::Directory;
 use crate::finder::Finder;
+use crate::guessing::Guesser;
 use crate::ids::ObjectIds;
 use std::alloc::{AllocError, Global};
 use std::marker::Model;
@@ -16,6 +18,8 @@ pub struct JoinedIds {
     /// How many IDs the first part has.
     front_len: usize,
     back: ObjectIds,
+    /// Guesses of the rows of pages, where both parts go by pages.
+    directory: Option<Directory>,
 }
 
 impl Drop for JoinedIds {
@@ -25,6 +29,7 @@ impl Drop for JoinedIds {
             front,
             front_len: _,
             back,
+            directory,
         } = self;
     }
 }
@@ -51,6 +56,14 @@ fn are_apart(front: &ObjectIds, back: &[u64]) -> bool
         }
     }
     true
+}
+
+/// Guesses of the rows of the pages of both, where both go by pages.
+fn directory_of(front: &ObjectIds, back: &ObjectIds) -> Option<Directory> {
+    let (Some(front), Some(back)) = (front.paged(), back.paged()) else {
+        return None;
+    };
+    Some(front.directory(back))
 }
 
 impl JoinedIds {
@@ -80,6 +93,7 @@ impl JoinedIds {
             front: ids,
             front_len,
             back,
+            directory: None,
         })
     }
 
@@ -91,10 +105,12 @@ impl JoinedIds {
         if !are_apart(&front, back.as_slice()) {
             return None;
         }
+        let directory = directory_of(&front, &back);
         Some(JoinedIds {
             front,
             front_len,
             back,
+            directory,
         })
     }
 
@@ -132,6 +148,19 @@ impl JoinedIds {
         }
     }
 
+    /// What finds these IDs by guesses, if there are any.
+    fn guesser(&self) -> Option<Guesser<'_>>
+        ensures { IfSome result (λ guesser. guesser ≡ self.now) }
+    {
+        let Some(directory) = &self.directory else {
+            return None;
+        };
+        let (Some(front), Some(back)) = (self.front.paged(), self.back.paged()) else {
+            return None;
+        };
+        Some(Guesser::new(directory, front.by_row(), self.front_len, back.by_row()))
+    }
+
     /// What finds the numbers of these IDs, one after another.
     pub fn finder(&self) -> JoinedFinder<'_>
         ensures { result ≡ self.now }
@@ -140,6 +169,7 @@ impl JoinedIds {
             front: self.front.finder(),
             front_len: self.front_len,
             back: self.back.finder(),
+            guesser: self.guesser(),
         }
     }
 }
@@ -152,23 +182,37 @@ pub struct JoinedFinder<'a> {
     /// How many IDs the first part has.
     front_len: usize,
     back: Finder<'a>,
+    guesser: Option<Guesser<'a>>,
 }
 
 impl<'a> Model for JoinedFinder<'a> {
     ghost use Rattle.std.specs.Prelude.{ℕ, List, ◌++◌};
-    ghost use Rattle.hd_ids.specs.Joined.{AreFound};
+    ghost use Rattle.hd_ids.specs.Joined.{AreFoundBy};
 
     ghost Value = { List ℕ };
 
     ghost view = { λ a. a.front ++ a.back };
 
-    ghost invariant = { λ a. AreFound a.front a.front_len a.back };
+    ghost invariant = { λ a. AreFoundBy a.front a.front_len a.back a.guesser };
 }
 
 impl<'a> JoinedFinder<'a> {
     /// The number of an ID, if it is one of them.
     #[inline(always)]
     pub fn index_of(&mut self, id: u64) -> Option<usize>
+        ensures first { result ≡ position (λ x. id == x) self.old }
+        ensures same { self.new ≡ self.old }
+    {
+        if let Some(guesser) = &self.guesser
+            && let Some(number) = guesser.index_of(id)
+        {
+            return Some(number);
+        }
+        self.index_without(id)
+    }
+
+    /// The number of an ID, if it is one of them, without a guess.
+    fn index_without(&mut self, id: u64) -> Option<usize>
         ensures first { result ≡ position (λ x. id == x) self.old }
         ensures same { self.new ≡ self.old }
     {

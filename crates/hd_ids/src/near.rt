@@ -4,8 +4,8 @@ ghost use Rattle.hd_ids.specs.Rows as rows;
 ghost use Rattle.hd_ids.specs.AtHand.{HasRow};
 
 use crate::numbers::Numbers;
-use crate::page_hasher::PageHasher;
 use crate::rows::{number_in, page_of, row_of};
+use hd_hashers::PageHasher;
 use indexmap::IndexSet;
 use std::marker::Model;
 

@@ -1,7 +1,7 @@
 //! Numbers of IDs in rows, a byte for each.
 ghost use Rattle.std.specs.Prelude.{◌≡◌, ◌+◌, ◌<◌, ◌≤◌, ◌^◌, [], ◌++◌, length, replicate, slice_index, slice_set, vec_capacity, OnOk, OnErr};
 
-use crate::page_hasher::PageHasher;
+use hd_hashers::PageHasher;
 use indexmap::IndexMap;
 use std::alloc::{AllocError, Global};
 use std::marker::Model;

@@ -3,11 +3,13 @@ ghost use Rattle.std.specs.Prelude.{◌≡◌, nat_eq, ◌<◌, ◌==◌, ℕ, [
 ghost use Rattle.std.specs.List.{IsDistinct};
 ghost use Rattle.hd_ids.specs.Noted.{is_noted, noted};
 
+use crate::directory::Directory;
+use crate::guessing::IdsByRow;
 use crate::near::NearIds;
 use crate::numbers::{Numbers, ROW};
-use crate::page_hasher::PageHasher;
 use crate::plain::PlainIds;
 use crate::rows::{add_id, add_row, number_at, page_of, place_of, row_after};
+use hd_hashers::PageHasher;
 use indexmap::IndexSet;
 use std::alloc::{AllocError, Global};
 use std::marker::Model;
@@ -112,6 +114,18 @@ impl PagedIds {
             self.last_page,
             self.last_row,
         )
+    }
+
+    /// These IDs by the rows of their pages.
+    pub(crate) fn by_row(&self) -> IdsByRow<'_>
+        ensures { result ≡ self.now }
+    {
+        IdsByRow::new(self.ids.as_slice(), self.pages.as_slice(), &self.numbers)
+    }
+
+    /// Guesses of the rows of the pages of these IDs and of further ones.
+    pub(crate) fn directory(&self, back: &PagedIds) -> Directory {
+        Directory::of(self.alloc, self.pages.as_slice(), back.pages.as_slice())
     }
 
     /// Notes an ID, and answers whether it is new, or `None` where rows don't serve: a further row would have too few IDs,

@@ -3,7 +3,7 @@ ghost use Rattle.std.specs.Prelude.{◌≡◌, ◌+◌, ◌*◌, ◌<◌, ◌≤
 ghost use Rattle.hd_ids.specs.Rows as rows;
 
 use crate::numbers::{Numbers, ROW};
-use crate::page_hasher::PageHasher;
+use hd_hashers::PageHasher;
 use indexmap::IndexSet;
 use std::alloc::AllocError;
 

@@ -2,7 +2,6 @@
 use Rattle.std.proofs.Common.{◌≡◌, ◌∙◌, ℕ, ◌+◌, ◌-◌, ◌*◌, ◌<◌, ◌^◌, inl, inr, List, [], ◌∷◌, ◌++◌, length, get_or, map, refl, ap, arith}
 use Rattle.std.proofs.lemmas.Bool.{cases_lt, lt-ltb, le-ltb}
 use Rattle.std.proofs.lemmas.List.{map-append, get_or_append_left, get_or-append_right}
-use Rattle.std.proofs.lemmas.List.Elements.{All-head, All-tail}
 use Rattle.hd_shapes.specs.declared.packed_shape.PackedShape.{PackedShape}
 use Rattle.hd_shapes.specs.declared.packed_shape.PackedShape.TheVariants as shapes
 use Rattle.hd_shapes.specs.Codes.{shape_of_code, AreCodes}

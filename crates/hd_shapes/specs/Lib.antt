@@ -1,3 +1,4 @@
 pub mod Codes
 pub mod Shapes
 pub mod PackedShapes
+pub mod JoinedShapes

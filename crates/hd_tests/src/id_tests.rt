@@ -123,6 +123,24 @@ fn ids_in_turns(rt: HostRuntime) {
     assert!(rt; are_noted(&rt, &mut ids, Spread::InTurns, 1200));
 }
 
+/// IDs of one block of 256 addresses whose numbers follow one another, some of the next one, and one that lies before others.
+#[test]
+fn ids_that_follow(rt: HostRuntime) {
+    let more = [
+        0x1008, 0x1018, 0x1020, 0x10f8, 0x1100, 0x1108, 0x1010, 0x1028,
+    ];
+    let ids = ids_of(&rt, rt.alloc(), &more);
+    let mut finder = ids.finder();
+    for (number, id) in more.into_iter().enumerate() {
+        assert_eq!(rt; finder.index_of(id), Some(number));
+        assert_eq!(rt; ids.index_of(id), Some(number));
+    }
+    assert_eq!(rt;
+        (finder.index_of(0x1000), ids.index_of(0x1030)),
+        (None, None)
+    );
+}
+
 /// Notes IDs, and answers the numbers that two others have then.
 fn noted<R: Abort>(rt: &R, ids: &mut ObjectIds, more: &[u64]) -> (Option<usize>, Option<usize>) {
     for id in more {

@@ -16,7 +16,7 @@ returns-clause-rows g c =
     let t = c.in_ok-front.field-0 in
     let u = c.in_ok-rows.field-0 in
     let front = rw c.in_ok-front.was at c.join-front.ensures.first in
-    let back = rw c.in_ok-rows.was at c.join-front.ensures.second.1.0 in
+    let back = rw c.in_ok-rows.was at c.join-front.ensures.second.1.1 in
     rw c.join.ensures
     (subst (λ (xs : List Sub). HasAllRows known bytes size xs (joined_table t u))
     (stretches list split (length list) (omega arith))

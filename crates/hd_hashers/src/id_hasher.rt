@@ -1,6 +1,6 @@
 //! Hashing the IDs of objects.
 ghost use Rattle.std.specs.Prelude.{◌≡◌};
-ghost use Rattle.hd_ids.specs.IdHash as id_hash;
+ghost use Rattle.hd_hashers.specs.IdHash as id_hash;
 
 use crate::scatter::scattered;
 use std::hash::{BuildHasher, Hasher};

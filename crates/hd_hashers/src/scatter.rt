@@ -1,6 +1,6 @@
 //! Scattering numbers by a secret.
 ghost use Rattle.std.specs.Prelude.{◌≡◌};
-ghost use Rattle.hd_ids.specs.Scatter as scatter;
+ghost use Rattle.hd_hashers.specs.Scatter as scatter;
 
 /// A number scattered over 64 bits, best in the upper ones. The secret is odd.
 ///

@@ -1,8 +1,8 @@
 -- What an `IdHasher` computes.
 -- Source: this project.
 use Rattle.std.specs.Prelude.{ℕ, ◌*◌, ◌/◌, ◌%◌, ◌^◌, List, length, ◌==◌, bit_and, bit_xor, if◌then◌else◌}
-use Rattle.hd_ids.specs.declared.id_hasher.IdHasher.{IdHasher}
-use Rattle.hd_ids.specs.Scatter.{number, scattered}
+use Rattle.hd_hashers.specs.declared.id_hasher.IdHasher.{IdHasher}
+use Rattle.hd_hashers.specs.Scatter.{number, scattered}
 
 -- the scattered number of an ID's block of 128 bytes, in 28 bits, and above it the ID's place in the block
 abbrev pub mixed : ℕ → ℕ → ℕ

@@ -1,20 +1,20 @@
 //! Hashing the pages of IDs.
 ghost use Rattle.std.specs.Prelude.{◌≡◌};
-ghost use Rattle.hd_ids.specs.PageHash as page_hash;
+ghost use Rattle.hd_hashers.specs.PageHash as page_hash;
 
 use crate::scatter::scattered;
 use std::hash::{BuildHasher, Hasher};
 
 /// Hashes pages by a secret number, so that who makes a dump can't foresee which pages meet in the table.
 #[derive(Clone, Copy)]
-pub(crate) struct PageHasher {
+pub struct PageHasher {
     secret: u64,
     state: u64,
 }
 
 impl PageHasher {
     /// The secret is made odd.
-    pub(crate) fn new(secret: u64) -> PageHasher {
+    pub fn new(secret: u64) -> PageHasher {
         PageHasher {
             secret: secret | 1,
             state: 0,

@@ -1,8 +1,8 @@
 use Rattle.std.proofs.Common.{◌∙◌, ℕ, ◌+◌, eqb, length, Some, ap}
 use Rattle.std.specs.Option.{option_map}
 use Rattle.hd_ids.proofs.JoinLemmas.{position-in-front, position-behind}
-use Rattle.hd_ids.proofs.joined.JoinedFinder.index_of.Goals as goal
-use Rattle.hd_ids.proofs.joined.JoinedFinder.index_of.Goals.{in-Some-index_of, in-None-index_of}
+use Rattle.hd_ids.proofs.joined.JoinedFinder.index_without.Goals as goal
+use Rattle.hd_ids.proofs.joined.JoinedFinder.index_without.Goals.{in-Some-index_of, in-None-index_of}
 
 pub returns-in-Some-clause-first : goal.returns-in-Some-clause-first
 returns-in-Some-clause-first c =
@@ -16,7 +16,7 @@ returns-after-index_of-2-clause-first c =
     rw (← c.self.view_is) (elim c.match-index_of-2.branch [
       | in-Some-index_of w ↦
           w.result-is
-          ∙ ap (λ (n : ℕ). Some (n + w.in-Some-index_of.number)) c.self.invariant.front_is
+          ∙ ap (λ (n : ℕ). Some (n + w.in-Some-index_of.number)) c.self.invariant.found.front_is
           ∙ ap (option_map (λ (i : ℕ). length a.front + i)) w.in-Some-index_of.ensures.first
           ∙ behind
       | in-None-index_of w ↦ w.result-is ∙ ap (option_map (λ (i : ℕ). length a.front + i)) w.in-None-index_of.ensures.first ∙ behind

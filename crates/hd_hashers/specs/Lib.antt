@@ -1,0 +1,3 @@
+pub mod IdHash
+pub mod PageHash
+pub mod Scatter
