@@ -9,6 +9,8 @@ use Rattle.hd_terms.specs.declared.Load.{Load}
 use Rattle.hd_terms.specs.SubRecords.{Sub}
 use Rattle.hd_terms.specs.Classes.{ClassTable, class_table}
 use Rattle.hd_records.specs.declared.records.Records.{Records}
+use Rattle.hd_terms.specs.FirstRecords.{repeats}
+use Rattle.hd_classes.specs.declared.names.FirstTexts.{FirstTexts}
 use Rattle.hd_classes.specs.declared.source.Source.{Source}
 use Rattle.hd_classes.specs.Known.{IsTextWithin, repeated_records}
 use Rattle.hd_classes.specs.FirstClass.{HasFirstClasses}
@@ -20,6 +22,11 @@ KeepsFirst id value before after = (k : ℕ) → lookup (λ (x : ℕ). k == x) a
 -- the first text of each ID is kept by the ID
 abbrev pub HasFirstTexts : List Text → List (ℕ × Span) → Type 0
 HasFirstTexts texts entries = (id : ℕ) → lookup (λ (x : ℕ). id == x) entries ≡ option_map (λ (x : Text). x.text) (find (λ (x : Text). id == x.id) texts)
+
+-- these are the first texts, and so many have the ID of an earlier one
+pub record AreFirstTexts (strings : List Text) (first : FirstTexts) : Type 0 where
+  pub texts : HasFirstTexts strings first.texts.entries
+  pub repeated : first.repeated ≡ repeats (λ (x : Text). x.id) strings
 
 -- the name of the first LOAD CLASS of each class is kept by the class's ID
 abbrev pub HasFirstNames : List Load → List (ℕ × ℕ) → Type 0

@@ -6,7 +6,7 @@ ghost use Rattle.hd_terms.specs.Classes.{class_table};
 ghost use Rattle.hd_terms.specs.HeapFaults.{class_faults};
 ghost use Rattle.hd_terms.specs.ReadFaults.{fault};
 ghost use Rattle.hd_classes.specs.Known.{AreClassesOf, IsClassFaultOrMemory, IsTextWithin};
-ghost use Rattle.hd_classes.specs.Sources.{IsSource, table_of};
+ghost use Rattle.hd_classes.specs.Sources.{AreFirstTexts, IsSource, table_of};
 ghost use Rattle.hd_classes.specs.FirstClass.{first_class_view};
 ghost use Rattle.hd_classes.specs.Linking.{AreKept, IsTop, KeepsPath};
 ghost use Rattle.hd_classes.specs.Paths.{Leads};
@@ -17,6 +17,7 @@ use crate::first_class::FirstClass;
 use crate::guesses::Guesses;
 use crate::linked::LinkedClass;
 use crate::linking::keep_class;
+use crate::names::FirstTexts;
 use crate::path::{Path, climb};
 use crate::source::{Source, source_of};
 use hd_hashers::IdHasher;
@@ -106,7 +107,7 @@ fn resolved_classes(
 }
 
 impl Classes {
-    /// The classes of a file, of which these are the records and the sub-records. The secret is a random number, for the
+    /// The classes of a file, of which these are the records, the texts and the sub-records. The secret is a random number, for the
     /// hashes of IDs: no answer depends on it.
     ///
     /// # Errors
@@ -117,16 +118,18 @@ impl Classes {
         alloc: Global,
         bytes: &[u8],
         records: &Records,
+        texts: FirstTexts,
         list: &DumpSubs<'_>,
         secret: u64,
     ) -> Result<Classes, ReadFault>
-        requires { All (IsTextWithin (length bytes.now)) records.now.strings }
+        requires within { All (IsTextWithin (length bytes.now)) records.now.strings }
+        requires texts { AreFirstTexts records.now.strings texts }
         ensures ok { IfOk result (λ classes. AreClassesOf (class_table bytes.now records.now.strings records.now.loads list.now) classes) }
         ensures no_cycle { OnOk result (class_faults (class_table bytes.now records.now.strings records.now.loads list.now) list.now ≡ []) }
         ensures err { IfErr result (λ f. IsClassFaultOrMemory (class_table bytes.now records.now.strings records.now.loads list.now) list.now f) }
     {
         let hasher = IdHasher::new(secret);
-        let source = source_of(alloc, bytes, records, list, hasher)?;
+        let source = source_of(alloc, bytes, records, texts, list, hasher)?;
         let known = resolved_classes(alloc, &source, hasher)?;
         let guesses = Guesses::at(alloc, &known)?;
         let repeated = source.repeated;

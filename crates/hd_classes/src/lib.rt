@@ -25,5 +25,5 @@ pub use classes::Classes;
 pub use fit::{Fit, LayoutBytes};
 pub use known::{LayoutField, ResolvedClass};
 pub use layout::Layout;
-pub use names::bytes_of;
+pub use names::{FirstTexts, bytes_of};
 pub use repeats::{RepeatedRecords, note_id};

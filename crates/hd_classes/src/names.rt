@@ -3,10 +3,9 @@ ghost use Rattle.std.specs.Prelude.{◌≡◌, ◌==◌, ℕ, ◌+◌, ◌≤◌
 ghost use Rattle.std.specs.Map.{lookup};
 ghost use Rattle.std.specs.Str.{bytes_eq};
 ghost use Rattle.hd_terms.specs.declared.Load.{Load};
-ghost use Rattle.hd_terms.specs.declared.Text.{Text};
 ghost use Rattle.hd_terms.specs.FirstRecords.{repeats};
 ghost use Rattle.hd_terms.specs.Classes.{bytes_of_span, slashed};
-ghost use Rattle.hd_classes.specs.Sources.{HasFirstTexts, HasFirstNames, KeepsFirst};
+ghost use Rattle.hd_classes.specs.Sources.{AreFirstTexts, HasFirstNames, KeepsFirst};
 
 use hd_hashers::IdHasher;
 use hd_records::{Loads, Texts};
@@ -30,23 +29,32 @@ fn keep_first<V: Copy>(
     Ok(true)
 }
 
-/// Where the first text of each ID lies, and how many texts have the ID of an earlier one.
-pub(crate) fn first_texts(
-    alloc: Global,
-    strings: &Texts,
-    hasher: IdHasher,
-) -> Result<(IndexMap<u64, Span, IdHasher>, u64), AllocError>
-    ensures texts { IfOk result (λ r. HasFirstTexts strings.now r.0.entries) }
-    ensures repeated { IfOk result (λ r. r.1 ≡ repeats (λ (t : Text). t.id) strings.now) }
-{
-    let mut texts = IndexMap::with_capacity_and_hasher(alloc, strings.len(), hasher)?;
-    let mut repeated = 0;
-    for text in strings.as_slice() {
-        if keep_first(&mut texts, text.id, text.text)? {
-            repeated += 1;
+/// The texts of a file: where the first of each ID lies, and how many have the ID of an earlier one.
+#[derive(Drop)]
+pub struct FirstTexts {
+    pub(crate) texts: IndexMap<u64, Span, IdHasher>,
+    pub(crate) repeated: u64,
+}
+
+impl FirstTexts {
+    /// The first text of each ID. The secret is a random number, for the hashes of IDs: no answer depends on it.
+    ///
+    /// # Errors
+    ///
+    /// Out of memory.
+    pub fn of(alloc: Global, strings: &Texts, secret: u64) -> Result<FirstTexts, AllocError>
+        ensures { IfOk result (AreFirstTexts strings.now) }
+    {
+        let hasher = IdHasher::new(secret);
+        let mut texts = IndexMap::with_capacity_and_hasher(alloc, strings.len(), hasher)?;
+        let mut repeated = 0;
+        for text in strings.as_slice() {
+            if keep_first(&mut texts, text.id, text.text)? {
+                repeated += 1;
+            }
         }
+        Ok(FirstTexts { texts, repeated })
     }
-    Ok((texts, repeated))
 }
 
 /// The ID of the text that names each class, as the first LOAD CLASS of the class says it, and how many LOAD CLASS load a class

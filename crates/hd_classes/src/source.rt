@@ -4,10 +4,10 @@ ghost use Rattle.std.specs.Option.{option_map, option_copied};
 ghost use Rattle.hd_terms.specs.Classes.{class_at, text_of_id, name_of, bytes_of_span};
 ghost use Rattle.hd_subs.specs.Views.{class_view};
 ghost use Rattle.hd_classes.specs.Known.{IsTextWithin};
-ghost use Rattle.hd_classes.specs.Sources.{IsSourceOf, IsSource, table_of};
+ghost use Rattle.hd_classes.specs.Sources.{AreFirstTexts, IsSourceOf, IsSource, table_of};
 
 use crate::first_class::{FirstClass, first_classes};
-use crate::names::{bytes_of, first_names, first_texts};
+use crate::names::{FirstTexts, bytes_of, first_names};
 use crate::repeats::RepeatedRecords;
 use hd_hashers::IdHasher;
 use hd_records::Records;
@@ -51,13 +51,18 @@ pub(crate) fn source_of<'a>(
     alloc: Global,
     bytes: &'a [u8],
     records: &'a Records,
+    texts: FirstTexts,
     list: &'a DumpSubs<'a>,
     hasher: IdHasher,
 ) -> Result<Source<'a>, AllocError>
-    requires { All (IsTextWithin (length bytes.now)) records.now.strings }
+    requires within { All (IsTextWithin (length bytes.now)) records.now.strings }
+    requires texts { AreFirstTexts records.now.strings texts }
     ensures { IfOk result (λ s. IsSourceOf bytes.now records.now list.now s) }
 {
-    let (texts, repeated_texts) = first_texts(alloc, &records.strings, hasher)?;
+    let FirstTexts {
+        texts,
+        repeated: repeated_texts,
+    } = texts;
     let (names, repeated_loads) = first_names(alloc, &records.loads, hasher)?;
     let classes = first_classes(alloc, list, hasher)?;
     let repeated = RepeatedRecords {

@@ -13,6 +13,7 @@ use std::alloc::{AllocError, Global};
 
 /// Adds the shape of an instance of the class of a number, whose values have so many bytes. The shape that the instances of a
 /// class share is made with the first.
+#[inline(always)]
 fn push_shape(
     alloc: Global,
     shapes: &mut Shapes,
@@ -37,6 +38,7 @@ fn push_shape(
 }
 
 /// Adds the shape of an instance. One by whose class its values can't be read is like an object array.
+#[inline(always)]
 pub(crate) fn push_instance_shape(
     alloc: Global,
     shapes: &mut Shapes,

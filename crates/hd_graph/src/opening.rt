@@ -6,8 +6,9 @@ ghost use Rattle.hd_terms.specs.Objects.{IsDumpOf};
 ghost use Rattle.hd_terms.specs.Classes.{class_table};
 ghost use Rattle.hd_terms.specs.HeapFaults.{class_faults};
 ghost use Rattle.hd_records.specs.Reading.{ReadsRecords};
-ghost use Rattle.hd_decode.specs.Bodies.{ReadsBodies};
+ghost use Rattle.hd_decode.specs.Bodies.{IsBodiesFaultOrMemory, ReadsBodies};
 ghost use Rattle.hd_classes.specs.Known.{AreClassesOf};
+ghost use Rattle.hd_classes.specs.Sources.{AreFirstTexts};
 ghost use Rattle.hd_graph.specs.Building.{IsReadFaultOrMemory};
 
 use crate::filling::{Rows, rows_of};
@@ -15,20 +16,21 @@ use crate::graph::{Graph, Repeats};
 use crate::kinds::kinds_of;
 use crate::numbering::Numbered;
 use crate::sharing::numbers_and_rows;
-use hd_classes::{Classes, RepeatedRecords, names_of};
+use hd_classes::{Classes, FirstTexts, RepeatedRecords, names_of};
 use hd_decode::{Gate, decode};
 use hd_hashers::secret;
 use hd_records::{Records, read_records};
 use hd_subs::DumpSubs;
 use hd_terms::{Mode, ReadFault};
-use std::alloc::Global;
+use std::alloc::{AllocError, Global};
 use std::random::RandomSource;
 use std::sync::Arc;
-use std::thread::Threads;
+use std::thread::{Threads, join};
 
 impl Graph {
     /// The graph of a file, of which these are the records, the sub-records and the classes, and this is how phantom references
-    /// are followed. What is kept of records, texts and names is given up before the rows of objects are made.
+    /// are followed. What is kept of records, texts and names is given up before the rows of objects are made, and the list of the
+    /// sub-records before their references are found by number.
     ///
     /// # Errors
     ///
@@ -39,14 +41,14 @@ impl Graph {
         alloc: Global,
         bytes: &[u8],
         records: Records,
-        list: &DumpSubs<'_>,
+        list: DumpSubs<'_>,
         classes: Classes,
         mode: Mode,
     ) -> Result<Graph, ReadFault>
         requires records { ReadsRecords bytes.now records.id_size records.strings records.loads records.segments }
-        requires list { ReadsBodies records.id_size bytes.now records.segments list.now }
-        requires classes { AreClassesOf (class_table bytes.now records.strings records.loads list.now) classes }
-        requires no_cycle { class_faults (class_table bytes.now records.strings records.loads list.now) list.now ≡ [] }
+        requires list { ReadsBodies records.id_size bytes.now records.segments list }
+        requires classes { AreClassesOf (class_table bytes.now records.strings records.loads list) classes }
+        requires no_cycle { class_faults (class_table bytes.now records.strings records.loads list) list ≡ [] }
         ensures ok { IfOk result (λ graph. IsDumpOf mode bytes.now graph) }
         ensures err { IfErr result (λ f. IsReadFaultOrMemory bytes.now f) }
     {
@@ -56,7 +58,9 @@ impl Graph {
         drop(records);
         let RepeatedRecords { texts, loads } = classes.repeated();
         let classes = classes.without_names(alloc);
-        let (numbered, rows) = numbers_and_rows(rt, alloc, bytes, list, &classes, id_size, secret)?;
+        let (numbered, rows) = numbers_and_rows(
+            rt, alloc, bytes, &list, &classes, id_size, secret,
+        )?;
         let Numbered {
             ids,
             shapes,
@@ -67,7 +71,10 @@ impl Graph {
             slot_table: rows,
             shapes,
         };
-        let Rows { slot_table, shapes } = rows_of(alloc, ids, all, &classes, id_size, bytes, list)?;
+        let Rows { slot_table, shapes } = rows_of(
+            alloc, ids, all, &classes, id_size, bytes, &list,
+        )?;
+        drop(list);
         let slot_table = slot_table.resolve(rt, alloc)?;
         let kinds = kinds_of(rt, alloc, &slot_table, &shapes)?;
         let repeats = Repeats {
@@ -86,6 +93,37 @@ impl Graph {
             kinds,
         ))
     }
+}
+
+/// The first texts of a file, which one thread notes, and its sub-records, which workers read meanwhile.
+fn texts_and_subs<'a, R: Threads + Sync, G: Gate>(
+    rt: &R,
+    alloc: Global,
+    bytes: &'a [u8],
+    records: &Records,
+    secret: u64,
+    workers: u32,
+    gate: &G,
+) -> (
+    Result<FirstTexts, AllocError>,
+    Result<DumpSubs<'a>, ReadFault>,
+)
+    requires workers { IsWorkers workers }
+    requires records { ReadsRecords bytes.now records.now.id_size records.now.strings records.now.loads records.now.segments }
+    ensures texts { IfOk result.0 (AreFirstTexts records.now.strings) }
+    ensures list { IfOk result.1 (λ list. ReadsBodies records.now.id_size bytes.now records.now.segments list) }
+    ensures err { IfErr result.1 (λ f. IsBodiesFaultOrMemory records.now.id_size bytes.now records.now.segments f) }
+{
+    let texts = || -> Result<FirstTexts, AllocError>
+        ensures { IfOk result (AreFirstTexts records.entry.now.strings) }
+    { FirstTexts::of(alloc, &records.strings, secret) };
+    let subs = || -> Result<DumpSubs<'_>, ReadFault>
+        requires workers { IsWorkers workers }
+        requires records { ReadsRecords bytes.now records.now.id_size records.now.strings records.now.loads records.now.segments }
+        ensures list { IfOk result (λ list. ReadsBodies records.entry.now.id_size bytes.entry.now records.entry.now.segments list) }
+        ensures err { IfErr result (λ f. IsBodiesFaultOrMemory records.entry.now.id_size bytes.entry.now records.entry.now.segments f) }
+    { decode(rt, alloc, bytes, records, workers, gate) };
+    join(rt, texts, subs)
 }
 
 /// The graph of a dump. All of the file is read: its records, then its segments by this many workers at once, 1 to 16, each of
@@ -109,9 +147,11 @@ pub fn open_dump<R: RandomSource + Threads + Sync, G: Gate>(
     ensures err { IfErr result (λ f. IsReadFaultOrMemory bytes.now f) }
 {
     let records = read_records(alloc, bytes)?;
-    let list = decode(rt, alloc, bytes, &records, workers, gate)?;
-    let classes = Classes::build(alloc, bytes, &records, &list, secret(rt))?;
-    let graph = Graph::build(rt, alloc, bytes, records, &list, classes, mode)?;
+    let secret = secret(rt);
+    let (texts, list) = texts_and_subs(rt, alloc, bytes, &records, secret, workers, gate);
+    let list = list?;
+    let classes = Classes::build(alloc, bytes, &records, texts?, &list, secret)?;
+    let graph = Graph::build(rt, alloc, bytes, records, list, classes, mode)?;
     let graph = Arc::new(alloc, graph)?;
     Ok(graph)
 }

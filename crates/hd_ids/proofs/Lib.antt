@@ -4,3 +4,4 @@ pub mod NumberLemmas
 pub mod RowLemmas
 pub mod JoinLemmas
 pub mod GuessLemmas
+pub mod ApartLemmas

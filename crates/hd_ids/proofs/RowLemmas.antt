@@ -140,7 +140,7 @@ module _ (pages numbers ids : List ℕ) (h : AreNumbers pages numbers ids) where
         at_id q (inr (_, ne)) = get_or-set_other numbers slot (slot_of pages q) (length ids + 1) 0 (λ e. ne (sym (same-slot pages id q within (sym (e ∙ is))))) ∙ h.at q ∙ sym (number-others q ne)
 
 -- an ID whose number is 0 isn't there
-absent-by-number : (ids : List ℕ) (id : ℕ) → number_of ids id ≡ 0 → is_noted ids id ≡ false
+pub absent-by-number : (ids : List ℕ) (id : ℕ) → number_of ids id ≡ 0 → is_noted ids id ≡ false
 absent-by-number ids id zero = by (is_noted ids id) refl
   where
     by : (b : Bool) → is_noted ids id ≡ b → is_noted ids id ≡ false
@@ -208,13 +208,14 @@ module _ (pages numbers ids : List ℕ) (last_page last_row : ℕ) (h : AreRows 
         few_ids = h.few_ids;
       }
 
--- an ID at a place of distinct ones has that position
+-- a page at a place of distinct ones has that row
 pub row-of-place : (pages : List ℕ) (page row : ℕ) → IsDistinct nat_eq pages → row < length pages → slice_index pages row ≡ page → row_of pages page ≡ row
 row-of-place pages page row distinct lt is =
     position_or_len_is (λ k. eqb page k) pages row 0 (omega arith)
     (λ k below. ne_eqb page (get_or pages k 0) (λ e. eqb-false (get_or pages k 0) (get_or pages row 0) (apart_from_distinct nat_eq pages k row 0 distinct below lt) (sym e ∙ sym is)))
     (λ _. eq-eqb page (get_or pages row 0) (sym is))
 
+-- an ID at a place of distinct ones has that position
 pub position-of-place : (ids : List ℕ) (id o : ℕ) → IsDistinct nat_eq ids → o < length ids → slice_index ids o ≡ id → position (λ k. eqb id k) ids ≡ Some o
 position-of-place ids id o distinct lt is =
     rw (row-of-place ids id o distinct lt is, lt-ltb o (length ids) lt) refl

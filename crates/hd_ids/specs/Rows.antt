@@ -1,6 +1,6 @@
 -- Where the number of an ID stands: in the row of its page.
 -- Source: this project.
-use Rattle.std.specs.Prelude.{◌≡◌, nat_eq, ℕ, ◌+◌, ◌*◌, ◌/◌, ◌%◌, ◌≤◌, ◌^◌, ◌==◌, List, length, slice_index, if◌then◌else◌}
+use Rattle.std.specs.Prelude.{◌≡◌, nat_eq, ℕ, ◌+◌, ◌*◌, ◌/◌, ◌%◌, ◌≤◌, ◌<◌, ◌^◌, ◌==◌, ◌⊎◌, List, length, slice_index, if◌then◌else◌}
 use Rattle.std.specs.List.{position_or_len, IsDistinct}
 use Rattle.hd_ids.specs.Noted.{is_noted}
 
@@ -23,6 +23,10 @@ slot_of pages id = row_of pages (page_of id) * 512 + place_of id
 -- the number of an ID: one more than its index, 0 where it isn't there
 abbrev pub number_of : List ℕ → ℕ → ℕ
 number_of ids id = if is_noted ids id then position_or_len (λ k. id == k) ids + 1 else 0
+
+-- two rows have no number at one place
+abbrev pub MeetNowhere : List ℕ → ℕ → List ℕ → ℕ → Type 0
+MeetNowhere front i back k = (place : ℕ) → place < 512 → (slice_index front (i * 512 + place) ≡ 0) ⊎ (slice_index back (k * 512 + place) ≡ 0)
 
 -- these rows have the numbers of these IDs
 pub record AreNumbers (pages numbers ids : List ℕ) : Type 0 where

@@ -1,14 +1,14 @@
 //! IDs by pages of the heap.
-ghost use Rattle.std.specs.Prelude.{◌≡◌, nat_eq, ◌<◌, ◌==◌, ℕ, [], length, not, position, Some, slice_index, IfOk, OnOk, OnErr, IfSome, IfNone};
+ghost use Rattle.std.specs.Prelude.{◌≡◌, nat_eq, ◌<◌, ◌==◌, ℕ, [], length, not, position, Some, slice_index, true, IfOk, OnOk, OnErr, IfSome, IfNone};
 ghost use Rattle.std.specs.List.{IsDistinct};
-ghost use Rattle.hd_ids.specs.Noted.{is_noted, noted};
+ghost use Rattle.hd_ids.specs.Noted.{are_apart, is_noted, noted};
 
 use crate::directory::Directory;
 use crate::guessing::IdsByRow;
 use crate::near::NearIds;
 use crate::numbers::{Numbers, ROW};
 use crate::plain::PlainIds;
-use crate::rows::{add_id, add_row, number_at, page_of, place_of, row_after};
+use crate::rows::{add_id, add_row, number_at, page_of, place_of, row_after, row_of, rows_meet};
 use hd_hashers::PageHasher;
 use indexmap::IndexSet;
 use std::alloc::{AllocError, Global};
@@ -126,6 +126,21 @@ impl PagedIds {
     /// Guesses of the rows of the pages of these IDs and of further ones.
     pub(crate) fn directory(&self, back: &PagedIds) -> Directory {
         Directory::of(self.alloc, self.pages.as_slice(), back.pages.as_slice())
+    }
+
+    /// Whether the rows of these IDs and of others have no number at one place. Then no ID is in both. Few pages have IDs of both, so
+    /// this looks at few numbers.
+    pub(crate) fn is_apart_by_rows(&self, back: &PagedIds) -> bool
+        ensures { result ≡ true → are_apart self.now back.now ≡ true }
+    {
+        let pages = back.pages.as_slice();
+        for row in 0..pages.len() {
+            let front_row = row_of(&self.pages, pages[row]);
+            if rows_meet(&self.numbers, front_row, &back.numbers, row) {
+                return false;
+            }
+        }
+        true
     }
 
     /// Notes an ID, and answers whether it is new, or `None` where rows don't serve: a further row would have too few IDs,

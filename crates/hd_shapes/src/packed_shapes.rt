@@ -67,6 +67,7 @@ fn shape_in(code: u32) -> PackedShape
 }
 
 /// The code of a shape, if it has one of its own.
+#[inline(always)]
 fn code_of(shape: PackedShape) -> Option<u32>
     ensures { IfSome result (λ code. IsCodeOf code shape) }
 {
@@ -136,6 +137,7 @@ impl PackedShapes {
     /// # Errors
     ///
     /// Out of memory, or more than 2^30 shapes that have no code of their own. Then nothing is added.
+    #[inline(always)]
     pub(crate) fn push(&mut self, shape: PackedShape) -> Result<(), AllocError>
         ensures added { OnOk result (self.new ≡ self.old ++ shape ∷ []) }
         ensures same { IfErr result (λ e. self.new ≡ self.old) }

@@ -137,6 +137,7 @@ impl Shapes {
     /// # Errors
     ///
     /// Out of memory, or 2^30 shapes that take eight bytes more are there already.
+    #[inline(always)]
     pub fn push_object_array(&mut self, bytes: u32) -> Result<(), AllocError>
         ensures { OnOk result (self.new ≡ record self.old { objects = self.old.objects ++ ObjectArray bytes ∷ [] }) }
     {
@@ -149,6 +150,7 @@ impl Shapes {
     /// # Errors
     ///
     /// Out of memory, or 2^30 shapes that take eight bytes more are there already.
+    #[inline(always)]
     pub fn push_primitive_array(&mut self, element: u8, bytes: u32) -> Result<(), AllocError>
         ensures { OnOk result (self.new ≡ record self.old { objects = self.old.objects ++ PrimitiveArray element bytes ∷ [] }) }
     {
@@ -158,6 +160,7 @@ impl Shapes {
     }
 
     /// How many bytes the values of instances of the class of a number have, if the shape of these instances was made.
+    #[inline(always)]
     pub fn instance_bytes(&self, class: usize) -> Option<u32>
         requires { class < length self.now.layouts }
         ensures { result ≡ option_map shape_bytes (made_layout self.now.layouts class) }
@@ -173,6 +176,7 @@ impl Shapes {
     /// # Errors
     ///
     /// Out of memory, or 2^30 shapes that take eight bytes more are there already.
+    #[inline(always)]
     pub fn push_instance(&mut self, class: usize) -> Result<(), AllocError>
         requires { IsSome (made_layout self.old.layouts class) }
         ensures { OnOk result ((shape : ObjectShape) → made_layout self.old.layouts class ≡ Some shape → self.new ≡ record self.old { objects = self.old.objects ++ shape ∷ [] }) }

@@ -14,8 +14,9 @@ use hd_threads::for_each_mut;
 use std::alloc::Global;
 use std::thread::Threads;
 
-/// How many objects a part has at least, but for the last one, where strengths alone are asked for.
-const LEAST: u32 = 4096;
+/// How many objects a part has at least, but for the last one, where strengths alone are asked for. With fewer, threads would take
+/// longer to begin than they save.
+const LEAST: u32 = 65_536;
 
 /// How many of so many objects each part has, but for the last one. The flag says whether all will be kept of them. Then parts
 /// end where a group of pages ends, so that pages are put one behind the other with no copy.

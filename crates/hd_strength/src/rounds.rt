@@ -6,7 +6,7 @@
 //!
 //! Objects pass their strength on in rounds. In a round a part reaches its own objects alone: no two threads write the same
 //! memory. What it finds of other parts' objects it offers, and between rounds one thread accepts these offers. A round has up to
-//! four threads where many objects wait; where few do, one thread takes the parts one after the other.
+//! four threads where many objects of several parts wait; else one thread takes the parts one after the other.
 //!
 //! The offers of a strength that are there when it begins are accepted first, in the order in which each part made them. Where
 //! all is kept, a round takes the objects that wait: breadth first within one strength, so right after the opening supports make
@@ -39,7 +39,11 @@ const CROWD: usize = 4096;
 /// How many objects of a part pass their strength on in a round of one thread, where strengths alone are kept.
 const FEW: usize = 4096;
 
-/// How many objects of a part pass their strength on in a round of several threads, where strengths alone are kept.
+/// How many objects of a part pass their strength on in a round of several threads, where strengths alone are kept and some part
+/// has none that waits.
+const SOME: usize = 32_768;
+
+/// The same where each part has some.
 const MANY: usize = 262_144;
 
 /// A search as far as it has come: the parts of all objects, and whether all is kept of these, or their strengths alone.
@@ -161,15 +165,31 @@ fn is_any_queued(parts: &[Part]) -> bool
     false
 }
 
-/// Whether so many objects wait, or passed their strength on in the last round, that several threads are worth their while.
-fn is_crowd(parts: &[Part]) -> bool {
+/// How many threads a round has, and how many objects of a part pass their strength on in it at most, where strengths alone are
+/// kept.
+///
+/// One thread is quicker where few objects wait and few passed their strength on in the last round, or where objects of one part
+/// alone wait. Where some parts have nothing to do, a round is short: what others find of theirs is offered at its end.
+fn round_size(parts: &[Part]) -> (usize, usize)
+    ensures { (0 < result.0) × (0 < result.1) }
+{
+    let mut busy: usize = 0;
     let mut waiting: usize = 0;
     let mut passed: usize = 0;
     for part in parts {
+        if part.queue.len() > 0 {
+            busy = busy.saturating_add(1);
+        }
         waiting = waiting.saturating_add(part.queue.len());
         passed = passed.saturating_add(part.passed);
     }
-    waiting.max(passed) >= CROWD
+    if busy <= 1 || waiting.max(passed) < CROWD {
+        return (1, FEW);
+    }
+    if busy < parts.len() {
+        return (PARTS, SOME);
+    }
+    (PARTS, MANY)
 }
 
 /// Whether memory ran out in any part.
@@ -224,11 +244,7 @@ fn pass_on<R: Threads + Sync>(
     ensures same { OnOk result (IsAsFar search.old search.new) }
     ensures less { OnOk result (IsAnyQueued search.old.parts.items → to_do_in search.new.parts.items < to_do_in search.old.parts.items) }
 {
-    let (threads, most) = if is_crowd(&search.parts) {
-        (PARTS, MANY)
-    } else {
-        (1, FEW)
-    };
+    let (threads, most) = round_size(&search.parts);
     relax_parts(rt, edited, &mut search.parts, strength, threads, most);
     if has_failed(&search.parts) {
         return Err(NoMemory);

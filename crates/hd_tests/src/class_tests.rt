@@ -2,7 +2,7 @@
 ghost use Rattle.std.specs.Prelude.{IsTrue, All};
 ghost use Rattle.hd_classes.specs.Known.{IsTextWithin};
 
-use hd_classes::{Classes, LayoutField};
+use hd_classes::{Classes, FirstTexts, LayoutField};
 use hd_records::{Texts, read_records};
 use hd_spell::spell;
 use hd_subs::{DumpSubs, SegmentReader};
@@ -52,7 +52,8 @@ fn classes_of<R: Abort>(rt: &R, alloc: Global, bytes: &[u8]) -> Classes {
         lie_within(&records.strings, bytes.len()),
         "texts lie within the file"
     );
-    Classes::build(alloc, bytes, &records, &list, 1).expect(rt, "the classes are found")
+    let texts = FirstTexts::of(alloc, &records.strings, 1).expect(rt, "the texts are noted");
+    Classes::build(alloc, bytes, &records, texts, &list, 1).expect(rt, "the classes are found")
 }
 
 /// The classes of the file that a text spells, which is as above.

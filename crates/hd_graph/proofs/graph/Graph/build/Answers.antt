@@ -6,34 +6,34 @@ use Rattle.hd_graph.proofs.OpenLemmas.{names-within, list-within, few-and-short,
 use Rattle.hd_graph.proofs.graph.Graph.build.Goals as goal
 
 pub names_of-requires : goal.names_of-requires
-names_of-requires g c = names-within c.args.bytes.now c.args.records.id_size _ _ c.args.records.segments c.requires.records c.args.list.now c.requires.list c.args.classes c.requires.classes c.requires.no_cycle
+names_of-requires g c = names-within c.args.bytes.now c.args.records.id_size _ _ c.args.records.segments c.requires.records c.args.list c.requires.list c.args.classes c.requires.classes c.requires.no_cycle
 
 pub numbers_and_rows-requires-clause-within : goal.numbers_and_rows-requires-clause-within
-numbers_and_rows-requires-clause-within g c κs within = list-within c.args.bytes.now c.args.records.id_size _ _ c.args.records.segments c.requires.records c.args.list.now c.requires.list
+numbers_and_rows-requires-clause-within g c κs within = list-within c.args.bytes.now c.args.records.id_size _ _ c.args.records.segments c.requires.records c.args.list c.requires.list
 
 pub numbers_and_rows-requires-clause-classes : goal.numbers_and_rows-requires-clause-classes
 numbers_and_rows-requires-clause-classes g c κs within =
-    let k = few-and-short c.args.bytes.now c.args.records.id_size _ _ c.args.records.segments c.requires.records c.args.list.now c.requires.list c.args.classes c.requires.classes c.requires.no_cycle in
+    let k = few-and-short c.args.bytes.now c.args.records.id_size _ _ c.args.records.segments c.requires.records c.args.list c.requires.list c.args.classes c.requires.classes c.requires.no_cycle in
     rw c.without_names-classes.ensures (record { few = k.few; short = k.short })
 
 pub returns-in_err-numbered-clause-err : goal.returns-in_err-numbered-clause-err
 returns-in_err-numbered-clause-err g c =
     let p = err_from_is_err_and c.from_residual-in_err-numbered.result c.from_residual-in_err-numbered.ensures.1 in
-    rw (p.1, p.2) (object-fault c.args.bytes.now c.args.records.id_size _ _ c.args.records.segments c.requires.records c.args.list.now c.requires.list c.args.classes c.requires.classes c.requires.no_cycle c.in_err-numbered.field-0.0 (rw c.without_names-classes.ensures at c.in_err-numbered.ensures.err))
+    rw (p.1, p.2) (object-fault c.args.bytes.now c.args.records.id_size _ _ c.args.records.segments c.requires.records c.args.list c.requires.list c.args.classes c.requires.classes c.requires.no_cycle c.in_err-numbered.field-0.0 (rw c.without_names-classes.ensures at c.in_err-numbered.ensures.err))
 
 pub rows_of-requires-clause-few : goal.rows_of-requires-clause-few
-rows_of-requires-clause-few g c = few-ids c.args.bytes.now c.args.records.id_size _ _ c.args.records.segments c.requires.records c.args.list.now c.requires.list c.args.classes c.requires.classes c.requires.no_cycle _ _ _ (rw c.without_names-classes.ensures at c.in_ok-numbered.ensures.numbers)
+rows_of-requires-clause-few g c = few-ids c.args.bytes.now c.args.records.id_size _ _ c.args.records.segments c.requires.records c.args.list c.requires.list c.args.classes c.requires.classes c.requires.no_cycle _ _ _ (rw c.without_names-classes.ensures at c.in_ok-numbered.ensures.numbers)
 
 pub rows_of-requires-clause-within : goal.rows_of-requires-clause-within
-rows_of-requires-clause-within g c = list-within c.args.bytes.now c.args.records.id_size _ _ c.args.records.segments c.requires.records c.args.list.now c.requires.list
+rows_of-requires-clause-within g c = list-within c.args.bytes.now c.args.records.id_size _ _ c.args.records.segments c.requires.records c.args.list c.requires.list
 
 pub rows_of-requires-clause-classes : goal.rows_of-requires-clause-classes
 rows_of-requires-clause-classes g c =
-    let k = few-and-short c.args.bytes.now c.args.records.id_size _ _ c.args.records.segments c.requires.records c.args.list.now c.requires.list c.args.classes c.requires.classes c.requires.no_cycle in
+    let k = few-and-short c.args.bytes.now c.args.records.id_size _ _ c.args.records.segments c.requires.records c.args.list c.requires.list c.args.classes c.requires.classes c.requires.no_cycle in
     rw c.without_names-classes.ensures (record { few = k.few; short = k.short })
 
 pub kinds_of-requires-clause-columns : goal.kinds_of-requires-clause-columns
-kinds_of-requires-clause-columns g c κs within = rw c.in_ok-slot_table-2.ensures (whole-columns c.args.bytes.now c.args.records.id_size _ _ c.args.records.segments c.requires.records c.args.list.now c.requires.list c.args.classes c.requires.classes c.requires.no_cycle _ _ _ (rw c.without_names-classes.ensures at c.in_ok-numbered.ensures.numbers) (columns c.in_ok-slot_table.field-0.slot_table c.in_ok-slot_table.field-0.shapes.objects) (rw c.without_names-classes.ensures at c.in_ok-slot_table.ensures))
+kinds_of-requires-clause-columns g c κs within = rw c.in_ok-slot_table-2.ensures (whole-columns c.args.bytes.now c.args.records.id_size _ _ c.args.records.segments c.requires.records c.args.list c.requires.list c.args.classes c.requires.classes c.requires.no_cycle _ _ _ (rw c.without_names-classes.ensures at c.in_ok-numbered.ensures.numbers) (columns c.in_ok-slot_table.field-0.slot_table c.in_ok-slot_table.field-0.shapes.objects) (rw c.without_names-classes.ensures at c.in_ok-slot_table.ensures))
 
 pub returns-in_err-kinds-clause-err : goal.returns-in_err-kinds-clause-err
 returns-in_err-kinds-clause-err g c =
@@ -41,13 +41,13 @@ returns-in_err-kinds-clause-err g c =
     rw (p.1, p.2) (inl refl)
 
 pub new-requires-clause-columns : goal.new-requires-clause-columns
-new-requires-clause-columns g c = rw c.in_ok-slot_table-2.ensures (whole-columns c.args.bytes.now c.args.records.id_size _ _ c.args.records.segments c.requires.records c.args.list.now c.requires.list c.args.classes c.requires.classes c.requires.no_cycle _ _ _ (rw c.without_names-classes.ensures at c.in_ok-numbered.ensures.numbers) (columns c.in_ok-slot_table.field-0.slot_table c.in_ok-slot_table.field-0.shapes.objects) (rw c.without_names-classes.ensures at c.in_ok-slot_table.ensures))
+new-requires-clause-columns g c = rw c.in_ok-slot_table-2.ensures (whole-columns c.args.bytes.now c.args.records.id_size _ _ c.args.records.segments c.requires.records c.args.list c.requires.list c.args.classes c.requires.classes c.requires.no_cycle _ _ _ (rw c.without_names-classes.ensures at c.in_ok-numbered.ensures.numbers) (columns c.in_ok-slot_table.field-0.slot_table c.in_ok-slot_table.field-0.shapes.objects) (rw c.without_names-classes.ensures at c.in_ok-slot_table.ensures))
 
 pub new-requires-clause-small : goal.new-requires-clause-small
-new-requires-clause-small g c = small-shapes c.args.bytes.now c.args.records.id_size _ _ c.args.records.segments c.requires.records c.args.list.now c.requires.list c.args.classes c.requires.classes c.requires.no_cycle _ _ _ (rw c.without_names-classes.ensures at c.in_ok-numbered.ensures.numbers) (columns c.in_ok-slot_table.field-0.slot_table c.in_ok-slot_table.field-0.shapes.objects) (rw c.without_names-classes.ensures at c.in_ok-slot_table.ensures)
+new-requires-clause-small g c = small-shapes c.args.bytes.now c.args.records.id_size _ _ c.args.records.segments c.requires.records c.args.list c.requires.list c.args.classes c.requires.classes c.requires.no_cycle _ _ _ (rw c.without_names-classes.ensures at c.in_ok-numbered.ensures.numbers) (columns c.in_ok-slot_table.field-0.slot_table c.in_ok-slot_table.field-0.shapes.objects) (rw c.without_names-classes.ensures at c.in_ok-slot_table.ensures)
 
 pub new-requires-clause-few_roots : goal.new-requires-clause-few_roots
-new-requires-clause-few_roots g c = few-roots c.args.bytes.now c.args.records.id_size _ _ c.args.records.segments c.requires.records c.args.list.now c.requires.list c.args.classes c.requires.classes c.requires.no_cycle _ _ _ (rw c.without_names-classes.ensures at c.in_ok-numbered.ensures.numbers)
+new-requires-clause-few_roots g c = few-roots c.args.bytes.now c.args.records.id_size _ _ c.args.records.segments c.requires.records c.args.list c.requires.list c.args.classes c.requires.classes c.requires.no_cycle _ _ _ (rw c.without_names-classes.ensures at c.in_ok-numbered.ensures.numbers)
 
 pub returns-clause-ok : goal.returns-clause-ok
-returns-clause-ok g c = rw (c.new.ensures, c.in_ok-slot_table-2.ensures) (opened c.args.bytes.now c.args.records.id_size _ _ c.args.records.segments c.requires.records c.args.list.now c.requires.list c.args.classes c.requires.classes c.requires.no_cycle _ _ _ (rw c.without_names-classes.ensures at c.in_ok-numbered.ensures.numbers) (columns c.in_ok-slot_table.field-0.slot_table c.in_ok-slot_table.field-0.shapes.objects) (rw c.without_names-classes.ensures at c.in_ok-slot_table.ensures) c.args.mode _ c.in_ok-names.ensures _ _ (ap (λ (r : RepeatedRecords). r.texts) (c.repeated-texts.ensures ∙ c.requires.classes.repeated)) (ap (λ (r : RepeatedRecords). r.loads) (c.repeated-texts.ensures ∙ c.requires.classes.repeated)))
+returns-clause-ok g c = rw (c.new.ensures, c.in_ok-slot_table-2.ensures) (opened c.args.bytes.now c.args.records.id_size _ _ c.args.records.segments c.requires.records c.args.list c.requires.list c.args.classes c.requires.classes c.requires.no_cycle _ _ _ (rw c.without_names-classes.ensures at c.in_ok-numbered.ensures.numbers) (columns c.in_ok-slot_table.field-0.slot_table c.in_ok-slot_table.field-0.shapes.objects) (rw c.without_names-classes.ensures at c.in_ok-slot_table.ensures) c.args.mode _ c.in_ok-names.ensures _ _ (ap (λ (r : RepeatedRecords). r.texts) (c.repeated-texts.ensures ∙ c.requires.classes.repeated)) (ap (λ (r : RepeatedRecords). r.loads) (c.repeated-texts.ensures ∙ c.requires.classes.repeated)))

@@ -1,8 +1,8 @@
 use Rattle.std.proofs.Common.{◌∙◌, true, false, sym, arith}
 use Rattle.hd_terms.specs.declared.Text.{Text}
 use Rattle.hd_classes.proofs.NameLemmas.{next-first, next-repeated, repeated-le}
-use Rattle.hd_classes.proofs.names.first_texts.Goals as goal
-use Rattle.hd_classes.proofs.names.first_texts.Goals.{then-branch, else-branch}
+use Rattle.hd_classes.proofs.names.FirstTexts.of.Goals as goal
+use Rattle.hd_classes.proofs.names.FirstTexts.of.Goals.{then-branch, else-branch}
 
 pub overflow_add-repeated : goal.overflow_add-repeated
 overflow_add-repeated c = omega (arith, repeated-le (λ (x : Text). x.id) (λ (x : Text). x.text) c.as_slice-text-items.result.now c.loop-text.text-index _ c.loop-text.invariant.1)
