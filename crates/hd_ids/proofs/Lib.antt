@@ -5,3 +5,4 @@ pub mod RowLemmas
 pub mod JoinLemmas
 pub mod GuessLemmas
 pub mod ApartLemmas
+pub mod SlotLemmas

@@ -1,6 +1,6 @@
 -- Where the number of an ID stands: in the row of its page.
 -- Source: this project.
-use Rattle.std.specs.Prelude.{◌≡◌, nat_eq, ℕ, ◌+◌, ◌*◌, ◌/◌, ◌%◌, ◌≤◌, ◌<◌, ◌^◌, ◌==◌, ◌⊎◌, List, length, slice_index, if◌then◌else◌}
+use Rattle.std.specs.Prelude.{◌≡◌, nat_eq, ℕ, ◌+◌, ◌*◌, ◌/◌, ◌%◌, ◌≤◌, ◌<◌, ◌^◌, ◌==◌, ◌⊎◌, List, length, map, slice_index, if◌then◌else◌, All}
 use Rattle.std.specs.List.{position_or_len, IsDistinct}
 use Rattle.hd_ids.specs.Noted.{is_noted}
 
@@ -28,16 +28,35 @@ number_of ids id = if is_noted ids id then position_or_len (λ k. id == k) ids +
 abbrev pub MeetNowhere : List ℕ → ℕ → List ℕ → ℕ → Type 0
 MeetNowhere front i back k = (place : ℕ) → place < 512 → (slice_index front (i * 512 + place) ≡ 0) ⊎ (slice_index back (k * 512 + place) ≡ 0)
 
+-- the ID of a place in the row of a page
+abbrev pub id_at : ℕ → ℕ → ℕ
+id_at page place = page / 8 * 4096 + place * 8 + page % 8
+
+-- the ID whose number stands in a slot of the rows of these pages
+abbrev pub id_of_slot : List ℕ → ℕ → ℕ
+id_of_slot pages slot = id_at (slice_index pages (slot / 512)) (slot % 512)
+
+-- the IDs whose numbers stand in these slots
+abbrev pub ids_in : List ℕ → List ℕ → List ℕ
+ids_in pages slots = map (id_of_slot pages) slots
+
 -- these rows have the numbers of these IDs
 pub record AreNumbers (pages numbers ids : List ℕ) : Type 0 where
   pub rows : length numbers ≡ length pages * 512
   pub at : (id : ℕ) → slice_index numbers (slot_of pages id) ≡ number_of ids id
   pub distinct : IsDistinct nat_eq ids
 
--- the rows of `PagedIds`, and the row of the last page
+-- rows of IDs with at most 8 numbers for each ID and 65,536 more, and the row of the last page
 pub record AreRows (pages numbers ids : List ℕ) (last_page last_row : ℕ) : Type 0 where
   pub numbers_are : AreNumbers pages numbers ids
   pub last : row_of pages last_page ≡ last_row
   pub within : last_row ≤ length pages
   pub small : length numbers ≤ length ids * 8 + 2 ^ 16
   pub few_ids : length ids ≤ 2 ^ 31
+
+-- the slots of the numbers of IDs in rows, and the row of the last page
+pub record AreSlots (pages numbers slots : List ℕ) (last_page last_row : ℕ) : Type 0 where
+  pub rows : AreRows pages numbers (ids_in pages slots) last_page last_row
+  pub low : All (λ (p : ℕ). p < 2 ^ 55) pages
+  pub within : All (λ (s : ℕ). s < length pages * 512) slots
+  pub few : length numbers ≤ 2 ^ 32

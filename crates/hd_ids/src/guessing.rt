@@ -1,7 +1,7 @@
 //! Finding IDs by a guess of the row of their page.
 ghost use Rattle.std.specs.Prelude.{◌≡◌, ◌≤◌, ◌==◌, ◌^◌, ◌++◌, ℕ, nat_eq, length, Some, position, IfSome};
 ghost use Rattle.std.specs.List.{IsDistinct};
-ghost use Rattle.hd_ids.specs.Rows.{AreNumbers};
+ghost use Rattle.hd_ids.specs.Rows.{AreNumbers, ids_in};
 ghost use Rattle.hd_ids.specs.Joined as joined;
 
 use crate::directory::Directory;
@@ -12,7 +12,7 @@ use std::marker::Model;
 /// The IDs of one part, each found by its row.
 #[derive(Drop)]
 pub(crate) struct IdsByRow<'a> {
-    ids: &'a [u64],
+    slots: &'a [u32],
     pages: &'a [u64],
     numbers: &'a Numbers,
 }
@@ -20,24 +20,25 @@ pub(crate) struct IdsByRow<'a> {
 impl<'a> Model for IdsByRow<'a> {
     ghost use Rattle.std.specs.Prelude.{ℕ, List};
     ghost use Rattle.hd_ids.specs.Guessing.{AreByRow};
+    ghost use Rattle.hd_ids.specs.Rows.{ids_in};
 
     ghost Value = { List ℕ };
 
-    ghost view = { λ a. a.ids.now };
+    ghost view = { λ a. ids_in a.pages.now a.slots.now };
 
-    ghost invariant = { λ a. AreByRow a.pages.now a.numbers.now a.ids.now };
+    ghost invariant = { λ a. AreByRow a.pages.now a.numbers.now (ids_in a.pages.now a.slots.now) };
 }
 
 impl<'a> IdsByRow<'a> {
-    /// These IDs, whose pages have these rows of numbers.
-    pub(crate) fn new(ids: &'a [u64], pages: &'a [u64], numbers: &'a Numbers) -> IdsByRow<'a>
-        requires numbers { AreNumbers pages.now numbers.now ids.now }
+    /// The IDs whose numbers stand in these slots; their pages have these rows of numbers.
+    pub(crate) fn new(slots: &'a [u32], pages: &'a [u64], numbers: &'a Numbers) -> IdsByRow<'a>
+        requires numbers { AreNumbers pages.now numbers.now (ids_in pages.now slots.now) }
         requires distinct { IsDistinct nat_eq pages.now }
         requires few { length pages.now ≤ 2 ^ 32 }
-        ensures { result ≡ ids.now }
+        ensures { result ≡ ids_in pages.now slots.now }
     {
         IdsByRow {
-            ids,
+            slots,
             pages,
             numbers,
         }

@@ -1,5 +1,5 @@
 //! Numbering IDs: the number of an ID is its index in the order in which IDs are first met.
-ghost use Rattle.std.specs.Prelude.{◌≡◌, nat_eq, ◌<◌, ◌==◌, ℕ, [], length, not, position, Some, slice_index, IfOk, OnOk, OnErr, IfSome};
+ghost use Rattle.std.specs.Prelude.{◌≡◌, nat_eq, ◌<◌, ◌^◌, ◌==◌, ℕ, [], length, not, position, Some, slice_index, IfOk, OnOk, OnErr, IfSome};
 ghost use Rattle.std.specs.List.{IsDistinct};
 ghost use Rattle.hd_ids.specs.Noted.{is_noted, noted};
 
@@ -52,9 +52,11 @@ impl ObjectIds {
         })
     }
 
-    /// How many IDs there are.
+    /// How many IDs there are, fewer than 2^60. No two are alike.
     pub fn len(&self) -> usize
-        ensures { result ≡ length self.now }
+        ensures len { result ≡ length self.now }
+        ensures few { result < 2 ^ 60 }
+        ensures distinct { IsDistinct nat_eq self.now }
     {
         match &self.index {
             Index::Paged(paged) => paged.len(),
@@ -69,14 +71,15 @@ impl ObjectIds {
         self.len() == 0
     }
 
-    /// The IDs by number. No two are alike.
-    pub fn as_slice(&self) -> &[u64]
-        ensures ids { result.now ≡ self.now }
-        ensures distinct { IsDistinct nat_eq self.now }
+    /// The ID of a number.
+    #[inline(always)]
+    pub fn get(&self, number: usize) -> u64
+        requires { number < length self.now }
+        ensures { result ≡ slice_index self.now number }
     {
         match &self.index {
-            Index::Paged(paged) => paged.as_slice(),
-            Index::Plain(plain) => plain.as_slice(),
+            Index::Paged(paged) => paged.get(number),
+            Index::Plain(plain) => plain.get(number),
         }
     }
 

@@ -46,12 +46,12 @@ impl Model for JoinedIds {
 }
 
 /// Whether no ID is in both.
-fn are_apart(front: &ObjectIds, back: &[u64]) -> bool
+fn are_apart(front: &ObjectIds, back: &ObjectIds) -> bool
     ensures { result ≡ are_apart front.now back.now }
 {
     let mut finder = front.finder();
-    for id in back {
-        if finder.index_of(*id).is_some() {
+    for number in 0..back.len() {
+        if finder.index_of(back.get(number)).is_some() {
             return false;
         }
     }
@@ -97,7 +97,7 @@ impl JoinedIds {
     pub fn alone(alloc: Global, ids: ObjectIds) -> Result<JoinedIds, AllocError>
         ensures { IfOk result (λ joined. joined ≡ ids) }
     {
-        let front_len = ids.as_slice().len();
+        let front_len = ids.len();
         let back = ObjectIds::with_capacity(alloc, 0, 0)?;
         Ok(JoinedIds {
             front: ids,
@@ -111,9 +111,9 @@ impl JoinedIds {
     pub fn join(front: ObjectIds, back: ObjectIds) -> Option<JoinedIds>
         ensures { MatchOption result (are_apart front back ≡ false) (λ ids. (are_apart front back ≡ true) × (ids ≡ front ++ back)) }
     {
-        let front_len = front.as_slice().len();
-        let back_ids = back.as_slice();
-        if !are_apart_by_rows(&front, &back) && !are_apart(&front, back_ids) {
+        let front_len = front.len();
+        let back_len = back.len();
+        if !are_apart_by_rows(&front, &back) && !are_apart(&front, &back) {
             return None;
         }
         let directory = directory_of(&front, &back);
@@ -139,9 +139,9 @@ impl JoinedIds {
         ensures { result ≡ slice_index self.now number }
     {
         if number < self.front_len {
-            self.front.as_slice()[number]
+            self.front.get(number)
         } else {
-            self.back.as_slice()[number - self.front_len]
+            self.back.get(number - self.front_len)
         }
     }
 

@@ -23,7 +23,7 @@ pub(crate) struct PageRow {
 /// few pages for a while.
 #[derive(Drop)]
 pub(crate) struct NearIds<'a> {
-    ids: &'a [u64],
+    slots: &'a [u32],
     pages: &'a IndexSet<u64, PageHasher>,
     numbers: &'a Numbers,
     /// The rows at hand, each at the place of its page. Of pages that have one place it is that of the last one.
@@ -55,28 +55,29 @@ fn row_by_hand(
 impl<'a> Model for NearIds<'a> {
     ghost use Rattle.std.specs.Prelude.{ℕ, List};
     ghost use Rattle.hd_ids.specs.AtHand.{AreAtHand};
+    ghost use Rattle.hd_ids.specs.Rows.{ids_in};
 
     ghost Value = { List ℕ };
 
-    ghost view = { λ a. a.ids.now };
+    ghost view = { λ a. ids_in a.pages.now.keys a.slots.now };
 
-    ghost invariant = { λ a. AreAtHand a.pages.now.keys a.numbers.now a.ids.now a.at_hand };
+    ghost invariant = { λ a. AreAtHand a.pages.now.keys a.numbers.now (ids_in a.pages.now.keys a.slots.now) a.at_hand };
 }
 
 impl<'a> NearIds<'a> {
-    /// Finds these IDs by rows of numbers. One row is at hand at first, that of a page.
+    /// Finds the IDs whose numbers stand in these slots by rows of numbers. One row is at hand at first, that of a page.
     pub(crate) fn new(
-        ids: &'a [u64],
+        slots: &'a [u32],
         pages: &'a IndexSet<u64, PageHasher>,
         numbers: &'a Numbers,
         page: u64,
         row: usize,
     ) -> NearIds<'a>
-        requires { rows.AreRows pages.now.keys numbers.now ids.now page row }
-        ensures { result ≡ ids.now }
+        requires { rows.AreRows pages.now.keys numbers.now (rows.ids_in pages.now.keys slots.now) page row }
+        ensures { result ≡ rows.ids_in pages.now.keys slots.now }
     {
         NearIds {
-            ids,
+            slots,
             pages,
             numbers,
             at_hand: [PageRow { page, row }; AT_HAND],

@@ -1,5 +1,5 @@
 //! IDs by pages of the heap.
-ghost use Rattle.std.specs.Prelude.{◌≡◌, nat_eq, ◌<◌, ◌==◌, ℕ, [], length, not, position, Some, slice_index, true, IfOk, OnOk, OnErr, IfSome, IfNone};
+ghost use Rattle.std.specs.Prelude.{◌≡◌, nat_eq, ◌<◌, ◌^◌, ◌==◌, ℕ, [], length, not, position, Some, slice_index, true, IfOk, OnOk, OnErr, IfSome, IfNone};
 ghost use Rattle.std.specs.List.{IsDistinct};
 ghost use Rattle.hd_ids.specs.Noted.{are_apart, is_noted, noted};
 
@@ -8,19 +8,26 @@ use crate::guessing::IdsByRow;
 use crate::near::NearIds;
 use crate::numbers::{Numbers, ROW};
 use crate::plain::PlainIds;
-use crate::rows::{add_id, add_row, number_at, page_of, place_of, row_after, row_of, rows_meet};
+use crate::rows::{
+    add_row, add_slot, id_at, number_at, page_of, place_of, row_after, row_of, rows_meet,
+};
 use hd_hashers::PageHasher;
 use indexmap::IndexSet;
 use std::alloc::{AllocError, Global};
 use std::marker::Model;
 
+/// How many numbers the rows have at most, so that a slot of them takes four bytes.
+const MOST_NUMBERS: usize = 1 << 32;
+
 /// IDs by pages of the heap: the numbers of those of one page stand in one row.
 ///
-/// The rows have at most 8 numbers for each ID, and 65,536 more.
+/// The rows have at most 8 numbers for each ID and 65,536 more, and 2^32 in all. An ID isn't kept itself: the slot of its number
+/// and the page of that row tell it, and take half as much memory.
 pub(crate) struct PagedIds {
     alloc: Global,
     secret: u64,
-    ids: Vec<u64>,
+    /// Of each ID the slot in which its number stands.
+    slots: Vec<u32>,
     /// The pages of the IDs, in the order of their rows.
     pages: IndexSet<u64, PageHasher>,
     /// Rows of 512: one more than the number of each ID of a page, 0 where there is none.
@@ -36,7 +43,7 @@ impl Drop for PagedIds {
         let Self {
             alloc: _,
             secret: _,
-            ids,
+            slots,
             pages,
             numbers,
             last_page: _,
@@ -47,13 +54,13 @@ impl Drop for PagedIds {
 
 impl Model for PagedIds {
     ghost use Rattle.std.specs.Prelude.{ℕ, List};
-    ghost use Rattle.hd_ids.specs.Rows.{AreRows};
+    ghost use Rattle.hd_ids.specs.Rows.{AreSlots, ids_in};
 
     ghost Value = { List ℕ };
 
-    ghost view = { λ a. a.ids.items };
+    ghost view = { λ a. ids_in a.pages.keys a.slots.items };
 
-    ghost invariant = { λ a. AreRows a.pages.keys a.numbers a.ids.items a.last_page a.last_row };
+    ghost invariant = { λ a. AreSlots a.pages.keys a.numbers a.slots.items a.last_page a.last_row };
 }
 
 impl PagedIds {
@@ -65,14 +72,14 @@ impl PagedIds {
     ) -> Result<PagedIds, AllocError>
         ensures { IfOk result (λ ids. ids ≡ []) }
     {
-        let ids = Vec::with_capacity(alloc, room)?;
+        let slots = Vec::with_capacity(alloc, room)?;
         // As many as `note` lets the rows have where there are so many IDs.
         let most_numbers = room.saturating_mul(8).saturating_add(1 << 16);
         let numbers = Numbers::with_room(alloc, PageHasher::new(secret), most_numbers);
         Ok(PagedIds {
             alloc,
             secret,
-            ids,
+            slots,
             pages: IndexSet::with_hasher(alloc, PageHasher::new(secret)),
             numbers,
             last_page: 0,
@@ -80,19 +87,23 @@ impl PagedIds {
         })
     }
 
-    /// How many IDs there are.
+    /// How many IDs there are, fewer than 2^60. No two are alike.
     pub(crate) fn len(&self) -> usize
-        ensures { result ≡ length self.now }
-    {
-        self.ids.len()
-    }
-
-    /// The IDs by number. No two are alike.
-    pub(crate) fn as_slice(&self) -> &[u64]
-        ensures ids { result.now ≡ self.now }
+        ensures len { result ≡ length self.now }
+        ensures few { result < 2 ^ 60 }
         ensures distinct { IsDistinct nat_eq self.now }
     {
-        self.ids.as_slice()
+        self.slots.len()
+    }
+
+    /// The ID of a number.
+    #[inline(always)]
+    pub(crate) fn get(&self, number: usize) -> u64
+        requires { number < length self.now }
+        ensures { result ≡ slice_index self.now number }
+    {
+        let slot = self.slots[number] as usize;
+        id_at(self.pages.as_slice()[slot / ROW], slot % ROW)
     }
 
     /// The number of an ID, if it was noted.
@@ -108,7 +119,7 @@ impl PagedIds {
         ensures { result ≡ self.now }
     {
         NearIds::new(
-            self.ids.as_slice(),
+            self.slots.as_slice(),
             &self.pages,
             &self.numbers,
             self.last_page,
@@ -120,7 +131,7 @@ impl PagedIds {
     pub(crate) fn by_row(&self) -> IdsByRow<'_>
         ensures { result ≡ self.now }
     {
-        IdsByRow::new(self.ids.as_slice(), self.pages.as_slice(), &self.numbers)
+        IdsByRow::new(self.slots.as_slice(), self.pages.as_slice(), &self.numbers)
     }
 
     /// Guesses of the rows of the pages of these IDs and of further ones.
@@ -143,8 +154,8 @@ impl PagedIds {
         true
     }
 
-    /// Notes an ID, and answers whether it is new, or `None` where rows don't serve: a further row would have too few IDs,
-    /// or the ID's number would have too many bits. Then, and out of memory, nothing is noted.
+    /// Notes an ID, and answers whether it is new, or `None` where rows don't serve: a further row would have too few IDs, the rows
+    /// would have too many numbers, or the ID's number too many bits. Then, and out of memory, nothing is noted.
     #[inline(always)]
     pub(crate) fn note(&mut self, id: u64) -> Result<Option<bool>, AllocError>
         ensures noted { IfOk result (λ answer. IfSome answer (λ new. self.new ≡ noted self.old id)) }
@@ -152,7 +163,7 @@ impl PagedIds {
         ensures none { IfOk result (λ answer. IfNone answer (self.new ≡ self.old)) }
         ensures err { OnErr result (self.new ≡ self.old) }
     {
-        if self.ids.len() >= 1 << 31 {
+        if self.slots.len() >= 1 << 31 {
             return Ok(None);
         }
         let page = page_of(id);
@@ -161,27 +172,38 @@ impl PagedIds {
         self.last_row = row;
         let slot = row * ROW + place_of(id);
         if slot >= self.numbers.len() {
-            if self.numbers.len() + ROW > self.ids.len() * 8 + (1 << 16) {
+            if self.numbers.len() + ROW > (self.slots.len() * 8 + (1 << 16)).min(MOST_NUMBERS) {
                 return Ok(None);
             }
             add_row(&mut self.pages, &mut self.numbers, page)?;
-            add_id(&mut self.ids, &mut self.numbers, slot, id)?;
+            add_slot(&mut self.slots, &mut self.numbers, slot)?;
             return Ok(Some(true));
         }
         if self.numbers.get(slot) != 0 {
             return Ok(Some(false));
         }
-        add_id(&mut self.ids, &mut self.numbers, slot, id)?;
+        add_slot(&mut self.slots, &mut self.numbers, slot)?;
         Ok(Some(true))
     }
 
-    /// The same IDs and a further one by one index of them all, with room for as many as their list, and whether it is new.
+    /// The same IDs by one index of them all, with room for as many as their list.
+    fn to_plain(&self) -> Result<PlainIds, AllocError>
+        ensures { IfOk result (λ plain. plain ≡ self.now) }
+    {
+        let room = self.slots.capacity();
+        let mut plain = PlainIds::with_capacity(self.alloc, room, self.secret)?;
+        for number in 0..self.len() {
+            plain.note(self.get(number))?;
+        }
+        Ok(plain)
+    }
+
+    /// The same IDs and a further one by one index of them all, and whether it is new.
     pub(crate) fn to_plain_with(&self, id: u64) -> Result<(PlainIds, bool), AllocError>
         ensures noted { IfOk result (λ r. r.0 ≡ noted self.now id) }
         ensures is_new { IfOk result (λ r. r.1 ≡ not (is_noted self.now id)) }
     {
-        let room = self.ids.capacity();
-        let mut plain = PlainIds::with_ids(self.alloc, &self.ids, room, self.secret)?;
+        let mut plain = self.to_plain()?;
         let new = plain.note(id)?;
         Ok((plain, new))
     }

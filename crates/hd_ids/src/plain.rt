@@ -1,5 +1,5 @@
 //! IDs by one index of them all.
-ghost use Rattle.std.specs.Prelude.{◌≡◌, nat_eq, ◌<◌, ◌==◌, ℕ, length, not, position, Some, slice_index, IfOk, OnOk, OnErr};
+ghost use Rattle.std.specs.Prelude.{◌≡◌, nat_eq, ◌<◌, ◌^◌, ◌==◌, ℕ, [], length, not, position, Some, slice_index, IfOk, OnOk, OnErr};
 ghost use Rattle.std.specs.List.{IsDistinct};
 ghost use Rattle.hd_ids.specs.Noted.{is_noted, noted};
 
@@ -32,36 +32,33 @@ impl Model for PlainIds {
 }
 
 impl PlainIds {
-    /// These IDs, with room for so many.
-    pub(crate) fn with_ids(
+    /// No IDs yet, with room for so many.
+    pub(crate) fn with_capacity(
         alloc: Global,
-        ids: &[u64],
         room: usize,
         secret: u64,
     ) -> Result<PlainIds, AllocError>
-        requires { IsDistinct nat_eq ids.now }
-        ensures { IfOk result (λ plain. plain ≡ ids.now) }
+        ensures { IfOk result (λ plain. plain ≡ []) }
     {
-        let mut set = IndexSet::with_capacity_and_hasher(alloc, room, IdHasher::new(secret))?;
-        for id in ids {
-            set.insert(*id)?;
-        }
+        let set = IndexSet::with_capacity_and_hasher(alloc, room, IdHasher::new(secret))?;
         Ok(PlainIds { set })
     }
 
-    /// How many IDs there are.
+    /// How many IDs there are, fewer than 2^60. No two are alike.
     pub(crate) fn len(&self) -> usize
-        ensures { result ≡ length self.now }
-    {
-        self.set.len()
-    }
-
-    /// The IDs by number. No two are alike.
-    pub(crate) fn as_slice(&self) -> &[u64]
-        ensures ids { result.now ≡ self.now }
+        ensures len { result ≡ length self.now }
+        ensures few { result < 2 ^ 60 }
         ensures distinct { IsDistinct nat_eq self.now }
     {
-        self.set.as_slice()
+        self.set.as_slice().len()
+    }
+
+    /// The ID of a number.
+    pub(crate) fn get(&self, number: usize) -> u64
+        requires { number < length self.now }
+        ensures { result ≡ slice_index self.now number }
+    {
+        self.set[number]
     }
 
     /// The number of an ID, if it was noted.

@@ -22,6 +22,15 @@ pub(crate) fn place_of(id: u64) -> usize
     (id / 8 % 512) as usize
 }
 
+/// The ID of a place in the row of a page.
+pub(crate) fn id_at(page: u64, place: usize) -> u64
+    requires page { page < 2 ^ 55 }
+    requires place { place < 512 }
+    ensures { result ≡ rows.id_at page place }
+{
+    page / 8 * 4096 + place as u64 * 8 + page % 8
+}
+
 /// The row of a page, one past the last where it has none.
 pub(crate) fn row_of(pages: &IndexSet<u64, PageHasher>, page: u64) -> usize
     ensures row { result ≡ rows.row_of pages.now.keys page }
@@ -113,23 +122,23 @@ pub(crate) fn add_row(
     Ok(())
 }
 
-/// Adds an ID, and writes its number into its row.
+/// Adds the slot of an ID, and writes the ID's number there.
 #[inline(always)]
-pub(crate) fn add_id(
-    ids: &mut Vec<u64>,
+pub(crate) fn add_slot(
+    slots: &mut Vec<u32>,
     numbers: &mut Numbers,
     slot: usize,
-    id: u64,
 ) -> Result<(), AllocError>
-    requires few { length ids.old.items < 2 ^ 31 }
+    requires few { length slots.old.items < 2 ^ 31 }
     requires within { slot < length numbers.old }
-    ensures ids { OnOk result (ids.new.items ≡ ids.old.items ++ id ∷ []) }
-    ensures numbers { OnOk result (numbers.new ≡ slice_set numbers.old slot (length ids.old.items + 1)) }
-    ensures same_ids { OnErr result (ids.new.items ≡ ids.old.items) }
+    requires low { slot < 2 ^ 32 }
+    ensures slots { OnOk result (slots.new.items ≡ slots.old.items ++ slot ∷ []) }
+    ensures numbers { OnOk result (numbers.new ≡ slice_set numbers.old slot (length slots.old.items + 1)) }
+    ensures same_slots { OnErr result (slots.new.items ≡ slots.old.items) }
     ensures same_numbers { OnErr result (numbers.new ≡ numbers.old) }
 {
-    ids.reserve(1)?;
-    numbers.set(slot, ids.len() as u32 + 1)?;
-    ids.push_reserved(id);
+    slots.reserve(1)?;
+    numbers.set(slot, slots.len() as u32 + 1)?;
+    slots.push_reserved(slot as u32);
     Ok(())
 }

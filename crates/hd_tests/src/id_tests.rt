@@ -33,6 +33,19 @@ fn agree<R: Abort>(rt: &R, ids: &mut ObjectIds, set: &mut IndexSet<u64>, id: u64
     before && noted && after && beside
 }
 
+/// Whether the IDs of an index are these, in this order.
+fn are_those(ids: &ObjectIds, wanted: &[u64]) -> bool {
+    if ids.len() != wanted.len() {
+        return false;
+    }
+    for number in 0..wanted.len() {
+        if ids.get(number) != wanted[number] {
+            return false;
+        }
+    }
+    true
+}
+
 /// Whether they agree for the IDs of so many steps.
 fn agree_for<R: Abort>(rt: &R, ids: &mut ObjectIds, set: &mut IndexSet<u64>, steps: u64) -> bool {
     let mut random = 1;
@@ -42,7 +55,7 @@ fn agree_for<R: Abort>(rt: &R, ids: &mut ObjectIds, set: &mut IndexSet<u64>, ste
             return false;
         }
     }
-    ids.as_slice() == set.as_slice()
+    are_those(ids, set.as_slice())
 }
 
 #[test]
@@ -156,7 +169,7 @@ fn ids_at_the_ends(rt: HostRuntime) {
     let more = [0, u64::MAX, 0, 1, u64::MAX - 7, 4096, 4095, 8];
     assert_eq!(rt; noted(&rt, &mut ids, &more), (Some(5), None));
     let once = [0, u64::MAX, 1, u64::MAX - 7, 4096, 4095, 8];
-    assert_eq!(rt; ids.as_slice(), once.as_slice());
+    assert!(rt; are_those(&ids, once.as_slice()));
 }
 
 /// The ID at an offset of a page of 4,096 addresses. The rows of pages whose numbers are 512 apart take turns in one place of

@@ -4,5 +4,5 @@ use Rattle.hd_ids.specs.Noted.{is_noted}
 use Rattle.hd_ids.proofs.joined.are_apart.Given as goal
 
 -- none of the IDs so far is one of the first part
-abbrev pub invariant-loop-id : goal.invariant-loop-id
-invariant-loop-id l = (list_any (is_noted l.front) (take l.id-index l.back) ≡ false) × (l.finder ≡ l.front)
+abbrev pub invariant-loop-number : goal.invariant-loop-number
+invariant-loop-number l = (list_any (is_noted l.front) (take l.number l.back) ≡ false) × (l.finder ≡ l.front)

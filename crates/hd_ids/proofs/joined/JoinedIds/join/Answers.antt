@@ -1,4 +1,4 @@
-use Rattle.std.proofs.Common.{◌≡◌, ◌∙◌, length, true, ap, sym, arith}
+use Rattle.std.proofs.Common.{◌≡◌, ◌∙◌, true, sym, arith}
 use Rattle.hd_ids.specs.Noted.{are_apart}
 use Rattle.hd_ids.proofs.JoinLemmas.{distinct-join, apart-none}
 use Rattle.hd_ids.proofs.joined.JoinedIds.join.Goals.{else-not-are_apart_by_rows-via-then-not-are_apart_by_rows+else-not-are_apart, else-not-are_apart_by_rows-via-else-not-are_apart_by_rows}
@@ -9,10 +9,10 @@ invariant_of-result c =
     let front = c.args.front in
     let back = c.args.back in
     let apart : are_apart front back ≡ true = elim c.else-not-are_apart_by_rows.branch [
-      | else-not-are_apart_by_rows-via-then-not-are_apart_by_rows+else-not-are_apart w ↦ ap (are_apart front) (sym c.as_slice-back_ids.ensures.ids) ∙ sym w.are_apart.ensures ∙ w.if-not-are_apart.false
+      | else-not-are_apart_by_rows-via-then-not-are_apart_by_rows+else-not-are_apart w ↦ sym w.are_apart.ensures ∙ w.if-not-are_apart.false
       | else-not-are_apart_by_rows-via-else-not-are_apart_by_rows w ↦ c.are_apart_by_rows.ensures w.if-not-are_apart_by_rows.false
     ] in
     record {
-      distinct = distinct-join front back c.as_slice-front_len.ensures.distinct c.as_slice-back_ids.ensures.distinct (apart-none front back apart);
-      found = record { front_is = ap length c.as_slice-front_len.ensures.ids; few = omega (arith, ap length c.as_slice-front_len.ensures.ids, ap length c.as_slice-back_ids.ensures.ids, c.as_slice-front_len.type_inv, c.as_slice-back_ids.type_inv) };
+      distinct = distinct-join front back c.len-front_len.ensures.distinct c.len-back_len.ensures.distinct (apart-none front back apart);
+      found = record { front_is = c.len-front_len.ensures.len; few = omega (arith, c.len-front_len.ensures.len, c.len-back_len.ensures.len, c.len-front_len.ensures.few, c.len-back_len.ensures.few) };
     }

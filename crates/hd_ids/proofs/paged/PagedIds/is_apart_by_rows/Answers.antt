@@ -1,6 +1,6 @@
 use Rattle.std.proofs.Common.{◌≡◌, ◌∙◌, ℕ, inl, inr, List, length, slice_index, refl, ap, subst, arith}
 use Rattle.std.proofs.lemmas.Bool.{cases_lt}
-use Rattle.hd_ids.specs.Rows.{MeetNowhere, row_of}
+use Rattle.hd_ids.specs.Rows.{MeetNowhere, row_of, ids_in}
 use Rattle.hd_ids.proofs.ApartLemmas.{apart-by-rows}
 use Rattle.hd_ids.proofs.paged.PagedIds.is_apart_by_rows.Goals as goal
 
@@ -25,5 +25,5 @@ returns c _ =
     let front = c.self.inside in
     let back = c.back.inside in
     rw (← c.self.view_is, ← c.back.view_is)
-    (apart-by-rows front.pages.keys front.numbers front.ids.items c.self.invariant.numbers_are back.pages.keys back.numbers back.ids.items c.back.invariant.numbers_are
+    (apart-by-rows front.pages.keys front.numbers (ids_in front.pages.keys front.slots.items) c.self.invariant.rows.numbers_are back.pages.keys back.numbers (ids_in back.pages.keys back.slots.items) c.back.invariant.rows.numbers_are
     (λ r lt. c.loop-row.invariant r (omega (arith, lt, c.loop-row-test.false, ap length c.as_slice-pages.ensures.keys))))
