@@ -11,7 +11,7 @@ use std::marker::Model;
 use std::thread::Threads;
 
 /// How many threads fill memory at most.
-const THREADS: usize = 4;
+const THREADS: usize = 8;
 
 /// Bytes in memory, with room for more directly after them.
 pub struct Buffer<A: Allocator> {
@@ -87,8 +87,8 @@ impl<A: Allocator> Buffer<A> {
         self.room.capacity()
     }
 
-    /// Fills the next `count` bytes of the room, at most all of it. `f` is called with runs of zeros of at most 1 MiB and the
-    /// offsets in the buffer at which they begin, by up to four threads at once; what it leaves there is kept. The buffer is taken
+    /// Fills the next `count` bytes of the room, at most all of it. `f` is called with runs of zeros of at most 256 KiB and the
+    /// offsets in the buffer at which they begin, by up to eight threads at once; what it leaves there is kept. The buffer is taken
     /// and answered, since its memory is in the threads' hands meanwhile.
     pub fn fill<R: Threads + Sync, F: Fn(usize, &mut [u8]) + Sync>(
         self,

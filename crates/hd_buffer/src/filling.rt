@@ -8,8 +8,8 @@ use crate::pieces::{split, unite};
 use crate::space::Piece;
 use std::thread::{Threads, join};
 
-/// The most bytes that are zeroed before they are filled: 1 MiB. They should still be in the processor's cache then.
-const RUN: usize = 1_048_576;
+/// The most bytes that are zeroed before they are filled: 256 KiB. They should still be in the processor's cache then.
+const RUN: usize = 262_144;
 
 /// Fills a piece by one call. Its bytes begin at this offset of the buffer.
 fn fill_run<F: Fn(usize, &mut [u8])>(mut run: Piece, offset: usize, f: &F) -> Piece

@@ -73,7 +73,7 @@ fn fill_row(
 
 /// Adds the shape of the object of a sub-record, if it is one.
 #[inline(always)]
-pub(crate) fn fill_shape(
+fn fill_shape(
     alloc: Global,
     shapes: &mut Shapes,
     layouts: &mut LayoutBytes<'_>,

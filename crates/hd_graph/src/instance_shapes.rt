@@ -1,6 +1,6 @@
 //! The shapes of instances.
 ghost use Rattle.std.specs.Prelude.{◌≡◌, ◌<◌, ◌-◌, ◌^◌, ℕ, ◌∷◌, [], ◌++◌, length, OnOk};
-ghost use Rattle.hd_classes.specs.Fits.{length_by_number};
+ghost use Rattle.hd_classes.specs.Fits.{length_by_number, IsFit};
 ghost use Rattle.hd_classes.specs.Known.{known_at};
 ghost use Rattle.hd_graph.specs.ArrayRows.{fitting, instance_entry};
 ghost use Rattle.hd_graph.specs.Building.{AreLayouts, shape_by_number};
@@ -37,7 +37,32 @@ fn push_shape(
     Ok(())
 }
 
-/// Adds the shape of an instance. One by whose class its values can't be read is like an object array.
+/// Adds the shape of an instance, by how its values fit the layout of its class. One by whose class its values can't be read is
+/// like an object array.
+#[inline(always)]
+pub(crate) fn push_fitted_shape(
+    alloc: Global,
+    shapes: &mut Shapes,
+    layouts: &LayoutBytes<'_>,
+    fit: Fit,
+    values: Span,
+) -> Result<(), AllocError>
+    requires fit { (class : ℕ) × IsFit layouts.now.size values.len layouts.now.classes class fit }
+    requires small { values.len < 2 ^ 32 }
+    requires few { length shapes.old.objects < 2 ^ 32 - 1 }
+    requires classes { AreLayouts layouts.now.size layouts.now.classes shapes.old.layouts }
+    ensures added { OnOk result ((id class : ℕ) → IsFit layouts.now.size values.len layouts.now.classes class fit → shapes.new.objects ≡ shapes.old.objects ++ (instance_entry [] layouts.now.size id class values (fitting layouts.now.size values.len (known_at layouts.now.classes class))).2 ∷ []) }
+    ensures classes { OnOk result (AreLayouts layouts.now.size layouts.now.classes shapes.new.layouts) }
+{
+    let bytes = values.len as u32;
+    match fit {
+        Fit::Class(number) => push_shape(alloc, shapes, layouts, number, bytes)?,
+        Fit::Unknown | Fit::Misfit => shapes.push_object_array(bytes)?,
+    }
+    Ok(())
+}
+
+/// Adds the shape of an instance.
 #[inline(always)]
 pub(crate) fn push_instance_shape(
     alloc: Global,
@@ -53,10 +78,6 @@ pub(crate) fn push_instance_shape(
     ensures classes { OnOk result (AreLayouts layouts.old.size layouts.old.classes shapes.new.layouts) }
     ensures same { OnOk result (layouts.new ≡ layouts.old) }
 {
-    let bytes = values.len as u32;
-    match layouts.fit(class, values.len) {
-        Fit::Class(number) => push_shape(alloc, shapes, layouts, number, bytes)?,
-        Fit::Unknown | Fit::Misfit => shapes.push_object_array(bytes)?,
-    }
-    Ok(())
+    let fit = layouts.fit(class, values.len);
+    push_fitted_shape(alloc, shapes, layouts, fit, values)
 }

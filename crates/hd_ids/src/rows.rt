@@ -137,7 +137,10 @@ pub(crate) fn add_slot(
     ensures same_slots { OnErr result (slots.new.items ≡ slots.old.items) }
     ensures same_numbers { OnErr result (numbers.new ≡ numbers.old) }
 {
-    slots.reserve(1)?;
+    // Where there is room, this call would take longer than the rest.
+    if slots.len() == slots.capacity() {
+        slots.reserve(1)?;
+    }
     numbers.set(slot, slots.len() as u32 + 1)?;
     slots.push_reserved(slot as u32);
     Ok(())

@@ -14,8 +14,8 @@ use std::sync::atomic::{AtomicBool, Ordering};
 use std::thread::Threads;
 use std::time::Clock;
 
-/// The most bytes that are read before it is shown how far the reading is: 64 MiB.
-const PIECE: usize = 67_108_864;
+/// The most bytes that are read before it is shown how far the reading is: 256 MiB.
+const PIECE: usize = 268_435_456;
 
 /// Why a file is not in memory.
 #[derive(Clone, Copy, Debug, PartialEq, Eq)]
@@ -28,7 +28,7 @@ pub enum FileFault {
     Memory,
 }
 
-/// Fills the room of a buffer with the bytes of a file, piece by piece, and shows how far that is. Up to four threads read a part
+/// Fills the room of a buffer with the bytes of a file, piece by piece, and shows how far that is. Up to eight threads read a part
 /// of each piece.
 fn read_pieces<R: Clock + Threads + Sync, E: Write>(
     rt: &R,

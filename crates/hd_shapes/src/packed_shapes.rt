@@ -143,7 +143,13 @@ impl PackedShapes {
         ensures same { IfErr result (λ e. self.new ≡ self.old) }
     {
         match code_of(shape) {
-            Some(code) => self.codes.push(code)?,
+            Some(code) => {
+                // Where there is room, this call would take longer than the rest.
+                if self.codes.len() == self.codes.capacity() {
+                    self.codes.reserve(1)?;
+                }
+                self.codes.push_reserved(code);
+            }
             None => self.push_other(shape)?,
         }
         Ok(())

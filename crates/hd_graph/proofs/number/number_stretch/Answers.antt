@@ -55,32 +55,31 @@ loop-i-preserved c =
     let at : slice_get (drop first list) k ≡ Some (sub_view c.get-sub.result) = at-distance list first c.loop-i.i _ c.loop-i.invariant.from (rw c.as_list-subs.ensures at c.get-sub.ensures) in
     let more = subst (λ (l : SizedClasses). NumbersOneMore (known_at l.classes) l.size (sub_view c.get-sub.result) c.loop-i.ids c.loop-i.roots.items c.loop-i.tally c.number_one.new.ids c.number_one.new.roots.items c.number_one.new.tally) c.loop-i.invariant.layouts c.in_ok-number_one.ensures.ok in
     let next : k + 1 ≡ c.loop-i.i + 1 - first = let from = c.loop-i.invariant.from in omega arith in
-    let layouts = c.in_ok-number_one.ensures.same ∙ c.loop-i.invariant.layouts in
     let now = c.loop-i.shapes.objects in
-    let then = c.fill_shape.new.shapes.objects in
-    let shape = subst (λ (l : SizedClasses). then ≡ now ++ cons_option (shape_of_item (known_at l.classes) l.size (sub_view c.get-sub.result).item) []) layouts c.in_ok-fill_shape.ensures.filled in
+    let then = c.number_one.new.shapes.objects in
+    let shape = subst (λ (l : SizedClasses). then ≡ now ++ cons_option (shape_of_item (known_at l.classes) l.size (sub_view c.get-sub.result).item) []) c.loop-i.invariant.layouts c.in_ok-number_one.ensures.shape in
     record {
       from = let from = c.loop-i.invariant.from in omega arith;
       numbered = subst (λ (n : ℕ). IsNumbered known c.args.id_size (stretch first n list) c.number_one.new.ids c.number_one.new.roots.items c.number_one.new.tally) next
           (rw (take-next (drop first list) k _ at) (more (stretch first k list) c.loop-i.invariant.numbered));
       shapes = subst (λ (n : ℕ). HasAllShapes known c.args.id_size (stretch first n list) then) next
           (shapes-next known c.args.id_size (drop first list) k _ at now then c.loop-i.invariant.shapes shape);
-      made = subst (λ (l : SizedClasses). AreLayouts l.size l.classes c.fill_shape.new.shapes.layouts) layouts c.in_ok-fill_shape.ensures.classes;
-      layouts = c.in_ok-fill_shape.ensures.same ∙ layouts;
+      made = subst (λ (l : SizedClasses). AreLayouts l.size l.classes c.number_one.new.shapes.layouts) c.loop-i.invariant.layouts c.in_ok-number_one.ensures.classes;
+      layouts = c.in_ok-number_one.ensures.same ∙ c.loop-i.invariant.layouts;
     }
 
-pub fill_shape-requires-clause-small : goal.fill_shape-requires-clause-small
-fill_shape-requires-clause-small c = omega (arith, weight-at c.args.list.now c.loop-i.i _ (rw c.as_list-subs.ensures at c.get-sub.ensures), c.requires.few)
+pub number_one-requires-clause-small : goal.number_one-requires-clause-small
+number_one-requires-clause-small c = omega (arith, weight-at c.args.list.now c.loop-i.i _ (rw c.as_list-subs.ensures at c.get-sub.ensures), c.requires.few)
 
-pub fill_shape-requires-clause-few : goal.fill_shape-requires-clause-few
-fill_shape-requires-clause-few c =
+pub number_one-requires-clause-few : goal.number_one-requires-clause-few
+number_one-requires-clause-few c =
     let list = c.args.list.now in
     let k = c.loop-i.i - c.args.first in
     let few = few-all-shapes (known_at c.args.classes.now) c.args.id_size (stretch c.args.first k list) c.loop-i.shapes.objects c.loop-i.invariant.shapes in
     omega (arith, few, length-take k (drop c.args.first list), length-drop c.args.first list, length-le-weight list, c.requires.few)
 
-pub fill_shape-requires-clause-classes : goal.fill_shape-requires-clause-classes
-fill_shape-requires-clause-classes c = subst (λ (l : SizedClasses). AreLayouts l.size l.classes c.loop-i.shapes.layouts) (sym (c.in_ok-number_one.ensures.same ∙ c.loop-i.invariant.layouts)) c.loop-i.invariant.made
+pub number_one-requires-clause-classes : goal.number_one-requires-clause-classes
+number_one-requires-clause-classes c = subst (λ (l : SizedClasses). AreLayouts l.size l.classes c.loop-i.shapes.layouts) (sym c.loop-i.invariant.layouts) c.loop-i.invariant.made
 
 pub returns-in_err-number_one-clause-err : goal.returns-in_err-number_one-clause-err
 returns-in_err-number_one-clause-err c =
