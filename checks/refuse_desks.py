@@ -112,11 +112,10 @@ def check(lines):
 
 def run(program, library, number, room):
     mark = room / "mark"
-    with open(mark, "wb") as out:
-        environment = dict(os.environ, LD_PRELOAD=str(library), REFUSE=str(number))
-        ended = subprocess.run(
-            ["bash", "-c", 'exec "$0" 3>"$1"', program, str(mark)], env=environment, capture_output=True, text=True, check=False
-        )
+    # The library is for the program alone: bash takes memory too.
+    script = 'LD_PRELOAD="$2" REFUSE="$3" exec "$0" 3>"$1"'
+    start = ["bash", "-c", script, program, str(mark), str(library), str(number)]
+    ended = subprocess.run(start, capture_output=True, text=True, check=False)
     return ended, mark.stat().st_size > 0
 
 
