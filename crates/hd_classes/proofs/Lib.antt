@@ -1,4 +1,5 @@
 pub mod FieldLemmas
+pub mod PlaceLemmas
 pub mod FitLemmas
 pub mod LinkLemmas
 pub mod LookLemmas

@@ -13,4 +13,5 @@ pub mod Names
 pub mod NamesInside
 pub mod Repeats
 pub mod Fits
+pub mod Places
 pub mod FitsInside

@@ -4,10 +4,12 @@ ghost use Rattle.hd_terms.specs.Classes as classes_of;
 ghost use Rattle.hd_terms.specs.Classes.{layout_len};
 ghost use Rattle.hd_classes.specs.Fields.{field_view};
 ghost use Rattle.hd_classes.specs.Fits.{length_by_number, IsFit};
+ghost use Rattle.hd_classes.specs.Places.{places_by_number};
 
 use crate::classes::Classes;
 use crate::known::LayoutField;
 use crate::layout::Layout;
+use crate::places::{no_places, places_of_layout};
 use hd_terms::{IdSize, value_len};
 use std::alloc::{AllocError, Global};
 use std::marker::Model;
@@ -23,22 +25,28 @@ pub enum Fit {
     Class(usize),
 }
 
-/// How many bytes the values of the instances of classes have. The fields of a layout are summed once, when the first instance
-/// that has enough bytes asks for it; so all that many instances ask takes no longer than their values are long.
+/// How many bytes the values of the instances of classes have, and where among them references lie. The fields of a layout are
+/// summed once, when the first instance that has enough bytes asks for it; so all that many instances ask takes no longer than
+/// their values are long. Places of references are noted for a class when it is asked for.
 pub struct LayoutBytes<'a> {
+    alloc: Global,
     classes: &'a Classes,
     id_size: IdSize,
     /// Of each class 0 if its fields weren't summed, and else their bytes plus one.
     sums: Vec<u32>,
+    /// Of each class the places of its references, if they were noted.
+    places: Vec<Option<Vec<u32>>>,
 }
 
 impl Drop for LayoutBytes<'_> {
     /// Drops the fields. A derived drop would be proved anew at each place that lets go of one.
     fn drop(self) {
         let Self {
+            alloc: _,
             classes: _,
             id_size: _,
             sums,
+            places,
         } = self;
     }
 }
@@ -48,11 +56,11 @@ impl<'a> Model for LayoutBytes<'a> {
 
     ghost Value = { SizedClasses };
 
-    ghost use Rattle.hd_classes.specs.FitsInside.{sized_classes, AreSummed};
+    ghost use Rattle.hd_classes.specs.FitsInside.{sized_classes, AreKept};
 
     ghost view = { sized_classes };
 
-    ghost invariant = { AreSummed };
+    ghost invariant = { AreKept };
 }
 
 /// The bytes of the values of fields, unless they are more than this limit.
@@ -82,7 +90,7 @@ fn sum_layout(id_size: IdSize, layout: Layout<'_>, limit: u64) -> Option<u64>
 }
 
 impl<'a> LayoutBytes<'a> {
-    /// Nothing was summed yet of these classes, in a file whose identifiers have this size.
+    /// Nothing was summed or noted yet of these classes, in a file whose identifiers have this size.
     pub fn new(
         alloc: Global,
         classes: &'a Classes,
@@ -92,10 +100,13 @@ impl<'a> LayoutBytes<'a> {
         ensures { IfOk result (λ b. b ≡ record { classes = classes.now; size = id_size }) }
     {
         let sums = vec![in alloc; 0u32; classes.len()]?;
+        let places = no_places(alloc, classes.len())?;
         Ok(LayoutBytes {
+            alloc,
             classes,
             id_size,
             sums,
+            places,
         })
     }
 
@@ -104,6 +115,33 @@ impl<'a> LayoutBytes<'a> {
         ensures { result.now ≡ self.now.classes }
     {
         self.classes
+    }
+
+    /// The places of the references among the values of the class of a number, in bytes from the first value on, if they were
+    /// noted.
+    #[inline(always)]
+    pub fn places(&self, class: usize) -> Option<&[u32]>
+        ensures { IfSome result (λ places. places.now ≡ places_by_number self.now.size self.now.classes class) }
+    {
+        match self.places.get(class) {
+            Some(Some(places)) => Some(places.as_slice()),
+            _ => None,
+        }
+    }
+
+    /// Notes the places of the references among the values of the class of a number.
+    ///
+    /// # Errors
+    ///
+    /// Out of memory.
+    pub fn note_places(&mut self, class: usize) -> Result<(), AllocError>
+        requires { class < length self.old.classes.classes }
+        ensures { self.new ≡ self.old }
+    {
+        let layout = self.classes.get(class).layout;
+        let places = places_of_layout(self.alloc, self.id_size, layout)?;
+        self.places[class] = Some(places);
+        Ok(())
     }
 
     /// The bytes of the values of the class of a number, unless they are more than this limit.

@@ -15,6 +15,7 @@ mod linked;
 mod linking;
 mod names;
 mod path;
+mod places;
 mod reference;
 mod repeats;
 mod source;

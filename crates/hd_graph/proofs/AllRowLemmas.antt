@@ -56,7 +56,7 @@ all-next known bytes size list i s is old new h adds =
     subst (λ (front : List Sub). HasAllRows known bytes size front new) (sym (take-next list i s is)) (all-push known bytes size (take i list) s old new h added)
 
 -- what stands at an index of the rest of a list
-at-later : (list : List Sub) (first i : ℕ) (s : Sub) → slice_get list (first + i) ≡ Some s → slice_get (drop first list) i ≡ Some s
+pub at-later : (list : List Sub) (first i : ℕ) (s : Sub) → slice_get list (first + i) ≡ Some s → slice_get (drop first list) i ≡ Some s
 at-later list first i s is =
     let lt = slice_get_within list (first + i) s is in
     slice_get-get_or (drop first list) i s (omega (arith, length-drop first list, lt)) ∙ ap (λ (x : Sub). Some x) (get_or-drop first list i s ∙ get_or_from_slice_get list (first + i) s s is)

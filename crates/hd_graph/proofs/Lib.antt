@@ -16,6 +16,7 @@ pub mod TextLemmas
 pub mod ArrayRowLemmas
 pub mod InstanceLemmas
 pub mod LayoutLemmas
+pub mod PlaceLemmas
 pub mod KnownLemmas
 pub mod DumpLemmas
 pub mod OpenLemmas

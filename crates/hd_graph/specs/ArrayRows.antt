@@ -1,7 +1,7 @@
 -- The rows and shapes of objects, read from the file by their sub-records' spans.
 -- Source: HPROF binary format, CLASS DUMP, INSTANCE DUMP, OBJECT ARRAY DUMP and PRIMITIVE ARRAY DUMP.
 use Rattle.std.specs.Prelude.{◌≡◌, ℕ, zero, suc, ◌+◌, ◌*◌, ◌/◌, ◌≤◌, ◌==◌, if◌then◌else◌, map, List, [], ◌∷◌, ◌++◌, length, drop, sum_by, All, Option, Some, None}
-use Rattle.std.specs.Option.{option_map, option_and_then}
+use Rattle.std.specs.Option.{option_map, option_map_or, option_and_then}
 use Rattle.std.specs.List.{filter_map}
 use Rattle.byteorder.specs.Endian.{big_number}
 use Rattle.hd_terms.specs.declared.IdSize.{IdSize}
@@ -18,6 +18,7 @@ use Rattle.hd_terms.specs.declared.Slot.{Slot}
 use Rattle.hd_terms.specs.declared.Slot.TheVariants as slots
 use Rattle.hd_shapes.specs.Shapes.{ObjectShape, ObjectArray, PrimitiveArray, ClassObject, Instance}
 use Rattle.hd_classes.specs.Firsts.{firsts}
+use Rattle.hd_classes.specs.Known.{Known, known_by_number}
 use Rattle.hd_slots.specs.Table.{id_at, HasIdAt}
 
 -- so many IDs that stand one after another
@@ -70,6 +71,10 @@ static_bytes statics = sum_by (λ (s : StaticItem). s.value.len) statics
 abbrev pub placed_fields : IdSize → ℕ → List LayoutField → List (ℕ × Span)
 placed_fields size at [] = []
 placed_fields size at (f ∷ fs) = (f.code, record { start = at; len = value_len size f.code }) ∷ placed_fields size (at + value_len size f.code) fs
+
+-- the layout of the class of a number
+abbrev pub layout_by_number : Known → ℕ → List LayoutField
+layout_by_number classes i = option_map_or (λ (k : ResolvedClass). k.layout) (known_by_number classes i) []
 
 -- the row of an instance: the IDs in its fields, and then its class
 abbrev pub instance_row : List ℕ → IdSize → ℕ → ℕ → List LayoutField → List ℕ

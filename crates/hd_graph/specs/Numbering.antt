@@ -63,6 +63,5 @@ StopsAt known size s ids f = (f ≡ fault causes.OutOfMemory 0) ⊎ ((id : ℕ) 
 pub record JoinsNumbers (front back : NumberedStretch) (all : Numbered) : Type 0 where
   pub apart : are_apart front.ids back.ids ≡ true
   pub ids_are : all.ids ≡ front.ids ++ back.ids
-  pub shapes_are : all.shapes.objects ≡ front.shapes.objects ++ back.shapes.objects
   pub roots_are : all.roots.items ≡ front.roots.items ++ back.roots.items
   pub tally_is : all.tally ≡ record { repeated = front.tally.repeated + back.tally.repeated; opaque = front.tally.opaque + back.tally.opaque }

@@ -3,6 +3,7 @@ ghost use Rattle.std.specs.Prelude.{◌≡◌, ◌+◌, ◌<◌, ◌≤◌, ◌-
 ghost use Rattle.std.specs.List.{cons_option};
 ghost use Rattle.hd_terms.specs.FirstRecords.{id_of_item};
 ghost use Rattle.hd_classes.specs.Known.{known_at};
+ghost use Rattle.hd_slots.specs.JoinedInside.{joined_table};
 ghost use Rattle.hd_subs.specs.Views.{item_view, sub_view};
 ghost use Rattle.hd_graph.specs.ArrayRows.{AreWithin, IsSubWithin, object_ids, item_weight, shape_of_item, weight};
 ghost use Rattle.hd_graph.specs.Building.{HasNoRows, HasRowsOf, HasAllRows, HasAllShapes, AddsItemRow, FillsItem, columns, stretch, AreLayouts, AreFewAndShort};
@@ -11,7 +12,7 @@ use crate::array_rows::{bytes_of_elements, push_array};
 use crate::class_rows::push_class_row;
 use crate::class_shapes::push_class_shape;
 use crate::instance_rows::push_instance_row;
-use crate::instance_shapes::push_instance_shape;
+use crate::instance_shapes::push_fitted_shape;
 use hd_classes::{Classes, LayoutBytes};
 use hd_ids::JoinedIds;
 use hd_shapes::{JoinedShapes, Shapes};
@@ -21,11 +22,36 @@ use hd_terms::IdSize;
 use std::alloc::{AllocError, Global};
 use std::sync::Arc;
 
+/// The references of the objects of some sub-records, by the file offsets of their IDs, and their shapes.
+#[derive(Drop)]
+pub(crate) struct StretchRows<'a> {
+    pub(crate) slot_table: UnresolvedSlots<'a>,
+    pub(crate) shapes: Shapes,
+}
+
 /// The references of objects, by the file offsets of their IDs, and their shapes.
 #[derive(Drop)]
 pub(crate) struct Rows<'a> {
     pub(crate) slot_table: JoinedRows<'a>,
     pub(crate) shapes: JoinedShapes,
+}
+
+impl<'a> Rows<'a> {
+    /// The rows and the shapes of two stretches, those of the second behind those of the first.
+    pub(crate) fn join(front: StretchRows<'a>, back: StretchRows<'a>) -> Rows<'a>
+        requires bytes { back.slot_table.bytes ≡ front.slot_table.bytes }
+        requires size { back.slot_table.size ≡ front.slot_table.size }
+        requires ids { back.slot_table.ids ≡ front.slot_table.ids }
+        requires filled { front.slot_table.filling ≡ [] }
+        requires back_filled { back.slot_table.filling ≡ [] }
+        ensures rows { result.slot_table ≡ joined_table front.entry.slot_table back.entry.slot_table }
+        ensures shapes { result.shapes.objects ≡ front.entry.shapes.objects ++ back.entry.shapes.objects }
+    {
+        Rows {
+            slot_table: JoinedRows::join(front.slot_table, back.slot_table),
+            shapes: JoinedShapes::join(front.shapes, back.shapes),
+        }
+    }
 }
 
 /// The ID of the object of a sub-record, if it is one.
@@ -41,59 +67,44 @@ fn id_of(item: Item<'_>) -> Option<u64>
     }
 }
 
-/// Adds the row of the object of a sub-record, if it is one.
+/// Adds the row and the shape of the object of a sub-record, if it is one.
 #[inline(always)]
-fn fill_row(
+fn fill_one(
+    alloc: Global,
     slot_table: &mut UnresolvedSlots<'_>,
+    shapes: &mut Shapes,
     layouts: &mut LayoutBytes<'_>,
     sub: Sub<'_>,
 ) -> Result<(), AllocError>
     requires size { layouts.old.size ≡ slot_table.old.size }
     requires within { IsSubWithin slot_table.old.size slot_table.old.bytes (sub_view sub) }
     requires room { length slot_table.old.ids + slot_table.old.count + item_weight (item_view sub.item) < 2 ^ 32 - 1 }
+    requires few { length shapes.old.objects < 2 ^ 32 - 1 }
     requires filled { slot_table.old.filling ≡ [] }
-    ensures filled { OnOk result (AddsItemRow (known_at layouts.old.classes) slot_table.old.bytes slot_table.old.size (item_view sub.entry.item) slot_table.old slot_table.new) }
+    requires classes { AreLayouts layouts.old.size layouts.old.classes shapes.old.layouts }
+    ensures row { OnOk result (AddsItemRow (known_at layouts.old.classes) slot_table.old.bytes slot_table.old.size (item_view sub.entry.item) slot_table.old slot_table.new) }
+    ensures shape { OnOk result (shapes.new.objects ≡ shapes.old.objects ++ cons_option (shape_of_item (known_at layouts.old.classes) layouts.old.size (item_view sub.entry.item)) []) }
+    ensures classes { OnOk result (AreLayouts layouts.old.size layouts.old.classes shapes.new.layouts) }
     ensures same { OnOk result (layouts.new ≡ layouts.old) }
 {
     let offset = sub.offset;
     match sub.item {
         Item::Root(..) => {}
-        Item::Class(class) => push_class_row(slot_table, class, offset)?,
+        Item::Class(class) => {
+            push_class_row(slot_table, class, offset)?;
+            push_class_shape(alloc, shapes, class)?;
+        }
         Item::Instance { class, values, .. } => {
-            push_instance_row(slot_table, layouts, class, values, offset)?;
+            let fit = push_instance_row(slot_table, layouts, class, values, offset)?;
+            push_fitted_shape(alloc, shapes, layouts, fit, values)?;
         }
         Item::ObjArray { elements, .. } => {
             let class = array_class_offset(slot_table.id_size(), offset);
             push_array(slot_table, class, elements)?;
+            shapes.push_object_array(elements.len as u32)?;
         }
-        Item::PrimArray { .. } => slot_table.end_row()?,
-    }
-    Ok(())
-}
-
-/// Adds the shape of the object of a sub-record, if it is one.
-#[inline(always)]
-fn fill_shape(
-    alloc: Global,
-    shapes: &mut Shapes,
-    layouts: &mut LayoutBytes<'_>,
-    sub: Sub<'_>,
-) -> Result<(), AllocError>
-    requires small { item_weight (item_view sub.item) < 2 ^ 32 }
-    requires few { length shapes.old.objects < 2 ^ 32 - 1 }
-    requires classes { AreLayouts layouts.old.size layouts.old.classes shapes.old.layouts }
-    ensures filled { OnOk result (shapes.new.objects ≡ shapes.old.objects ++ cons_option (shape_of_item (known_at layouts.old.classes) layouts.old.size (item_view sub.entry.item)) []) }
-    ensures classes { OnOk result (AreLayouts layouts.old.size layouts.old.classes shapes.new.layouts) }
-    ensures same { OnOk result (layouts.new ≡ layouts.old) }
-{
-    match sub.item {
-        Item::Root(..) => {}
-        Item::Class(class) => push_class_shape(alloc, shapes, class)?,
-        Item::Instance { class, values, .. } => {
-            push_instance_shape(alloc, shapes, layouts, class, values)?;
-        }
-        Item::ObjArray { elements, .. } => shapes.push_object_array(elements.len as u32)?,
         Item::PrimArray { element, count, .. } => {
+            slot_table.end_row()?;
             shapes.push_primitive_array(element, bytes_of_elements(element, count))?;
         }
     }
@@ -121,8 +132,7 @@ fn fill_next(
     if let Some(id) = id_of(sub.item)
         && slot_table.is_next(id)
     {
-        fill_row(slot_table, layouts, sub)?;
-        fill_shape(alloc, shapes, layouts, sub)?;
+        fill_one(alloc, slot_table, shapes, layouts, sub)?;
     }
     Ok(())
 }
@@ -150,10 +160,12 @@ fn fill_first_rows(
     Ok(())
 }
 
-/// Adds the row of the object of each of some sub-records that is one, whether its ID is an earlier one's or not: so many from
-/// the first on.
-fn fill_all_rows(
+/// Adds the row and the shape of the object of each of some sub-records that is one, whether its ID is an earlier one's or not: so
+/// many from the first on.
+fn fill_all(
+    alloc: Global,
     slot_table: &mut UnresolvedSlots<'_>,
+    shapes: &mut Shapes,
     layouts: &mut LayoutBytes<'_>,
     list: &DumpSubs<'_>,
     first: usize,
@@ -163,19 +175,19 @@ fn fill_all_rows(
     requires within { AreWithin slot_table.old.size slot_table.old.bytes list.now }
     requires there { first + count ≤ length list.now }
     requires no_ids { slot_table.old.ids ≡ [] }
-    requires rows { slot_table.old.rows ≡ [] }
-    requires filled { slot_table.old.filling ≡ [] }
-    requires count { slot_table.old.count ≡ 0 }
-    ensures { OnOk result (HasAllRows (known_at layouts.old.classes) slot_table.old.bytes slot_table.old.size (stretch first count list.now) slot_table.new) }
+    requires empty { HasNoRows (columns slot_table.old shapes.old.objects) }
+    requires classes { AreLayouts layouts.old.size layouts.old.classes shapes.old.layouts }
+    ensures rows { OnOk result (HasAllRows (known_at layouts.old.classes) slot_table.old.bytes slot_table.old.size (stretch first count list.now) slot_table.new) }
+    ensures shapes { OnOk result (HasAllShapes (known_at layouts.old.classes) slot_table.old.size (stretch first count list.now) shapes.new.objects) }
 {
     let subs = list.as_list();
     for i in 0..count {
-        fill_row(slot_table, layouts, subs.get(first + i))?;
+        fill_one(alloc, slot_table, shapes, layouts, subs.get(first + i))?;
     }
     Ok(())
 }
 
-/// The references of the objects of some sub-records, whether their IDs are repeated or not, over no IDs: of so many
+/// The references and the shapes of the objects of some sub-records, whether their IDs are repeated or not, over no IDs: of so many
 /// sub-records from the first on.
 pub(crate) fn rows_of_stretch<'a>(
     alloc: Global,
@@ -185,18 +197,28 @@ pub(crate) fn rows_of_stretch<'a>(
     list: &DumpSubs<'_>,
     first: usize,
     count: usize,
-) -> Result<UnresolvedSlots<'a>, AllocError>
+) -> Result<StretchRows<'a>, AllocError>
     requires within { AreWithin id_size bytes.now list.now }
     requires small { length bytes.now < 2 ^ 31 }
     requires classes { AreFewAndShort classes.now }
     requires there { first + count ≤ length list.now }
-    ensures { IfOk result (HasAllRows (known_at classes.now) bytes.now id_size (stretch first count list.now)) }
+    ensures rows { IfOk result (λ r. HasAllRows (known_at classes.now) bytes.now id_size (stretch first count list.now) r.slot_table) }
+    ensures shapes { IfOk result (λ r. HasAllShapes (known_at classes.now) id_size (stretch first count list.now) r.shapes.objects) }
 {
     let mut layouts = LayoutBytes::new(alloc, classes, id_size)?;
+    let mut shapes = Shapes::with_capacity(alloc, count, classes.len())?;
     let no_ids = Arc::new(alloc, JoinedIds::none(alloc)?)?;
     let mut slot_table = UnresolvedSlots::new(alloc, bytes, id_size, no_ids, count)?;
-    fill_all_rows(&mut slot_table, &mut layouts, list, first, count)?;
-    Ok(slot_table)
+    fill_all(
+        alloc,
+        &mut slot_table,
+        &mut shapes,
+        &mut layouts,
+        list,
+        first,
+        count,
+    )?;
+    Ok(StretchRows { slot_table, shapes })
 }
 
 /// The references and the shapes of the objects of a file, by the file offsets of the references' IDs, where IDs are repeated:

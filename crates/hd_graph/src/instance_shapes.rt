@@ -61,23 +61,3 @@ pub(crate) fn push_fitted_shape(
     }
     Ok(())
 }
-
-/// Adds the shape of an instance.
-#[inline(always)]
-pub(crate) fn push_instance_shape(
-    alloc: Global,
-    shapes: &mut Shapes,
-    layouts: &mut LayoutBytes<'_>,
-    class: u64,
-    values: Span,
-) -> Result<(), AllocError>
-    requires small { values.len < 2 ^ 32 }
-    requires few { length shapes.old.objects < 2 ^ 32 - 1 }
-    requires classes { AreLayouts layouts.old.size layouts.old.classes shapes.old.layouts }
-    ensures added { OnOk result ((id : ℕ) → shapes.new.objects ≡ shapes.old.objects ++ (instance_entry [] layouts.old.size id class values (fitting layouts.old.size values.len (known_at layouts.old.classes class))).2 ∷ []) }
-    ensures classes { OnOk result (AreLayouts layouts.old.size layouts.old.classes shapes.new.layouts) }
-    ensures same { OnOk result (layouts.new ≡ layouts.old) }
-{
-    let fit = layouts.fit(class, values.len);
-    push_fitted_shape(alloc, shapes, layouts, fit, values)
-}

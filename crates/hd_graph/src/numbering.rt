@@ -1,26 +1,23 @@
 //! The numbers of the objects of a file, by those of two stretches of its sub-records.
 ghost use Rattle.std.specs.Prelude.{◌≡◌, ◌+◌, ◌-◌, ◌<◌, ◌≤◌, ◌^◌, ℕ, false, length, All, IfOk, IfErr, MatchOption};
+ghost use Rattle.hd_terms.specs.Classes as classes_of;
 ghost use Rattle.hd_ids.specs.Noted.{are_apart};
 ghost use Rattle.hd_classes.specs.Known.{known_at};
-ghost use Rattle.hd_graph.specs.ArrayRows.{weight};
-ghost use Rattle.hd_graph.specs.Building.{HasAllShapes, AreFewAndShort, stretch};
+ghost use Rattle.hd_graph.specs.Building.{stretch};
 ghost use Rattle.hd_graph.specs.Numbering.{IsNumbered, IsObjectFaultOrMemory, JoinsNumbers};
 
 use crate::graph::StoredRoot;
 use crate::number::{NumberedStretch, Tally, number_stretch};
 use hd_classes::Classes;
 use hd_ids::JoinedIds;
-use hd_shapes::{JoinedShapes, Shapes};
 use hd_subs::DumpSubs;
 use hd_terms::{IdSize, ReadFault};
 use std::alloc::{AllocError, Global};
 
-/// The numbers of the objects of a file, and the roots; and the shapes of the objects of all sub-records, whether their IDs are
-/// repeated or not.
+/// The numbers of the objects of a file, and the roots.
 #[derive(Drop)]
 pub(crate) struct Numbered {
     pub(crate) ids: JoinedIds,
-    pub(crate) shapes: JoinedShapes,
     pub(crate) roots: Vec<StoredRoot>,
     pub(crate) tally: Tally,
 }
@@ -36,13 +33,11 @@ fn join_numbers(
 {
     let NumberedStretch {
         ids,
-        shapes,
         mut roots,
         tally,
     } = front;
     let NumberedStretch {
         ids: more_ids,
-        shapes: more_shapes,
         roots: more_roots,
         tally: more,
     } = back;
@@ -54,12 +49,7 @@ fn join_numbers(
         repeated: tally.repeated + more.repeated,
         opaque: tally.opaque + more.opaque,
     };
-    Ok(Some(Numbered {
-        ids,
-        shapes: JoinedShapes::join(shapes, more_shapes),
-        roots,
-        tally,
-    }))
+    Ok(Some(Numbered { ids, roots, tally }))
 }
 
 /// The numbers of the objects of all sub-records, one after the other.
@@ -70,30 +60,25 @@ fn number_alone(
     id_size: IdSize,
     secret: u64,
 ) -> Result<Numbered, ReadFault>
-    requires few { weight list.now ≤ 2147483647 }
-    requires classes { AreFewAndShort classes.now }
-    ensures shapes { IfOk result (λ n. HasAllShapes (known_at classes.now) id_size list.now n.shapes.objects) }
+    requires short { All (λ (p : ℕ × classes_of.ResolvedClass). length p.1.layout < 2 ^ 29) classes.now.classes }
     ensures ok { IfOk result (λ n. IsNumbered (known_at classes.now) id_size list.now n.ids n.roots.items n.tally) }
     ensures err { IfErr result (λ f. IsObjectFaultOrMemory (known_at classes.now) id_size list.now f) }
 {
-    let NumberedStretch {
-        ids,
-        shapes,
-        roots,
-        tally,
-    } = number_stretch(alloc, list, classes, id_size, secret, 0, list.len())?;
+    let NumberedStretch { ids, roots, tally } = number_stretch(
+        alloc,
+        list,
+        classes,
+        id_size,
+        secret,
+        0,
+        list.len(),
+    )?;
     let ids = JoinedIds::alone(alloc, ids)?;
-    let none = Shapes::with_capacity(alloc, 0, 0)?;
-    Ok(Numbered {
-        ids,
-        shapes: JoinedShapes::join(shapes, none),
-        roots,
-        tally,
-    })
+    Ok(Numbered { ids, roots, tally })
 }
 
-/// The numbers of the objects of a file: each ID once, how many objects are repeated or opaque, and the roots; and all shapes. An
-/// object with ID 0, and an instance that doesn't fit its class's layout, are faults. The secret is for the hashes of IDs.
+/// The numbers of the objects of a file: each ID once, how many objects are repeated or opaque, and the roots. An object with ID 0,
+/// and an instance that doesn't fit its class's layout, are faults. The secret is for the hashes of IDs.
 ///
 /// They are made of those of the first sub-records and of the others. If an ID is in both, or there is a fault, all objects are
 /// numbered anew, one after the other.
@@ -107,15 +92,11 @@ pub(crate) fn numbers_of_both(
     front: Result<NumberedStretch, ReadFault>,
     back: Result<NumberedStretch, ReadFault>,
 ) -> Result<Numbered, ReadFault>
-    requires few { weight list.now ≤ 2147483647 }
-    requires classes { AreFewAndShort classes.now }
+    requires short { All (λ (p : ℕ × classes_of.ResolvedClass). length p.1.layout < 2 ^ 29) classes.now.classes }
     requires there { split ≤ length list.now }
     requires count { length list.now < 2 ^ 64 }
-    requires front_shapes { IfOk front (λ n. HasAllShapes (known_at classes.now) id_size (stretch 0 split list.now) n.shapes.objects) }
-    requires back_shapes { IfOk back (λ n. HasAllShapes (known_at classes.now) id_size (stretch split (length list.now - split) list.now) n.shapes.objects) }
     requires front { IfOk front (λ n. IsNumbered (known_at classes.now) id_size (stretch 0 split list.now) n.ids n.roots.items n.tally) }
     requires back { IfOk back (λ n. IsNumbered (known_at classes.now) id_size (stretch split (length list.now - split) list.now) n.ids n.roots.items n.tally) }
-    ensures shapes { IfOk result (λ n. HasAllShapes (known_at classes.now) id_size list.now n.shapes.objects) }
     ensures ok { IfOk result (λ n. IsNumbered (known_at classes.now) id_size list.now n.ids n.roots.items n.tally) }
     ensures err { IfErr result (λ f. IsObjectFaultOrMemory (known_at classes.now) id_size list.now f) }
 {

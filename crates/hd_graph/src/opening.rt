@@ -58,19 +58,8 @@ impl Graph {
         drop(records);
         let RepeatedRecords { texts, loads } = classes.repeated();
         let classes = classes.without_names(alloc);
-        let (numbered, rows) = numbers_and_rows(
-            rt, alloc, bytes, &list, &classes, id_size, secret,
-        )?;
-        let Numbered {
-            ids,
-            shapes,
-            roots,
-            tally,
-        } = numbered;
-        let all = Rows {
-            slot_table: rows,
-            shapes,
-        };
+        let (numbered, all) = numbers_and_rows(rt, alloc, bytes, &list, &classes, id_size, secret)?;
+        let Numbered { ids, roots, tally } = numbered;
         let Rows { slot_table, shapes } = rows_of(
             alloc, ids, all, &classes, id_size, bytes, &list,
         )?;

@@ -113,6 +113,19 @@ impl<'a> UnresolvedSlots<'a> {
         Ok(())
     }
 
+    /// Adds the IDs at these places behind an offset of the file, 0 for null, to the row that is being filled.
+    #[inline(always)]
+    pub fn push_all(&mut self, start: u32, places: &[u32]) -> Result<(), AllocError>
+        requires within { All (λ place. IsIdWithin self.old.size (length self.old.bytes) (start + place)) places.now }
+        requires room { length self.old.ids + self.old.count + length places.now < 2 ^ 32 }
+        ensures { OnOk result (self.new ≡ record self.old { filling = self.old.filling ++ map (λ place. id_at self.old.bytes self.old.size (start + place)) places.now; count = self.old.count + length places.now }) }
+    {
+        for i in 0..places.len() {
+            self.push(u64::from(start) + u64::from(places[i]))?;
+        }
+        Ok(())
+    }
+
     /// Ends the row that is being filled, and begins the next.
     pub fn end_row(&mut self) -> Result<(), AllocError>
         ensures { OnOk result (self.new ≡ record self.old { rows = self.old.rows ++ self.old.filling ∷ []; filling = [] }) }

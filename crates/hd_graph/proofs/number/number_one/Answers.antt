@@ -22,8 +22,8 @@ returns-in_err-number_object-in-Class-clause-err c =
     let p = err_from_is_err_and c.from_residual-in_err-number_object-in-Class.result c.from_residual-in_err-number_object-in-Class.ensures.1 in
     rw (p.1, p.2) (inr (c.in-Class.class.now.id, ap (λ i. id_of_item (item_view i)) c.in-Class.is, null-stop (known_at c.args.layouts.now.classes) c.args.layouts.now.size _ c.in-Class.class.now.id c.args.sub.offset c.args.ids.now _ c.in_err-number_object-in-Class.ensures.err))
 
-pub returns-in_ok-push_class_shape-in-Class-clause-ok : goal.returns-in_ok-push_class_shape-in-Class-clause-ok
-returns-in_ok-push_class_shape-in-Class-clause-ok c = λ front h.
+pub returns-in_ok-number_object-in-Class-clause-ok : goal.returns-in_ok-number_object-in-Class-clause-ok
+returns-in_ok-number_object-in-Class-clause-ok c = λ front h.
     let s : Sub = sub_view c.args.sub in
     let done = c.in_ok-number_object-in-Class.ensures in
     object-push (known_at c.args.layouts.now.classes) c.args.layouts.now.size front c.args.ids.now c.args.roots.now.items c.args.tally.now h s c.in-Class.class.now.id _ _
@@ -38,8 +38,8 @@ returns-in_err-number_object-in-ObjArray-clause-err c =
     let p = err_from_is_err_and c.from_residual-in_err-number_object-in-ObjArray.result c.from_residual-in_err-number_object-in-ObjArray.ensures.1 in
     rw (p.1, p.2) (inr (c.in-ObjArray.id, ap (λ i. id_of_item (item_view i)) c.in-ObjArray.is, null-stop (known_at c.args.layouts.now.classes) c.args.layouts.now.size _ c.in-ObjArray.id c.args.sub.offset c.args.ids.now _ c.in_err-number_object-in-ObjArray.ensures.err))
 
-pub returns-in_ok-push_object_array-in-ObjArray-clause-ok : goal.returns-in_ok-push_object_array-in-ObjArray-clause-ok
-returns-in_ok-push_object_array-in-ObjArray-clause-ok c = λ front h.
+pub returns-in_ok-number_object-in-ObjArray-clause-ok : goal.returns-in_ok-number_object-in-ObjArray-clause-ok
+returns-in_ok-number_object-in-ObjArray-clause-ok c = λ front h.
     let s : Sub = sub_view c.args.sub in
     let done = c.in_ok-number_object-in-ObjArray.ensures in
     object-push (known_at c.args.layouts.now.classes) c.args.layouts.now.size front c.args.ids.now c.args.roots.now.items c.args.tally.now h s c.in-ObjArray.id _ _
@@ -54,8 +54,8 @@ returns-in_err-number_object-in-PrimArray-clause-err c =
     let p = err_from_is_err_and c.from_residual-in_err-number_object-in-PrimArray.result c.from_residual-in_err-number_object-in-PrimArray.ensures.1 in
     rw (p.1, p.2) (inr (c.in-PrimArray.id, ap (λ i. id_of_item (item_view i)) c.in-PrimArray.is, null-stop (known_at c.args.layouts.now.classes) c.args.layouts.now.size _ c.in-PrimArray.id c.args.sub.offset c.args.ids.now _ c.in_err-number_object-in-PrimArray.ensures.err))
 
-pub returns-in_ok-push_primitive_array-in-PrimArray-clause-ok : goal.returns-in_ok-push_primitive_array-in-PrimArray-clause-ok
-returns-in_ok-push_primitive_array-in-PrimArray-clause-ok c = λ front h.
+pub returns-in_ok-number_object-in-PrimArray-clause-ok : goal.returns-in_ok-number_object-in-PrimArray-clause-ok
+returns-in_ok-number_object-in-PrimArray-clause-ok c = λ front h.
     let s : Sub = sub_view c.args.sub in
     let done = c.in_ok-number_object-in-PrimArray.ensures in
     object-push (known_at c.args.layouts.now.classes) c.args.layouts.now.size front c.args.ids.now c.args.roots.now.items c.args.tally.now h s c.in-PrimArray.id _ _
@@ -65,19 +65,19 @@ returns-in_ok-push_primitive_array-in-PrimArray-clause-ok c = λ front h.
     (ap (λ i. id_of_item (item_view i)) c.in-PrimArray.is)
     (ap (λ i. cons_option (root_of_item (item_view i)) []) c.in-PrimArray.is)
 
-pub returns-in_err-fit-in-Instance-clause-err : goal.returns-in_err-fit-in-Instance-clause-err
-returns-in_err-fit-in-Instance-clause-err c =
-    let p = err_from_is_err_and c.from_residual-in_err-fit-in-Instance.result c.from_residual-in_err-fit-in-Instance.ensures.1 in
+pub returns-in_err-number_instance-in-Instance-clause-err : goal.returns-in_err-number_instance-in-Instance-clause-err
+returns-in_err-number_instance-in-Instance-clause-err c =
+    let p = err_from_is_err_and c.from_residual-in_err-number_instance-in-Instance.result c.from_residual-in_err-number_instance-in-Instance.ensures.1 in
     rw (p.1, p.2) (inr (
       c.in-Instance.id,
       ap (λ i. id_of_item (item_view i)) c.in-Instance.is,
-      subst (λ (i : Item). IsObjectStop (known_at c.args.layouts.now.classes) c.args.layouts.now.size i c.in-Instance.id c.args.sub.offset c.args.ids.now c.in_err-fit-in-Instance.field-0.0) (sym (ap item_view c.in-Instance.is)) c.in_err-fit-in-Instance.ensures.err,
+      subst (λ (i : Item). IsObjectStop (known_at c.args.layouts.now.classes) c.args.layouts.now.size i c.in-Instance.id c.args.sub.offset c.args.ids.now c.in_err-number_instance-in-Instance.field-0.0) (sym (ap item_view c.in-Instance.is)) c.in_err-number_instance-in-Instance.ensures.err,
     ))
 
-pub returns-in_ok-push_fitted_shape-in-Instance-clause-ok : goal.returns-in_ok-push_fitted_shape-in-Instance-clause-ok
-returns-in_ok-push_fitted_shape-in-Instance-clause-ok c = λ front h.
+pub returns-in_ok-number_instance-in-Instance-clause-ok : goal.returns-in_ok-number_instance-in-Instance-clause-ok
+returns-in_ok-number_instance-in-Instance-clause-ok c = λ front h.
     let s : Sub = sub_view c.args.sub in
     object-push (known_at c.args.layouts.now.classes) c.args.layouts.now.size front c.args.ids.now c.args.roots.now.items c.args.tally.now h s c.in-Instance.id _ _
-    (subst (λ (i : Item). NotesObject (known_at c.args.layouts.now.classes) c.args.layouts.now.size i c.in-Instance.id c.args.ids.now c.args.tally.now c.number_instance.new.ids c.number_instance.new.tally) (sym (ap item_view c.in-Instance.is)) c.in_ok-fit-in-Instance.ensures.ok)
+    (subst (λ (i : Item). NotesObject (known_at c.args.layouts.now.classes) c.args.layouts.now.size i c.in-Instance.id c.args.ids.now c.args.tally.now c.number_instance.new.ids c.number_instance.new.tally) (sym (ap item_view c.in-Instance.is)) c.in_ok-number_instance-in-Instance.ensures.ok)
     (ap (λ i. id_of_item (item_view i)) c.in-Instance.is)
     (ap (λ i. cons_option (root_of_item (item_view i)) []) c.in-Instance.is)

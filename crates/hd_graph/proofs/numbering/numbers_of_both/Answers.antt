@@ -4,7 +4,6 @@ use Rattle.hd_classes.specs.Known.{known_at}
 use Rattle.hd_graph.specs.Numbering.{JoinsNumbers}
 use Rattle.hd_graph.proofs.NumberLemmas.{repeated-le, opaque-le}
 use Rattle.hd_graph.proofs.JoinLemmas.{numbered-halves}
-use Rattle.hd_graph.proofs.AllRowLemmas.{shapes-both}
 use Rattle.hd_graph.proofs.numbering.numbers_of_both.Goals as goal
 
 pub join_numbers-requires-clause-repeated : goal.join_numbers-requires-clause-repeated
@@ -36,14 +35,3 @@ returns-clause-ok c =
     let back = rw c.in-Ok-back.is at c.requires.back in
     rw (joins.ids_are, joins.roots_are, joins.tally_is)
     (numbered-halves known c.args.id_size list c.args.split (length list) a.ids a.roots.items a.tally b.ids b.roots.items b.tally (omega arith) front back (apart-none a.ids b.ids joins.apart))
-
-pub returns-clause-shapes : goal.returns-clause-shapes
-returns-clause-shapes c =
-    let list = c.args.list.now in
-    let a = c.in-Ok.front in
-    let b = c.in-Ok-back.back in
-    let joins : JoinsNumbers a b c.in-Some.numbered = rw c.in-Some.is at c.in_ok-numbered.ensures in
-    let front = rw c.in-Ok.is at c.requires.front_shapes in
-    let back = rw c.in-Ok-back.is at c.requires.back_shapes in
-    rw (joins.shapes_are)
-    (shapes-both (known_at c.args.classes.now) c.args.id_size list c.args.split (length list) a.shapes.objects b.shapes.objects (omega arith) front back)
