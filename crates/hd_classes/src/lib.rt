@@ -18,6 +18,7 @@ mod path;
 mod reference;
 mod repeats;
 mod source;
+mod texts;
 
 pub use chain::Chain;
 pub use class_names::{ClassNames, names_of};
