@@ -159,14 +159,14 @@ module _ (s : Source) (rows : List Row) (is : IsSource s) (h : HasAllKnown s row
     length-map (λ (x : PlacedClass). x.class) places,
   )
 
-  case-name : (o : Option Load) → option_and_then (λ (name : ℕ). lookup (λ (x : ℕ). eqb name x) s.texts.entries) (option_map (λ (l : Load). l.name) o) ≡ option_and_then (λ (l : Load). text_of_id (table_of s) l.name) o
+  case-name : (o : Option Load) → option_and_then (λ (name : ℕ). lookup (λ (x : ℕ). eqb name x) s.texts) (option_map (λ (l : Load). l.name) o) ≡ option_and_then (λ (l : Load). text_of_id (table_of s) l.name) o
   case-name None = refl
   case-name (Some l) = is.texts l.name
 
-  pub are-classes : AreClassesOf (table_of s) (record { texts = s.texts.entries; names = s.names.entries; classes = views rows; repeated = s.repeated })
+  pub are-classes : AreClassesOf (table_of s) (record { texts = s.texts; names = s.names.entries; classes = views rows; repeated = s.repeated })
   are-classes = record {
     names = λ (id : ℕ).
-        ap (option_and_then (λ (name : ℕ). lookup (λ (x : ℕ). eqb name x) s.texts.entries)) (is.names id) ∙ case-name (find (λ (l : Load). eqb id l.class) s.records.now.loads);
+        ap (option_and_then (λ (name : ℕ). lookup (λ (x : ℕ). eqb name x) s.texts)) (is.names id) ∙ case-name (find (λ (l : Load). eqb id l.class) s.records.now.loads);
     known = h.known;
     few = few;
     short = h.kept.short;
@@ -188,9 +188,9 @@ module _ (bytes : List ℕ) (records : Records) (list : List Sub) (s : Source) (
   faults-are =
       sym (class_faults-places (table_of s) s.list.now) ∙ ap (λ (t : ClassTable). class_faults t s.list.now) table-is ∙ ap (class_faults table) is.of_list
 
-  pub classes-of_file : (rows : List Row) → HasAllKnown s rows → AreClassesOf table (record { texts = s.texts.entries; names = s.names.entries; classes = views rows; repeated = s.repeated })
+  pub classes-of_file : (rows : List Row) → HasAllKnown s rows → AreClassesOf table (record { texts = s.texts; names = s.names.entries; classes = views rows; repeated = s.repeated })
   classes-of_file rows h =
-      let P : ClassTable → Type 0 = λ (t : ClassTable). AreClassesOf t (record { texts = s.texts.entries; names = s.names.entries; classes = views rows; repeated = s.repeated }) in
+      let P : ClassTable → Type 0 = λ (t : ClassTable). AreClassesOf t (record { texts = s.texts; names = s.names.entries; classes = views rows; repeated = s.repeated }) in
       subst P table-is (are-classes s rows is.kept h)
 
   pub no-faults : (rows : List Row) → HasAllKnown s rows → class_faults table list ≡ []

@@ -14,3 +14,4 @@ pub mod PathLemmas
 pub mod KnownLemmas
 pub mod ClassNameLemmas
 pub mod RepeatLemmas
+pub mod SideLemmas

@@ -20,7 +20,7 @@ pub none-from_map : {X Y : Type 0} (f : X → Y) (o : Option X) → option_map f
 none-from_map f None e = refl
 none-from_map f (Some x) e = cc
 
-option_or-none : {X : Type 0} (o : Option X) → option_or o None ≡ o
+pub option_or-none : {X : Type 0} (o : Option X) → option_or o None ≡ o
 option_or-none None = refl
 option_or-none (Some x) = refl
 
@@ -76,7 +76,7 @@ module _ {X V : Type 0} (key : X → ℕ) (val : X → V) where
   case-or None false x = refl
 
   -- one more
-  first-next : (xs : List X) (x : X) (entries entries' : List (ℕ × V)) → KeepsFirst (key x) (val x) entries entries' → HasFirst xs entries → HasFirst (xs ++ x ∷ []) entries'
+  pub first-next : (xs : List X) (x : X) (entries entries' : List (ℕ × V)) → KeepsFirst (key x) (val x) entries entries' → HasFirst xs entries → HasFirst (xs ++ x ∷ []) entries'
   first-next xs x entries entries' more h = λ (id : ℕ).
       let test : X → Bool = λ (z : X). eqb id (key z) in
       more id ∙ ap (λ (o : Option V). option_or o (cond (test x) (Some (val x)) None)) (h id) ∙ case-or (find test xs) (test x) x ∙ ap (option_map val) (sym (find-append test xs (x ∷ [])))
@@ -100,17 +100,21 @@ module _ {X V : Type 0} (key : X → ℕ) (val : X → V) where
   some-find p [] = refl
   some-find p (x ∷ xs) = case-find (p x) (list_any p xs) x (find p xs) (some-find p xs)
 
+  -- how many are repeated, with one more
+  pub more-repeated : (xs : List X) (x : X) (entries : List (ℕ × V)) (known : Bool) (repeated : ℕ) → known ≡ is_some (lookup (λ (y : ℕ). eqb (key x) y) entries)
+      → HasFirst xs entries → repeated ≡ repeats key xs → repeated + cond known 1 0 ≡ repeats key (xs ++ x ∷ [])
+  more-repeated xs x entries known repeated is h count =
+      let test : X → Bool = λ (z : X). eqb (key x) (key z) in
+      let was_known : known ≡ list_any test xs = is ∙ ap is_some (h (key x)) ∙ some-map (find test xs) ∙ some-find test xs in
+      ap (λ (n : ℕ). n + cond known 1 0) count
+      ∙ ap (λ (b : Bool). repeats key xs + cond b 1 0) was_known
+      ∙ sym (repeats-push key xs x)
+
   -- how many are repeated, with the element at a place
   pub next-repeated : (xs : List X) (i : ℕ) (d : X) (entries : List (ℕ × V)) (known : Bool) (repeated : ℕ) → i < length xs → known ≡ is_some (lookup (λ (y : ℕ). eqb (key (get_or xs i d)) y) entries)
       → HasFirst (take i xs) entries → repeated ≡ repeats key (take i xs) → repeated + cond known 1 0 ≡ repeats key (take (i + 1) xs)
   next-repeated xs i d entries known repeated lt is h count =
-      let x : X = get_or xs i d in
-      let test : X → Bool = λ (z : X). eqb (key x) (key z) in
-      let was_known : known ≡ list_any test (take i xs) = is ∙ ap is_some (h (key x)) ∙ some-map (find test (take i xs)) ∙ some-find test (take i xs) in
-      ap (λ (n : ℕ). n + cond known 1 0) count
-      ∙ ap (λ (b : Bool). repeats key (take i xs) + cond b 1 0) was_known
-      ∙ sym (repeats-push key (take i xs) x)
-      ∙ ap (repeats key) (sym (take_more xs i d lt))
+      more-repeated (take i xs) (get_or xs i d) entries known repeated is h count ∙ ap (repeats key) (sym (take_more xs i d lt))
 
   -- no more are repeated than there are
   pub repeated-le : (xs : List X) (i : ℕ) (repeated : ℕ) → repeated ≡ repeats key (take i xs) → repeated ≤ i

@@ -29,7 +29,7 @@ module _ {X : Type 0} (key : X → ℕ) where
       ∙ ap (λ (ys : List X). cond (is_known key ys x) 1 0 + count_by (is_repeat key all) (enumerate_from (length before + 1) xs)) (take-append_seam before (x ∷ xs))
       ∙ ap (λ (n : ℕ). cond (is_known key before x) 1 0 + n) rest
 
-  repeats-are : (xs : List X) → repeats key xs ≡ repeats_from [] xs
+  pub repeats-are : (xs : List X) → repeats key xs ≡ repeats_from [] xs
   repeats-are xs = repeats-from [] xs
 
   repeats_from-push : (before xs : List X) (x : X) → repeats_from before (xs ++ x ∷ []) ≡ repeats_from before xs + cond (is_known key (before ++ xs) x) 1 0

@@ -1,7 +1,7 @@
 -- What classes are resolved from: the file, and its texts and classes by their IDs.
-use Rattle.std.specs.Prelude.{◌≡◌, ℕ, ◌==◌, if◌then◌else◌, List, length, Option, Some, None, All}
+use Rattle.std.specs.Prelude.{◌≡◌, ℕ, ◌==◌, ◌/◌, ◌%◌, Bool, not, if◌then◌else◌, List, length, Some, None, All}
 use Rattle.std.specs.Option.{option_map, option_or}
-use Rattle.std.specs.List.{find}
+use Rattle.std.specs.List.{find, filter}
 use Rattle.std.specs.Map.{lookup}
 use Rattle.hd_terms.specs.declared.Span.{Span}
 use Rattle.hd_terms.specs.declared.Text.{Text}
@@ -23,9 +23,22 @@ KeepsFirst id value before after = (k : ℕ) → lookup (λ (x : ℕ). k == x) a
 abbrev pub HasFirstTexts : List Text → List (ℕ × Span) → Type 0
 HasFirstTexts texts entries = (id : ℕ) → lookup (λ (x : ℕ). id == x) entries ≡ option_map (λ (x : Text). x.text) (find (λ (x : Text). id == x.id) texts)
 
+-- an ID is on a side: that of the IDs whose eighth, rounded down, is odd, or that of all others
+abbrev pub is_on_side : Bool → ℕ → Bool
+is_on_side odd id = if odd then id / 8 % 2 == 1 else not (id / 8 % 2 == 1)
+
+-- the texts whose IDs are on a side
+abbrev pub texts_of_side : Bool → List Text → List Text
+texts_of_side odd strings = filter (λ (x : Text). is_on_side odd x.id) strings
+
+-- these are the first texts of a side, and so many of this side have the ID of an earlier one
+pub record AreFirstOfSide (odd : Bool) (strings : List Text) (entries : List (ℕ × Span)) (repeated : ℕ) : Type 0 where
+  pub texts : HasFirstTexts (texts_of_side odd strings) entries
+  pub count : repeated ≡ repeats (λ (x : Text). x.id) (texts_of_side odd strings)
+
 -- these are the first texts, and so many have the ID of an earlier one
 pub record AreFirstTexts (strings : List Text) (first : FirstTexts) : Type 0 where
-  pub texts : HasFirstTexts strings first.texts.entries
+  pub texts : HasFirstTexts strings first.texts
   pub repeated : first.repeated ≡ repeats (λ (x : Text). x.id) strings
 
 -- the name of the first LOAD CLASS of each class is kept by the class's ID
@@ -38,7 +51,7 @@ table_of s = class_table s.bytes.now s.records.now.strings s.records.now.loads s
 
 -- texts and classes are kept by their IDs, texts lie within the file, and it is known how many records are repeated
 pub record IsSource (s : Source) : Type 0 where
-  pub texts : HasFirstTexts s.records.now.strings s.texts.entries
+  pub texts : HasFirstTexts s.records.now.strings s.texts
   pub names : HasFirstNames s.records.now.loads s.names.entries
   pub within : All (IsTextWithin (length s.bytes.now)) s.records.now.strings
   pub classes : HasFirstClasses s.list.now s.classes.entries

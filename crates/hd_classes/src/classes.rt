@@ -9,6 +9,7 @@ use crate::known::ResolvedClass;
 use crate::layout::Layout;
 use crate::linked::{LinkedClass, first_declaring};
 use crate::repeats::RepeatedRecords;
+use crate::texts::TextsById;
 use hd_hashers::IdHasher;
 use hd_terms::{EdgeKind, Span};
 use indexmap::IndexMap;
@@ -18,7 +19,7 @@ use std::marker::Model;
 /// The names of classes, the classes whose chains are whole, numbered from 0, and how many records are repeated.
 pub struct Classes {
     /// Where the first text of each ID lies.
-    texts: IndexMap<u64, Span, IdHasher>,
+    texts: TextsById,
     /// The ID of the text that is a class's name, by the class's ID.
     names: IndexMap<u64, u64, IdHasher>,
     known: IndexMap<u64, LinkedClass, IdHasher>,
@@ -55,14 +56,14 @@ impl Model for Classes {
 impl Classes {
     /// Classes of which this is known.
     pub(crate) fn new(
-        texts: IndexMap<u64, Span, IdHasher>,
+        texts: TextsById,
         names: IndexMap<u64, u64, IdHasher>,
         known: IndexMap<u64, LinkedClass, IdHasher>,
         guesses: Guesses,
         repeated: RepeatedRecords,
     ) -> Classes
         requires { IsLinked known.entries }
-        ensures { result ≡ record { texts = texts.entries; names = names.entries; classes = views known.entries; repeated = repeated } }
+        ensures { result ≡ record { texts = texts; names = names.entries; classes = views known.entries; repeated = repeated } }
     {
         Classes {
             texts,
@@ -88,7 +89,7 @@ impl Classes {
         drop(names);
         let hasher = *known.hasher();
         Classes {
-            texts: IndexMap::with_hasher(alloc, hasher),
+            texts: TextsById::none(alloc, hasher),
             names: IndexMap::with_hasher(alloc, hasher),
             known,
             guesses,
@@ -192,9 +193,6 @@ impl Classes {
         ensures { result ≡ name_at self.now id }
     {
         let name = self.names.get(&id)?;
-        match self.texts.get(name) {
-            Some(text) => Some(*text),
-            None => None,
-        }
+        self.texts.get(*name)
     }
 }

@@ -19,6 +19,7 @@ mod places;
 mod reference;
 mod repeats;
 mod source;
+mod texts;
 
 pub use chain::Chain;
 pub use class_names::{ClassNames, names_of};

@@ -9,10 +9,10 @@ ghost use Rattle.hd_classes.specs.Sources.{AreFirstTexts, IsSourceOf, IsSource, 
 use crate::first_class::{FirstClass, first_classes};
 use crate::names::{FirstTexts, bytes_of, first_names};
 use crate::repeats::RepeatedRecords;
+use crate::texts::TextsById;
 use hd_hashers::IdHasher;
 use hd_records::Records;
 use hd_subs::{ClassDump, DumpSubs};
-use hd_terms::Span;
 use indexmap::IndexMap;
 use std::alloc::{AllocError, Global};
 
@@ -22,7 +22,7 @@ pub(crate) struct Source<'a> {
     pub(crate) records: &'a Records,
     pub(crate) list: &'a DumpSubs<'a>,
     /// Where the first text of each ID lies.
-    pub(crate) texts: IndexMap<u64, Span, IdHasher>,
+    pub(crate) texts: TextsById,
     /// The ID of the text that is a class's name, by the class's ID.
     pub(crate) names: IndexMap<u64, u64, IdHasher>,
     /// How many texts and loaded classes have the ID of an earlier one.
@@ -82,7 +82,7 @@ pub(crate) fn source_of<'a>(
 
 impl<'a> Source<'a> {
     /// The texts and the class names, by their IDs.
-    pub(crate) fn into_names(self) -> (IndexMap<u64, Span, IdHasher>, IndexMap<u64, u64, IdHasher>)
+    pub(crate) fn into_names(self) -> (TextsById, IndexMap<u64, u64, IdHasher>)
         ensures texts { result.0 ≡ self.entry.texts }
         ensures names { result.1 ≡ self.entry.names }
     {
@@ -118,8 +118,8 @@ impl<'a> Source<'a> {
         requires { IsSource self.now }
         ensures { option_copied result ≡ option_map (bytes_of_span self.now.bytes.now) (text_of_id (table_of self.now) id) }
     {
-        match self.texts.get(&id) {
-            Some(text) => Some(bytes_of(self.bytes, *text)),
+        match self.texts.get(id) {
+            Some(text) => Some(bytes_of(self.bytes, text)),
             None => None,
         }
     }

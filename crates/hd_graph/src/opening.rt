@@ -84,7 +84,7 @@ impl Graph {
     }
 }
 
-/// The first texts of a file, which one thread notes, and its sub-records, which workers read meanwhile.
+/// The first texts of a file, which two threads note, and its sub-records, which workers read meanwhile.
 fn texts_and_subs<'a, R: Threads + Sync, G: Gate>(
     rt: &R,
     alloc: Global,
@@ -105,7 +105,7 @@ fn texts_and_subs<'a, R: Threads + Sync, G: Gate>(
 {
     let texts = || -> Result<FirstTexts, AllocError>
         ensures { IfOk result (AreFirstTexts records.entry.now.strings) }
-    { FirstTexts::of(alloc, &records.strings, secret) };
+    { FirstTexts::of(rt, alloc, &records.strings, secret) };
     let subs = || -> Result<DumpSubs<'_>, ReadFault>
         requires workers { IsWorkers workers }
         requires records { ReadsRecords bytes.now records.now.id_size records.now.strings records.now.loads records.now.segments }

@@ -9,6 +9,7 @@ use hd_subs::{DumpSubs, SegmentReader};
 use hd_terms::{EdgeKind, IdSize, Span};
 use std::alloc::Global;
 use std::process::Abort;
+use std::thread::Threads;
 
 /// Whether texts lie within so many bytes.
 fn lie_within(texts: &Texts, len: usize) -> bool
@@ -41,7 +42,7 @@ fn subs_of<'a, R: Abort>(rt: &R, alloc: Global, bytes: &'a [u8], start: u64) -> 
 }
 
 /// The classes of a file with 4-byte IDs and one segment, which is its last record.
-fn classes_of<R: Abort>(rt: &R, alloc: Global, bytes: &[u8]) -> Classes {
+fn classes_of<R: Abort + Threads + Sync>(rt: &R, alloc: Global, bytes: &[u8]) -> Classes {
     let records = read_records(alloc, bytes).expect(rt, "the records are read");
     let span = match records.segments.as_slice() {
         [span] => *span,
@@ -52,12 +53,12 @@ fn classes_of<R: Abort>(rt: &R, alloc: Global, bytes: &[u8]) -> Classes {
         lie_within(&records.strings, bytes.len()),
         "texts lie within the file"
     );
-    let texts = FirstTexts::of(alloc, &records.strings, 1).expect(rt, "the texts are noted");
+    let texts = FirstTexts::of(rt, alloc, &records.strings, 1).expect(rt, "the texts are noted");
     Classes::build(alloc, bytes, &records, texts, &list, 1).expect(rt, "the classes are found")
 }
 
 /// The classes of the file that a text spells, which is as above.
-fn classes_in<R: Abort>(rt: &R, alloc: Global, text: &str) -> Classes {
+fn classes_in<R: Abort + Threads + Sync>(rt: &R, alloc: Global, text: &str) -> Classes {
     let bytes = spell(alloc, text).expect(rt, "the file is spelled");
     classes_of(rt, alloc, bytes.as_slice())
 }
@@ -167,5 +168,17 @@ fn first_names(rt: HostRuntime) {
     let classes = classes.without_names(rt.alloc());
     assert_eq!(rt; classes.name(0x11), None);
     assert_eq!(rt; classes.len(), 2);
+    assert_eq!(rt; classes.repeated().texts, 2);
+}
+
+#[test]
+fn texts_of_both_sides(rt: HostRuntime) {
+    let text =
+        "ids 4\ntext 100 a\ntext 108 bc\ntext 108 d\ntext 100 e\ntext 10c f\nload 11 108\nload 12 100\nload 13 10c\n\
+        segment\nclass 11:\nclass 12:\nclass 13:\n";
+    let classes = classes_in(&rt, rt.alloc(), text);
+    assert_eq!(rt; classes.name(0x11), Some(Span { start: 58, len: 2 }));
+    assert_eq!(rt; classes.name(0x12), Some(Span { start: 44, len: 1 }));
+    assert_eq!(rt; classes.name(0x13), Some(Span { start: 101, len: 1 }));
     assert_eq!(rt; classes.repeated().texts, 2);
 }
