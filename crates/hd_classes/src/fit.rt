@@ -27,7 +27,7 @@ pub enum Fit {
 
 /// How many bytes the values of the instances of classes have, and where among them references lie. The fields of a layout are
 /// summed once, when the first instance that has enough bytes asks for it; so all that many instances ask takes no longer than
-/// their values are long. Places of references are noted for a class when it is asked for.
+/// their values are long. The places of references are noted of those classes that are told to be.
 pub struct LayoutBytes<'a> {
     alloc: Global,
     classes: &'a Classes,
