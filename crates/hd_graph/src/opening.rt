@@ -84,7 +84,8 @@ impl Graph {
     }
 }
 
-/// The first texts of a file, which two threads note, and its sub-records, which workers read meanwhile.
+/// The first texts of a file, which this thread and another one note, and its sub-records, which workers read meanwhile: those are
+/// begun by a thread that does nothing else before.
 fn texts_and_subs<'a, R: Threads + Sync, G: Gate>(
     rt: &R,
     alloc: Global,
@@ -112,7 +113,8 @@ fn texts_and_subs<'a, R: Threads + Sync, G: Gate>(
         ensures list { IfOk result (λ list. ReadsBodies records.entry.now.id_size bytes.entry.now records.entry.now.segments list) }
         ensures err { IfErr result (λ f. IsBodiesFaultOrMemory records.entry.now.id_size bytes.entry.now records.entry.now.segments f) }
     { decode(rt, alloc, bytes, records, workers, gate) };
-    join(rt, texts, subs)
+    let (list, texts) = join(rt, subs, texts);
+    (texts, list)
 }
 
 /// The graph of a dump. All of the file is read: its records, then its segments by this many workers at once, 1 to 16, each of
