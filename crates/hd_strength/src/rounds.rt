@@ -41,10 +41,10 @@ const FEW: usize = 4096;
 
 /// How many objects of a part pass their strength on in a round of several threads, where strengths alone are kept and some part
 /// has none that waits.
-const SOME: usize = 32_768;
+const SOME: usize = 8192;
 
 /// The same where each part has some.
-const MANY: usize = 262_144;
+const MANY: usize = 32_768;
 
 /// A search as far as it has come: the parts of all objects, and whether all is kept of these, or their strengths alone.
 #[derive(Drop)]
