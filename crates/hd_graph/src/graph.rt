@@ -295,6 +295,7 @@ impl Graph {
     /// The recorded bytes of an object: of an instance those of its values; of an array its count times the size of an
     /// element, which is that of an ID in an object array; of a class the sizes of its statics. At most 2,147,483,647, as a
     /// file has.
+    #[inline(always)]
     pub fn bytes_of(&self, o: u32) -> u64
         requires { o < length self.now.objects }
         ensures bytes { result ≡ (object_at self.now o).bytes }

@@ -15,8 +15,12 @@ use hd_totals::StrengthTotals;
 use std::alloc::Global;
 use std::thread::{Threads, join};
 
-/// In how many shares the objects are counted.
-const SHARES: u32 = 4;
+/// In how many shares at most the objects are counted. The system often puts two new threads on one processor and leaves another one
+/// idle; one that has done its share takes a thread that waits, so there are more shares than processors.
+const MOST_SHARES: u32 = 16;
+
+/// How many objects a share has, where there are fewer shares. A thread is worth no less.
+const SHARE: u32 = 65_536;
 
 /// The totals of the objects from one number on, before another.
 fn count_part(graph: &Graph, strengths: &[Strength], start: u32, end: u32) -> StrengthTotals
@@ -70,7 +74,9 @@ fn count_totals<R: Threads + Sync>(rt: &R, graph: &Graph, strengths: &[Strength]
     requires { length strengths.now ≡ length graph.now.objects }
     ensures { AreCounted graph.now (map only_strength strengths.now) 0 (length graph.now.objects) result }
 {
-    count_shares(rt, graph, strengths, 0, graph.objects(), SHARES)
+    let objects = graph.objects();
+    let shares = MOST_SHARES.min(objects / SHARE + 1);
+    count_shares(rt, graph, strengths, 0, objects, shares)
 }
 
 /// How many objects of a graph have each strength with no edit, and their recorded bytes. Nothing is kept for edits.

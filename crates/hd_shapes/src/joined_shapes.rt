@@ -48,6 +48,7 @@ impl JoinedShapes {
     }
 
     /// The shape of the object of a number.
+    #[inline(always)]
     pub fn get(&self, o: u32) -> Shape<'_>
         requires { o < length self.now.objects }
         ensures { slice_get self.now.objects o ≡ Some (shape_view result) }

@@ -1,4 +1,5 @@
 pub mod CodeLemmas
+pub mod CountLemmas
 pub mod CutLemmas
 pub mod PairLemmas
 pub mod ResolvingLemmas

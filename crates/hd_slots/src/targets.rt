@@ -1,5 +1,5 @@
 //! The objects that the slots of one object refer to.
-ghost use Rattle.std.specs.Prelude.{◌≡◌, ◌<◌, None, length, map};
+ghost use Rattle.std.specs.Prelude.{◌≡◌, ◌<◌, ◌^◌, None, length, map};
 ghost use Rattle.std.specs.List.{slice_index_or};
 ghost use Rattle.hd_slots.specs.Codes.{object_of_code};
 
@@ -17,20 +17,31 @@ pub struct Targets<'a> {
 }
 
 impl<'a> Model for Targets<'a> {
-    ghost use Rattle.std.specs.Prelude.{ℕ, List, Option, map};
+    ghost use Rattle.std.specs.Prelude.{ℕ, ◌<◌, ◌^◌, List, Option, length, map};
     ghost use Rattle.hd_slots.specs.Codes.{object_of_code};
 
     ghost Value = { List (Option ℕ) };
 
     ghost view = { λ a. map (object_of_code a.objects) a.codes.now };
+
+    ghost invariant = { λ a. length a.codes.now < 2 ^ 32 };
 }
 
 impl<'a> Targets<'a> {
     /// What these numbers stand for, where there are so many objects.
     pub(crate) fn new(codes: &'a [u32], objects: usize) -> Targets<'a>
+        requires { length codes.now < 2 ^ 32 }
         ensures { result ≡ map (object_of_code objects) codes.now }
     {
         Targets { codes, objects }
+    }
+
+    /// How many slots there are.
+    #[inline(always)]
+    pub fn len(&self) -> u32
+        ensures { result ≡ length self.now }
+    {
+        self.codes.len() as u32
     }
 
     /// The number of the object that the slot at an index refers to, if it refers to one.

@@ -31,6 +31,7 @@ fn slots(rt: HostRuntime) {
         (Slot::OfClass, 0, None),
     ];
     let targets = graph.targets(0);
+    assert_eq!(rt; targets.len(), 4);
     for i in 0..4u32 {
         let (slot, id, target) = row[i as usize];
         let read = graph.slots(0, i);

@@ -1,5 +1,5 @@
-use Rattle.std.proofs.Common.{min, ◌≡◌, ◌≢◌, ◌∙◌, ℕ, zero, suc, ◌+◌, ◌-◌, ◌^◌, ◌<◌, ◌≤◌, ◌⊎◌, inl, inr, Bool, true, false, List, [], ◌∷◌, ◌++◌, Contains, length, length-set, set, get_or, replicate, Some, slice_get, refl, sym, ap, subst, arith}
-use Rattle.std.proofs.lemmas.Bool.{cases_eq, cases_lt}
+use Rattle.std.proofs.Common.{min, ◌≡◌, ◌≢◌, ◌∙◌, ℕ, zero, suc, ◌+◌, ◌-◌, ◌^◌, ◌<◌, ◌≤◌, ◌⊎◌, inl, inr, Bool, true, false, ◌%◌, ◌==◌, List, [], ◌∷◌, ◌++◌, Contains, length, length-set, set, get_or, replicate, Some, slice_get, refl, sym, ap, subst, arith}
+use Rattle.std.proofs.lemmas.Bool.{cases_eq, cases_lt, eqb-true}
 use Rattle.std.proofs.lemmas.Option.{slice_get_within, slice_get-get_or}
 use Rattle.std.proofs.lemmas.List.{get_or-set_same, get_or-set_other, get_or_past, length-replicate}
 use Rattle.std.proofs.lemmas.List.Elements.{Contains-push, Contains-push_cases, Contains-append_left}
@@ -21,7 +21,7 @@ use Rattle.hd_strength.specs.Buckets.{bucket}
 use Rattle.hd_strength.specs.Found.{seen}
 use Rattle.hd_strength.specs.Rows.{edge_at, root_at, root_count}
 use Rattle.hd_strength.specs.Growing.{rank_at, AreHeld, IsHeldOrNot}
-use Rattle.hd_strength.specs.Parts.{AreBlank, BeginInSteps, IsOwn, IsNew, IsFresh, IsFit, IsPartOf, IsHolding, AreHolding, IsHeldBy, IsHeldIn, IsOfferedIn, IsReady, AreReady, IsSameBut, HasQueued, HaveEachQueued, HaveNotFailed, HaveComeTo, AreInRow, IsDoneIn, found_at, is_handed, unreached_of, unreached_in, with_found}
+use Rattle.hd_strength.specs.Parts.{AreBlank, BeginInSteps, IsOwn, IsNew, IsFresh, IsFit, IsPartOf, IsHolding, AreHolding, IsHeldBy, IsHeldIn, IsOfferedIn, IsReady, AreReady, IsSameBut, HasQueued, HaveEachQueued, HaveNotFailed, HaveComeTo, AreInRow, IsDoneIn, found_at, cells, is_handed, unreached_of, unreached_in, with_found}
 use Rattle.hd_strength.proofs.Lists.{Contains-nil}
 use Rattle.hd_strength.proofs.FoundLemmas.{alike-at, seen-strength}
 use Rattle.hd_strength.proofs.Weights.{unreached_count-le}
@@ -433,7 +433,10 @@ module _ (dump : Dump) (log : List Event) (whole : Bool) (old new : List Part) (
     none_made t x made = Contains-nil x (subst (λ (xs : List Offer). Contains xs x) (ap (λ (b : _). bucket b t) b.same.buckets ∙ f.none_offered t) made)
 
     none_handed : (o : ℕ) → is_handed p o ≡ true → ⊥
-    none_handed o is = let no : true ≡ false = sym (b.same.handed o is) ∙ ap (λ (flags : List Bool). get_or flags o false) f.handed in absurd (cc)
+    none_handed o is =
+        let last : (get_or [] (o % cells) (o + 1) == o) ≡ true = subst (λ (numbers : List ℕ). (get_or numbers (o % cells) (o + 1) == o) ≡ true) f.handed (b.same.handed o is) in
+        let no : o + 1 ≡ o = eqb-true (o + 1) o last in
+        absurd (omega (arith, no))
 
     fits : IsFit dump strengths.Strong p
     fits = record {

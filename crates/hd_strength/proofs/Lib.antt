@@ -1,3 +1,4 @@
+pub mod CellLemmas
 pub mod Lists
 pub mod FoundLemmas
 pub mod RemovedLemmas

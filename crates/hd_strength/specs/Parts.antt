@@ -1,6 +1,6 @@
 -- Parts of the objects, by their numbers, and how far a search among them has come.
 -- Source: this project.
-use Rattle.std.specs.Prelude.{◌≡◌, ℕ, ◌+◌, ◌-◌, ◌^◌, ◌≤◌, ◌<◌, ◌⊎◌, min, Bool, true, false, List, [], ◌∷◌, ◌++◌, length, set, map, replicate, Contains, sum_by, slice_get, slice_index_or, Option, Some}
+use Rattle.std.specs.Prelude.{◌≡◌, ℕ, ◌+◌, ◌-◌, ◌%◌, ◌^◌, ◌≤◌, ◌<◌, ◌==◌, ◌⊎◌, min, Bool, true, false, List, [], ◌∷◌, ◌++◌, length, set, map, replicate, Contains, sum_by, slice_get, slice_index_or, Option, Some}
 use Rattle.std.specs.List.{flat_map}
 use Rattle.hd_terms.specs.declared.Event.{Event}
 use Rattle.hd_terms.specs.declared.Mode.{Mode}
@@ -32,9 +32,13 @@ pub record IsOwn (p : Part) (o : ℕ) : Type 0 where
 abbrev pub found_at : Part → ℕ → Reached
 found_at p o = reached_at p.found.list (o - p.first)
 
--- an object of another part was handed over
+-- how many objects of other parts a part remembers at most
+abbrev pub cells : ℕ
+cells = 32768
+
+-- an object of another part is remembered as handed over: it is the last one of those that leave the same remainder
 abbrev pub is_handed : Part → ℕ → Bool
-is_handed p o = slice_index_or p.handed.items o false
+is_handed p o = slice_index_or p.handed.items (o % cells) (o + 1) == o
 
 -- a part of so many objects from the first on, of which nothing is found yet
 pub record IsNew (first len : ℕ) (whole : Bool) (p : Part) : Type 0 where

@@ -9,6 +9,10 @@ use crate::queue::Queue;
 use hd_terms::NoMemory;
 use std::alloc::Global;
 
+/// How many objects of other parts a part remembers at most. Classes, to which most references to other parts lead, mostly stand
+/// one behind the other, so up to so many of them are remembered side by side.
+const CELLS: usize = 32_768;
+
 /// A part of the objects, and how far a search among them has come. One thread at a time works on it.
 ///
 /// Parts lie side by side in memory, so what is written with each object stands in the middle: two threads that write into one
@@ -26,9 +30,9 @@ pub(crate) struct Part {
     pub(crate) found: Found,
     /// Its objects that are reached and have yet to pass their strength on.
     pub(crate) queue: Queue,
-    /// A flag for each object of the dump: whether it is of another part, and was handed over to that. Empty before the search
-    /// begins, and where there is one part.
-    pub(crate) handed: Vec<bool>,
+    /// Objects of other parts that were handed over to those: of all numbers that leave the same remainder by `CELLS` the last one.
+    /// One that is forgotten is only handed over once more. Empty before the search begins, and where there is one part.
+    pub(crate) handed: Vec<u32>,
     /// What references of its objects give, and no target has taken yet.
     pub(crate) buckets: Buckets,
 }
@@ -92,7 +96,7 @@ impl Part {
         o >= self.first && ((o - self.first) as usize) < self.found.len()
     }
 
-    /// Whether an object is known to be reached, or was handed over to the part that will reach it.
+    /// Whether an object is known to be reached, or is remembered as handed over to the part that will reach it.
     #[inline(always)]
     pub(crate) fn knows(&self, o: u32) -> bool
         ensures yes { result ≡ true → IsKnown self.now o }
@@ -101,28 +105,35 @@ impl Part {
         if self.has(o) {
             self.found.is_reached(o - self.first)
         } else {
-            self.handed.get(o as usize).copied().unwrap_or(false)
+            match self.handed.get(o as usize % CELLS) {
+                Some(last) => *last == o,
+                None => false,
+            }
         }
     }
 
-    /// Makes flags for all objects, so many, where there are other parts and no flags yet.
-    pub(crate) fn make_flags(&mut self, objects: u32) -> Result<(), NoMemory>
+    /// Makes room for objects that are handed over, where there are other parts, since there are so many objects, and no room yet.
+    pub(crate) fn make_cells(&mut self, objects: u32) -> Result<(), NoMemory>
         ensures { OnOk result (IsSameBut self.old self.new × (self.new.queue ≡ self.old.queue)) }
     {
         if self.handed.is_empty() && self.found.len() < objects as usize {
             let alloc = *self.handed.allocator();
-            self.handed = vec![in alloc; false; objects as usize]?;
+            let mut cells = vec![in alloc; 0; CELLS]?;
+            // Each cell begins with a number that belongs into another one, so it is taken for no object: 0 belongs into the first.
+            cells[0] = 1;
+            self.handed = cells;
         }
         Ok(())
     }
 
-    /// Notes that an object of another part is handed over to that. Where there are no flags nothing is noted.
+    /// Remembers that an object of another part is handed over to that, in place of another one. Where there is no room nothing is
+    /// remembered.
     #[inline(always)]
     pub(crate) fn note_handed(&mut self, o: u32)
         ensures { IsNoted self.old self.new o }
     {
-        if let Some(flag) = self.handed.get_mut(o as usize) {
-            *flag = true;
+        if let Some(last) = self.handed.get_mut(o as usize % CELLS) {
+            *last = o;
         }
     }
 

@@ -133,7 +133,7 @@ fn relax_edges(
     ensures { OnOk result (HasGoneOn edited.entry.graph.now edited.entry.front.now strength (IsBelow o 0) IsAny part.old part.new) }
 {
     let targets = edited.graph.targets(o);
-    for index in 0..edited.graph.slots_len(o) {
+    for index in 0..targets.len() {
         relax_edge(edited, part, o, index, targets.get(index), strength)?;
     }
     Ok(())

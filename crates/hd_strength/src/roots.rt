@@ -147,13 +147,13 @@ fn queue_reached(part: &mut Part) -> Result<(), NoMemory>
     Ok(())
 }
 
-/// Makes the flags that a part needs where there are other parts, and queues its objects that are reached. The dump has so many
+/// Makes the room that a part needs where there are other parts, and queues its objects that are reached. The dump has so many
 /// objects.
 fn prepare(part: &mut Part, objects: u32) -> Result<(), NoMemory>
     requires { IsReady part.old }
     ensures { OnOk result (HasQueued part.old part.new) }
 {
-    part.make_flags(objects)?;
+    part.make_cells(objects)?;
     queue_reached(part)?;
     Ok(())
 }

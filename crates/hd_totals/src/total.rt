@@ -129,6 +129,7 @@ impl StrengthTotals {
     }
 
     /// Adds an object of a strength and of so many bytes.
+    #[inline(always)]
     pub fn add(&mut self, strength: Strength, bytes: u64)
         requires count { (total_for self.old strength).count + 1 < 2 ^ 64 }
         requires bytes { (total_for self.old strength).bytes + bytes < 2 ^ 64 }

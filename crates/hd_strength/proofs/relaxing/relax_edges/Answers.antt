@@ -1,4 +1,8 @@
-use Rattle.std.proofs.Common.{◌∙◌, arith}
+use Rattle.std.proofs.Common.{◌≡◌, ◌∙◌, length, ap, arith}
+use Rattle.std.proofs.lemmas.List.{length-map}
+use Rattle.hd_terms.specs.Dump.{SlotEntry, object_at}
+use Rattle.hd_terms.specs.Edges.{index_of}
+use Rattle.hd_strength.specs.Rows.{width}
 use Rattle.hd_strength.specs.Parts.{IsAny, IsBelow}
 use Rattle.hd_strength.proofs.Going.{looked, begun, gone_on_after, row_done}
 use Rattle.hd_strength.proofs.relaxing.relax_edges.Goals as goal
@@ -24,5 +28,6 @@ returns c =
     let dump = c.args.edited.graph.now in
     let log = c.args.edited.front.now in
     let h = c.loop-index.invariant in
+    let many : length c.targets-targets.result ≡ width dump c.args.o = ap length c.targets-targets.ensures.all ∙ length-map (object_at dump c.args.o).slots (λ (s : SlotEntry). index_of dump.objects s.id) in
     gone_on_after dump log c.args.strength (IsBelow c.args.o 0) (IsBelow c.args.o c.loop-index.index) IsAny c.args.part.now c.loop-index.part c.loop-index.part h.gone_on
-    (row_done dump log c.args.strength c.args.o c.loop-index.index c.loop-index.part h.gone_on.fit (omega arith))
+    (row_done dump log c.args.strength c.args.o c.loop-index.index c.loop-index.part h.gone_on.fit (omega (arith, many)))
