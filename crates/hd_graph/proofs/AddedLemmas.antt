@@ -75,14 +75,11 @@ module _ (c : ClassDump) (offset : ℕ) (first second third fourth last : Table)
       }
 
 -- an instance's row, once the IDs in its fields were added
-pub instance-added : (ids : List ℕ) (offset weight : ℕ) (first second third last : Table) → first.filling ≡ [] → GrowsBy ids first second
-    → third ≡ record second { filling = second.filling ++ id_at second.bytes second.size offset ∷ []; count = second.count + 1 } → last ≡ record third { rows = third.rows ++ third.filling ∷ []; filling = [] }
-    → length ids + 1 ≤ weight → AddsRow (ids ++ id_at first.bytes first.size offset ∷ []) weight first last
-instance-added ids offset weight first second third last empty to_second grows_third to_last few =
-    let class = id_at first.bytes first.size offset in
+pub instance-by_id-added : (ids : List ℕ) (class weight : ℕ) (first second third last : Table) → first.filling ≡ [] → GrowsBy ids first second
+    → third ≡ record second { filling = second.filling ++ class ∷ []; count = second.count + 1 } → last ≡ record third { rows = third.rows ++ third.filling ∷ []; filling = [] }
+    → length ids + 1 ≤ weight → AddsRow (ids ++ class ∷ []) weight first last
+instance-by_id-added ids class weight first second third last empty to_second to_third to_last few =
     let over = grown-over ids first second to_second in
-    let to_third : third ≡ record second { filling = second.filling ++ class ∷ []; count = second.count + 1 } =
-    over-same (λ (bytes : List ℕ) (size : IdSize). third ≡ record second { filling = second.filling ++ id_at bytes size offset ∷ []; count = second.count + 1 }) first second over grows_third in
     let filling : third.filling ≡ ids ++ class ∷ [] = ap (λ (t : Table). t.filling) to_third ∙ ap (λ (f : List ℕ). f ++ class ∷ []) (ap (λ (t : Table). t.filling) to_second ∙ ap (λ (f : List ℕ). f ++ ids) empty) in
     let rows : third.rows ≡ first.rows = ap (λ (t : Table). t.rows) to_third ∙ ap (λ (t : Table). t.rows) to_second in
     record {
@@ -97,6 +94,16 @@ instance-added ids offset weight first second third last empty to_second grows_t
           refl;
       count = omega (arith, ap (λ (t : Table). t.count) to_last, ap (λ (t : Table). t.count) to_third, ap (λ (t : Table). t.count) to_second, few);
     }
+
+-- the same, where the ID of the class is read at an offset
+pub instance-added : (ids : List ℕ) (offset weight : ℕ) (first second third last : Table) → first.filling ≡ [] → GrowsBy ids first second
+    → third ≡ record second { filling = second.filling ++ id_at second.bytes second.size offset ∷ []; count = second.count + 1 } → last ≡ record third { rows = third.rows ++ third.filling ∷ []; filling = [] }
+    → length ids + 1 ≤ weight → AddsRow (ids ++ id_at first.bytes first.size offset ∷ []) weight first last
+instance-added ids offset weight first second third last empty to_second grows_third to_last few =
+    let over = grown-over ids first second to_second in
+    instance-by_id-added ids (id_at first.bytes first.size offset) weight first second third last empty to_second
+    (over-same (λ (bytes : List ℕ) (size : IdSize). third ≡ record second { filling = second.filling ++ id_at bytes size offset ∷ []; count = second.count + 1 }) first second over grows_third)
+    to_last few
 
 -- what is added may weigh less
 pub added-more : (row : List ℕ) (less more : ℕ) (old new : Table) → less ≤ more → AddsRow row less old new → AddsRow row more old new

@@ -97,27 +97,28 @@ fn push_values(
     Ok(())
 }
 
-/// Adds the row of an instance whose values fit the layout of the class of a number. The ID of the class and the values lie at these
-/// file offsets.
+/// Adds the row of an instance whose values fit the layout of the class of a number. The class's ID, and the values, lie at these file
+/// offsets.
 #[inline(always)]
 fn push_row(
     slot_table: &mut UnresolvedSlots<'_>,
     layouts: &mut LayoutBytes<'_>,
     number: usize,
+    id: u64,
     class: u64,
     start: u32,
 ) -> Result<(), AllocError>
     requires size { layouts.old.size ≡ slot_table.old.size }
     requires number { number < length layouts.old.classes.classes }
-    requires class { IsIdWithin slot_table.old.size (length slot_table.old.bytes) class }
+    requires class { HasIdAt slot_table.old.bytes slot_table.old.size class id }
     requires within { start + length_by_number slot_table.old.size layouts.old.classes number ≤ length slot_table.old.bytes }
     requires room { length slot_table.old.ids + slot_table.old.count + length (layout_by_number layouts.old.classes number) + 1 < 2 ^ 32 - 1 }
     requires filled { slot_table.old.filling ≡ [] }
-    ensures row { OnOk result (AddsRow (instance_row slot_table.old.bytes slot_table.old.size start (id_at slot_table.old.bytes slot_table.old.size class) (layout_by_number layouts.old.classes number)) (length (layout_by_number layouts.old.classes number) + 1) slot_table.old slot_table.new) }
+    ensures row { OnOk result (AddsRow (instance_row slot_table.old.bytes slot_table.old.size start id (layout_by_number layouts.old.classes number)) (length (layout_by_number layouts.old.classes number) + 1) slot_table.old slot_table.new) }
     ensures same { OnOk result (layouts.new ≡ layouts.old) }
 {
     push_values(slot_table, layouts, number, start)?;
-    slot_table.push(class)?;
+    slot_table.push_shared(number, id, class)?;
     slot_table.end_row()?;
     Ok(())
 }
@@ -156,7 +157,8 @@ pub(crate) fn push_instance_row(
     let fit = layouts.fit(class, values.len);
     match fit {
         Fit::Class(number) => {
-            push_row(slot_table, layouts, number, class_at, values.start as u32)?;
+            let start = values.start as u32;
+            push_row(slot_table, layouts, number, class, class_at, start)?;
         }
         Fit::Unknown | Fit::Misfit => push_opaque_row(slot_table, class_at)?,
     }

@@ -3,4 +3,5 @@ pub mod CountLemmas
 pub mod CutLemmas
 pub mod PairLemmas
 pub mod ResolvingLemmas
+pub mod SharedLemmas
 pub mod TableLemmas

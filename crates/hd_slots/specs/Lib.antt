@@ -4,5 +4,6 @@ pub mod Cuts
 pub mod Parts
 pub mod Inside
 pub mod JoinedInside
-pub mod UnresolvedInside
 pub mod Resolving
+pub mod Shared
+pub mod UnresolvedInside

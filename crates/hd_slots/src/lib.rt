@@ -6,6 +6,7 @@ mod counting;
 mod joined_rows;
 mod resolved_rows;
 mod resolving;
+mod shared;
 mod slot_table;
 mod targets;
 mod unresolved;

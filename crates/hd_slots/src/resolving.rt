@@ -3,6 +3,7 @@ ghost use Rattle.std.specs.Prelude.{◌≡◌, drop, ◌+◌, ◌<◌, ◌≤◌
 ghost use Rattle.hd_slots.specs.Table.{id_at, IsIdWithin};
 ghost use Rattle.hd_slots.specs.Codes.{IsCode, IsLonger, id_of_code};
 ghost use Rattle.hd_slots.specs.Resolving.{found_code, id_of_found, IsFound, IsMarked, IsUnmarked, KeepsBlock, AreCodesOf};
+ghost use Rattle.hd_slots.specs.Shared.{offset_of, found_item, IsKept};
 
 use crate::resolved_rows::NULL;
 use hd_ids::{JoinedFinder, JoinedIds};
@@ -13,6 +14,9 @@ use std::thread::Threads;
 
 /// Marks the offset of an ID that is no object's. Numbers of objects and offsets into the file are below it.
 const ABSENT: u32 = 0x8000_0000;
+
+/// Marks, in place of the offset of an ID, an index of the offsets that many slots share.
+pub(crate) const SHARED: u32 = 0x8000_0000;
 
 /// How many numbers are looked over together for marked offsets, of which most dumps have few.
 const BLOCK: usize = 256;
@@ -40,41 +44,63 @@ fn found(finder: &mut JoinedFinder<'_>, id_size: IdSize, bytes: &[u8], offset: u
     }
 }
 
-/// Turns the offsets of IDs of one part into what is found there. IDs that follow one another are mostly near, so one finder
-/// finds all.
-fn find_part(ids: &JoinedIds, id_size: IdSize, bytes: &[u8], part: &mut [u32])
-    requires within { All (IsIdWithin id_size (length bytes.now)) part.old }
+/// What is found for a slot, where this was found for the shared offsets.
+#[inline(always)]
+fn find_item(
+    finder: &mut JoinedFinder<'_>,
+    id_size: IdSize,
+    bytes: &[u8],
+    shared: &[u32],
+    item: u32,
+) -> u32
+    requires kept { IsKept id_size (length bytes.now) (length shared.now) item }
+    requires small { length bytes.now < 2 ^ 31 }
+    requires few { length finder.old < 2 ^ 31 }
+    ensures found { result ≡ found_item finder.old bytes.now id_size shared.now item }
+    ensures same { finder.new ≡ finder.old }
+{
+    if item < SHARED {
+        return found(finder, id_size, bytes, item);
+    }
+    shared[(item - SHARED) as usize]
+}
+
+/// Turns what is kept of the slots of one part into what is found for them. IDs that follow one another are mostly near, so one
+/// finder finds all.
+fn find_part(ids: &JoinedIds, id_size: IdSize, bytes: &[u8], shared: &[u32], part: &mut [u32])
+    requires kept { All (IsKept id_size (length bytes.now) (length shared.now)) part.old }
     requires small { length bytes.now < 2 ^ 31 }
     requires few { length ids.now < 2 ^ 31 }
-    ensures { part.new ≡ map (found_code ids.now bytes.now id_size) part.old }
+    ensures { part.new ≡ map (found_item ids.now bytes.now id_size shared.now) part.old }
 {
     let mut finder = ids.finder();
     for i in 0..part.len() {
-        part[i] = found(&mut finder, id_size, bytes, part[i]);
+        part[i] = find_item(&mut finder, id_size, bytes, shared, part[i]);
     }
 }
 
-/// Turns offsets of IDs into what is found there, on all processors, part by part.
+/// Turns what is kept of slots into what is found for them, on all processors, part by part.
 fn find_objects<R: Threads + Sync>(
     rt: &R,
     ids: &JoinedIds,
     id_size: IdSize,
     bytes: &[u8],
+    shared: &[u32],
     items: &mut [u32],
 )
-    requires within { All (IsIdWithin id_size (length bytes.now)) items.old }
+    requires kept { All (IsKept id_size (length bytes.now) (length shared.now)) items.old }
     requires small { length bytes.now < 2 ^ 31 }
     requires few { length ids.now < 2 ^ 31 }
-    ensures { items.new ≡ map (found_code ids.now bytes.now id_size) items.old }
+    ensures { items.new ≡ map (found_item ids.now bytes.now id_size shared.now) items.old }
 {
     par_chunks_mut_for_each(
         rt,
         items,
         PART,
         |_, part: &mut [u32]|
-            requires { All (IsIdWithin id_size (length bytes.now)) part.now × (length bytes.now < 2 ^ 31) × (length ids.now < 2 ^ 31) }
-            ensures { part.exit.now ≡ map (found_code ids.entry.now bytes.entry.now id_size) part.entry.now }
-        { find_part(ids, id_size, bytes, part) },
+            requires { All (IsKept id_size (length bytes.now) (length shared.now)) part.now × (length bytes.now < 2 ^ 31) × (length ids.now < 2 ^ 31) }
+            ensures { part.exit.now ≡ map (found_item ids.entry.now bytes.entry.now id_size shared.entry.now) part.entry.now }
+        { find_part(ids, id_size, bytes, shared, part) },
     );
 }
 
@@ -171,24 +197,27 @@ fn keep_absent(
     Ok(absent)
 }
 
-/// Turns offsets of IDs into numbers, and answers the IDs that are no object's.
+/// Turns what is kept of slots into numbers, and answers the IDs that are no object's. The shared offsets become what is found there.
 pub(crate) fn resolve_offsets<R: Threads + Sync>(
     rt: &R,
     alloc: Global,
     ids: &JoinedIds,
     id_size: IdSize,
     bytes: &[u8],
+    shared: &mut [u32],
     items: &mut [u32],
 ) -> Result<Vec<u64>, AllocError>
-    requires within { All (IsIdWithin id_size (length bytes.now)) items.old }
+    requires shared { All (IsIdWithin id_size (length bytes.now)) shared.old }
+    requires kept { All (IsKept id_size (length bytes.now) (length shared.old)) items.old }
     requires small { length bytes.now < 2 ^ 31 }
     requires few { length ids.now < 2 ^ 31 }
     requires no_null { All (λ id. 0 < id) ids.now }
     requires room { length ids.now + length items.old < 2 ^ 32 }
-    ensures codes { IfOk result (λ absent. AreCodesOf ids.now (map (id_at bytes.now id_size) items.old) items.new absent.items) }
+    ensures codes { IfOk result (λ absent. AreCodesOf ids.now (map (id_at bytes.now id_size) (map (offset_of shared.old) items.old)) items.new absent.items) }
     ensures same_len { length items.new ≡ length items.old }
 {
-    find_objects(rt, ids, id_size, bytes, items);
+    find_part(ids, id_size, bytes, &[], shared);
+    find_objects(rt, ids, id_size, bytes, shared, items);
     let absent = keep_absent(alloc, ids, id_size, bytes, items)?;
     Ok(absent)
 }

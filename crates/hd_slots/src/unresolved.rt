@@ -5,7 +5,8 @@ ghost use Rattle.hd_terms.specs.Records.{id_len};
 ghost use Rattle.hd_slots.specs.Table.{id_at, IsIdWithin};
 
 use crate::resolved_rows::ResolvedRows;
-use crate::resolving::resolve_offsets;
+use crate::resolving::{SHARED, resolve_offsets};
+use crate::shared::SharedIds;
 use hd_ids::JoinedIds;
 use hd_terms::IdSize;
 use std::alloc::{AllocError, Global};
@@ -18,13 +19,15 @@ use std::thread::Threads;
 const LARGE: usize = 1 << 26;
 
 /// The references of objects as the file has them: for each object a row of IDs, each kept as its offset in the file, in four
-/// bytes.
+/// bytes. IDs that many slots have are kept as their place in a list of their offsets, so that each is looked up once.
 pub struct UnresolvedSlots<'a> {
     bytes: &'a [u8],
     id_size: IdSize,
     ids: Arc<JoinedIds>,
     starts: Vec<u32>,
-    offsets: Vec<u32>,
+    /// Of each slot the offset of its ID, or `SHARED` and an index of the shared ones.
+    items: Vec<u32>,
+    shared: SharedIds,
 }
 
 impl Drop for UnresolvedSlots<'_> {
@@ -35,7 +38,8 @@ impl Drop for UnresolvedSlots<'_> {
             id_size: _,
             ids,
             starts,
-            offsets,
+            items,
+            shared,
         } = self;
     }
 }
@@ -69,18 +73,19 @@ impl<'a> UnresolvedSlots<'a> {
     {
         let mut starts = Vec::with_capacity(alloc, rows.saturating_add(1))?;
         starts.push(0)?;
-        let mut offsets = Vec::new(alloc);
+        let mut items = Vec::new(alloc);
         // So the list of a large file needn't move as it grows, and that of a smaller one seldom does. Room that isn't touched
         // takes no memory.
         let all = bytes.len() / id_size.bytes();
         let room = if bytes.len() < LARGE { all / 2 } else { all };
-        let _ = offsets.reserve(room);
+        let _ = items.reserve(room);
         Ok(UnresolvedSlots {
             bytes,
             id_size,
             ids,
             starts,
-            offsets,
+            items,
+            shared: SharedIds::none(alloc),
         })
     }
 
@@ -109,7 +114,7 @@ impl<'a> UnresolvedSlots<'a> {
         requires room { length self.old.ids + self.old.count < 2 ^ 32 - 1 }
         ensures { OnOk result (self.new ≡ record self.old { filling = self.old.filling ++ id_at self.old.bytes self.old.size offset ∷ []; count = self.old.count + 1 }) }
     {
-        self.offsets.push(offset as u32)?;
+        self.items.push(offset as u32)?;
         Ok(())
     }
 
@@ -126,11 +131,39 @@ impl<'a> UnresolvedSlots<'a> {
         Ok(())
     }
 
+    /// Notes that an ID, which lies at an offset of the file, will come again with a key.
+    fn note_shared(&mut self, key: usize, id: u64, offset: u64) -> Result<(), AllocError>
+        requires within { IsIdWithin self.old.size (length self.old.bytes) offset }
+        requires id { id ≡ id_at self.old.bytes self.old.size offset }
+        ensures { OnOk result (self.new ≡ self.old) }
+    {
+        self.shared.note(key, id, offset as u32)?;
+        Ok(())
+    }
+
+    /// Adds the ID at an offset of the file, 0 for null, to the row that is being filled, as `push` does. It is looked up once for all
+    /// that have the same key, as long as they have the same ID. Keys are numbers from 0 on, as those of classes.
+    #[inline(always)]
+    pub fn push_shared(&mut self, key: usize, id: u64, offset: u64) -> Result<(), AllocError>
+        requires within { IsIdWithin self.old.size (length self.old.bytes) offset }
+        requires id { id ≡ id_at self.old.bytes self.old.size offset }
+        requires room { length self.old.ids + self.old.count < 2 ^ 32 - 1 }
+        ensures { OnOk result (self.new ≡ record self.old { filling = self.old.filling ++ id ∷ []; count = self.old.count + 1 }) }
+    {
+        if let Some(index) = self.shared.index_of(key, id) {
+            self.items.push(SHARED + index)?;
+            return Ok(());
+        }
+        self.note_shared(key, id, offset)?;
+        self.push(offset)?;
+        Ok(())
+    }
+
     /// Ends the row that is being filled, and begins the next.
     pub fn end_row(&mut self) -> Result<(), AllocError>
         ensures { OnOk result (self.new ≡ record self.old { rows = self.old.rows ++ self.old.filling ∷ []; filling = [] }) }
     {
-        let start = self.offsets.len() as u32;
+        let start = self.items.len() as u32;
         self.starts.push(start)?;
         Ok(())
     }
@@ -155,7 +188,8 @@ impl<'a> UnresolvedSlots<'a> {
             id_size,
             ids: before,
             starts,
-            offsets,
+            items,
+            shared,
         } = self;
         drop(before);
         UnresolvedSlots {
@@ -163,7 +197,8 @@ impl<'a> UnresolvedSlots<'a> {
             id_size,
             ids,
             starts,
-            offsets,
+            items,
+            shared,
         }
     }
 
@@ -181,9 +216,19 @@ impl<'a> UnresolvedSlots<'a> {
             id_size,
             ids,
             starts,
-            offsets: mut items,
+            mut items,
+            shared,
         } = self;
-        let absent = resolve_offsets(rt, alloc, &ids, id_size, bytes, items.as_mut_slice())?;
+        let mut shared = shared.into_offsets();
+        let absent = resolve_offsets(
+            rt,
+            alloc,
+            &ids,
+            id_size,
+            bytes,
+            shared.as_mut_slice(),
+            items.as_mut_slice(),
+        )?;
         let slot_table = ResolvedRows::new(ids, starts, items, absent);
         Ok(slot_table)
     }

@@ -4,6 +4,7 @@ use Rattle.std.proofs.lemmas.Bool.{le-ltb}
 use Rattle.std.proofs.lemmas.Option.{get_or_from_slice_get, slice_get_within, slice_get-get_or}
 use Rattle.std.specs.Arc.{arc_value}
 use Rattle.hd_slots.specs.Table.{Table, id_at}
+use Rattle.hd_slots.specs.UnresolvedInside.{offsets_in}
 use Rattle.hd_slots.proofs.CutLemmas.{length-rows_from}
 use Rattle.hd_slots.proofs.unresolved.UnresolvedSlots.is_next.Goals as goal
 
@@ -21,7 +22,7 @@ returns-then-next-len c =
     let next = c.len-next.result - 1 in
     let ids = arc_value a.ids in
     let offset : next ≡ length c.args.self.now.rows =
-    ap (λ (n : ℕ). n - 1) (c.len-next.ensures ∙ a.starts.ok.0) ∙ sym (length-rows_from a.starts.items (map (id_at a.bytes.now a.id_size) a.offsets.items)) ∙ ap (λ (t : Table). length t.rows) c.self.view_is in
+    ap (λ (n : ℕ). n - 1) (c.len-next.ensures ∙ a.starts.ok.0) ∙ sym (length-rows_from a.starts.items (map (id_at a.bytes.now a.id_size) (offsets_in a))) ∙ ap (λ (t : Table). length t.rows) c.self.view_is in
     let at : slice_get ids next ≡ slice_get c.args.self.now.ids (length c.args.self.now.rows) =
     ap (λ (xs : List ℕ). slice_get xs next) (ap (λ (t : Table). t.ids) c.self.view_is) ∙ ap (λ (n : ℕ). slice_get c.args.self.now.ids n) offset in
     let f = found ids next c.args.id (omega (arith, c.if-next-len.true, c.len.ensures, ap (λ (xs : List ℕ). length xs) c.deref.ensures)) in
@@ -34,7 +35,7 @@ returns-else-next-len c =
     let next = c.len-next.result - 1 in
     let ids = arc_value a.ids in
     let offset : next ≡ length c.args.self.now.rows =
-    ap (λ (n : ℕ). n - 1) (c.len-next.ensures ∙ a.starts.ok.0) ∙ sym (length-rows_from a.starts.items (map (id_at a.bytes.now a.id_size) a.offsets.items)) ∙ ap (λ (t : Table). length t.rows) c.self.view_is in
+    ap (λ (n : ℕ). n - 1) (c.len-next.ensures ∙ a.starts.ok.0) ∙ sym (length-rows_from a.starts.items (map (id_at a.bytes.now a.id_size) (offsets_in a))) ∙ ap (λ (t : Table). length t.rows) c.self.view_is in
     let at : slice_get ids next ≡ slice_get c.args.self.now.ids (length c.args.self.now.rows) =
     ap (λ (xs : List ℕ). slice_get xs next) (ap (λ (t : Table). t.ids) c.self.view_is) ∙ ap (λ (n : ℕ). slice_get c.args.self.now.ids n) offset in
     let f = not_found ids next c.args.id (ltb next c.len.result) (omega (arith, c.if-next-len.false, c.len.ensures, ap (λ (xs : List ℕ). length xs) c.deref.ensures)) (ap (ltb next) (c.len.ensures ∙ ap (λ (xs : List ℕ). length xs) c.deref.ensures)) in
