@@ -142,6 +142,16 @@ def to_and_fro(size):
     return in_segments(parts)
 
 
+def one_cell(size):
+    """An array that refers in turns to two objects of another part of the objects, whose numbers leave the same remainder by
+    32,768, so that the search doesn't remember that it handed them over."""
+    count = 140_000
+    empty = [struct.pack(">BQIIB", 0x23, 16 + i * 8, 0, 0, 8) for i in range(count)]
+    pair = (16 + 100_000 * 8, 16 + 132_768 * 8)
+    parts = [struct.pack(">BQ", 0xFF, 8), array(8, pair * ((size - 18 * count) // 16))]
+    return in_segments(parts + empty)
+
+
 DUMPS = [
     colliding_ids,
     ids_far_apart,
@@ -157,6 +167,7 @@ DUMPS = [
     roots,
     one_list,
     to_and_fro,
+    one_cell,
 ]
 
 
