@@ -1,5 +1,6 @@
 pub mod DistinctLemmas
 pub mod PlainLemmas
+pub mod BlockLemmas
 pub mod NumberLemmas
 pub mod RowLemmas
 pub mod JoinLemmas

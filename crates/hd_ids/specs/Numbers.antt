@@ -1,25 +1,51 @@
--- Numbers of IDs, a byte for each where they are near.
+-- Numbers of IDs, by blocks of 32 places.
 -- Source: this project.
-use Rattle.std.specs.Prelude.{◌≡◌, ℕ, ◌==◌, ◌||◌, true, ◌+◌, ◌-◌, ◌*◌, ◌/◌, ◌≤◌, ◌^◌, List, [], ◌∷◌, length, slice_index, unwrap_or, if◌then◌else◌, All}
-use Rattle.std.specs.Map.{lookup}
+use Rattle.std.specs.Prelude.{◌≡◌, ◌≢◌, ℕ, ◌==◌, ◌&&◌, not, Bool, true, false, ◌+◌, ◌-◌, ◌*◌, ◌/◌, ◌%◌, ◌≤◌, ◌^◌, List, get_or, length, map, slice_index, if◌then◌else◌, count_ones, All}
+use Rattle.std.specs.List.{range_with_len}
+use Rattle.std.specs.Int.{bit_at}
+use Rattle.hd_ids.specs.declared.block.Block.{Block}
 
--- the number at a place, by the base of its block and the step that is kept of it: 0 is none, 255 is a number that is kept by its
--- place, and 1 is the base
-abbrev pub number_by : List ℕ → List (ℕ × ℕ) → ℕ → ℕ → ℕ
-number_by bases far slot step =
-    if step == 0 then 0 else if step == 255 then unwrap_or (lookup (λ (x : ℕ). slot == x) far) 0 else slice_index bases (slot / 32) + (step - 1)
+-- no place of a block has a number
+abbrev pub no_numbers : Block
+no_numbers = record { mask = 0; first = 0 }
 
--- the numbers at the places from one on
-abbrev pub numbers_from : List ℕ → List (ℕ × ℕ) → ℕ → List ℕ → List ℕ
-numbers_from bases far slot [] = []
-numbers_from bases far slot (s ∷ steps) = number_by bases far slot s ∷ numbers_from bases far (slot + 1) steps
+-- the numbers of a block don't follow one another: they stand in a row of scattered numbers
+abbrev pub is_scattered : Block → Bool
+is_scattered b = b.mask == 0 && not (b.first == 0)
 
-abbrev pub numbers_of : List ℕ → List (ℕ × ℕ) → List ℕ → List ℕ
-numbers_of bases far steps = numbers_from bases far 0 steps
+-- the number at a place of a block whose numbers follow one another: as many behind the first as there are before the place; 0 where
+-- there is none
+abbrev pub number_by : Block → ℕ → ℕ
+number_by b place = if bit_at b.mask place == 1 then b.first + count_ones (b.mask % 2 ^ place) else 0
 
--- each block of 32 places has its base; a base and a step have at most 32 bits together; and where a block has no base yet, none of
--- its numbers goes by it
-pub record AreSteps (bases steps : List ℕ) : Type 0 where
-  pub lengths : length steps ≡ length bases * 32
-  pub low : All (λ (base : ℕ). base ≤ 2 ^ 31) bases
-  pub unset : (slot : ℕ) → slice_index bases (slot / 32) ≡ 0 → (slice_index steps slot == 0 || slice_index steps slot == 255) ≡ true
+-- the number at a place of a block
+abbrev pub number_in : List ℕ → Block → ℕ → ℕ
+number_in scattered b place = if is_scattered b then slice_index scattered ((b.first - 1) * 32 + place) else number_by b place
+
+-- the block of an index
+abbrev pub block_at : List Block → ℕ → Block
+block_at blocks i = get_or blocks i no_numbers
+
+-- the number at a place of all blocks
+abbrev pub number_at : List Block → List ℕ → ℕ → ℕ
+number_at blocks scattered slot = number_in scattered (block_at blocks (slot / 32)) (slot % 32)
+
+-- the numbers at all places
+abbrev pub numbers_of : List Block → List ℕ → List ℕ
+numbers_of blocks scattered = map (number_at blocks scattered) (range_with_len 0 (length blocks * 32))
+
+-- a number was put at a place of a block whose numbers follow one another, and still do
+pub record IsBlockWith (old : Block) (place number : ℕ) (new : Block) : Type 0 where
+  pub here : (scattered : List ℕ) → number_in scattered new place ≡ number
+  pub others : (scattered : List ℕ) (other : ℕ) → other ≢ place → number_in scattered new other ≡ number_in scattered old other
+  pub low : new.first ≤ 2 ^ 31
+  pub follows : is_scattered new ≡ false
+
+-- there are at most 2^32 places; first numbers have at most 32 bits with the numbers of their blocks; rows of scattered numbers are
+-- whole, and each is one block's
+pub record AreBlocks (blocks : List Block) (scattered : List ℕ) : Type 0 where
+  pub few : length blocks ≤ 2 ^ 27
+  pub low : All (λ (b : Block). b.first ≤ 2 ^ 31) blocks
+  pub whole : length scattered % 32 ≡ 0
+  pub within : (i : ℕ) → is_scattered (block_at blocks i) ≡ true → (block_at blocks i).first * 32 ≤ length scattered
+  pub apart : (i j : ℕ) → is_scattered (block_at blocks i) ≡ true → is_scattered (block_at blocks j) ≡ true → (block_at blocks i).first ≡ (block_at blocks j).first → i ≡ j

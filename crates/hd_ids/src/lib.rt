@@ -1,6 +1,7 @@
 //! The IDs of a heap dump's objects, each once, in the order in which they are first met, and the number of each.
 #![tactic(auto)]
 
+mod block;
 mod directory;
 mod finder;
 mod guessing;

@@ -1,88 +1,110 @@
-//! Numbers of IDs in rows, a byte for each.
-ghost use Rattle.std.specs.Prelude.{◌≡◌, ◌+◌, ◌<◌, ◌≤◌, ◌^◌, [], ◌++◌, length, replicate, slice_index, slice_set, vec_capacity, OnOk, OnErr};
+//! Numbers of IDs in rows, 2 bits for each.
+ghost use Rattle.std.specs.Prelude.{◌≡◌, ◌+◌, ◌-◌, ◌*◌, ◌/◌, ◌<◌, ◌≤◌, ◌^◌, [], ◌++◌, length, map, replicate, slice_index, slice_set, true, IfOk, OnOk, OnErr};
+ghost use Rattle.std.specs.List.{range_with_len};
+ghost use Rattle.hd_ids.specs.Numbers.{block_at, is_scattered, no_numbers, number_by, numbers_of, AreBlocks};
 
-use hd_hashers::PageHasher;
-use indexmap::IndexMap;
+use crate::block::{BLOCK, Block};
 use std::alloc::{AllocError, Global};
 use std::marker::Model;
 
 /// How many numbers a row has.
 pub(crate) const ROW: usize = 512;
 
-/// How many places of a row have a base together.
-const BLOCK: usize = 32;
-
-/// The step of a number that is too far behind its base, or before it.
-const FAR: u8 = 255;
+/// How many rows of scattered numbers there may be.
+const MOST_SCATTERED: usize = 1 << 31;
 
 /// Numbers in rows of 512, 0 where there is none.
 ///
-/// Objects that lie near one another in the heap mostly follow one another in the file, so their numbers are close. Of each
-/// block of 32 places the first number that is set is the base. The others are kept as their distance from it, in one byte. A
-/// number that is farther away, or less than the base, is kept by itself.
+/// They are kept by blocks of 32 places. Where the numbers of a block don't follow one another, they stand in a row of their own,
+/// four bytes each.
 pub(crate) struct Numbers {
-    /// Of each block the number that was set first; 0 where there is none.
-    bases: Vec<u32>,
-    /// Of each place one more than its number's distance from the base; 0 where there is none, `FAR` where it is too far.
-    steps: Vec<u8>,
-    /// The numbers that are too far, by their places.
-    far: IndexMap<u64, u32, PageHasher>,
+    blocks: Vec<Block>,
+    /// The numbers of blocks in which they don't follow one another: a row of 32 for each such block.
+    scattered: Vec<u32>,
 }
 
 impl Drop for Numbers {
     /// Drops the fields. A derived drop would be proved anew at each place that lets go of one.
     fn drop(self) {
-        let Self { bases, steps, far } = self;
+        let Self { blocks, scattered } = self;
     }
 }
 
 impl Model for Numbers {
     ghost use Rattle.std.specs.Prelude.{ℕ, List};
-    ghost use Rattle.hd_ids.specs.Numbers.{numbers_of, AreSteps};
+    ghost use Rattle.hd_ids.specs.Numbers.{numbers_of, AreBlocks};
 
     ghost Value = { List ℕ };
 
-    ghost view = { λ a. numbers_of a.bases.items a.far.entries a.steps.items };
+    ghost view = { λ a. numbers_of a.blocks.items a.scattered.items };
 
-    ghost invariant = { λ a. AreSteps a.bases.items a.steps.items };
+    ghost invariant = { λ a. AreBlocks a.blocks.items a.scattered.items };
 }
 
-/// Adds the steps of a row without numbers.
-fn push_steps(steps: &mut Vec<u8>) -> Result<(), AllocError>
-    ensures ok { OnOk result (steps.new.items ≡ steps.old.items ++ replicate 512 0) }
-    ensures err { OnErr result (steps.new.items ≡ steps.old.items) }
+/// Adds the blocks of a row without numbers.
+fn push_blocks(blocks: &mut Vec<Block>) -> Result<(), AllocError>
+    requires { length blocks.old.items ≤ 2 ^ 27 }
+    ensures ok { OnOk result (blocks.new.items ≡ blocks.old.items ++ replicate 16 no_numbers) }
+    ensures err { OnErr result (blocks.new.items ≡ blocks.old.items) }
 {
-    steps.reserve(ROW)?;
-    let len = steps.len() + ROW;
-    steps.resize(len, 0)?;
+    let len = blocks.len() + ROW / BLOCK;
+    blocks.resize(len, Block::empty())?;
     Ok(())
 }
 
-/// Adds the bases of a row without numbers.
-fn push_bases(bases: &mut Vec<u32>) -> Result<(), AllocError>
-    ensures ok { OnOk result (bases.new.items ≡ bases.old.items ++ replicate 16 0) }
-    ensures err { OnErr result (bases.new.items ≡ bases.old.items) }
-    ensures full { OnErr result (vec_capacity bases.old < length bases.old.items + 16) }
+/// Adds a row of the numbers of a block, which follow one another so far.
+fn push_row(scattered: &mut Vec<u32>, block: Block) -> Result<(), AllocError>
+    requires low { block.first ≤ 2 ^ 31 }
+    ensures ok { OnOk result (scattered.new.items ≡ scattered.old.items ++ map (number_by block) (range_with_len 0 32)) }
+    ensures err { OnErr result (scattered.new.items ≡ scattered.old.items) }
 {
-    let len = bases.len() + ROW / BLOCK;
-    bases.resize(len, 0)?;
+    scattered.reserve(BLOCK)?;
+    for place in 0..BLOCK as u32 {
+        scattered.push_reserved(block.number(place));
+    }
+    Ok(())
+}
+
+/// Gives a block a row of its own, unless it has one. The numbers stay.
+fn scatter(
+    blocks: &mut Vec<Block>,
+    scattered: &mut Vec<u32>,
+    index: usize,
+) -> Result<(), AllocError>
+    requires kept { AreBlocks blocks.old.items scattered.old.items }
+    requires within { index < length blocks.old.items }
+    ensures kept { AreBlocks blocks.new.items scattered.new.items }
+    ensures same { numbers_of blocks.new.items scattered.new.items ≡ numbers_of blocks.old.items scattered.old.items }
+    ensures count { length blocks.new.items ≡ length blocks.old.items }
+    ensures scattered { OnOk result (is_scattered (block_at blocks.new.items index) ≡ true) }
+{
+    let block = blocks[index];
+    if block.is_scattered() {
+        return Ok(());
+    }
+    let row = scattered.len() / BLOCK;
+    if row >= MOST_SCATTERED {
+        return Err(AllocError);
+    }
+    push_row(scattered, block)?;
+    blocks[index] = Block {
+        mask: 0,
+        first: row as u32 + 1,
+    };
     Ok(())
 }
 
 impl Numbers {
-    /// No row yet, and room for so many places, where the system has it, so that the lists needn't move as they grow. Room that
-    /// isn't touched takes no memory.
-    pub(crate) fn with_room(alloc: Global, hasher: PageHasher, places: usize) -> Numbers
+    /// No row yet, and room for so many places, where the system has it, so that the list needn't move as it grows. Room that isn't
+    /// touched takes no memory.
+    pub(crate) fn with_room(alloc: Global, places: usize) -> Numbers
         ensures { result ≡ [] }
     {
-        let mut bases = Vec::new(alloc);
-        let mut steps = Vec::new(alloc);
-        let _ = bases.reserve(places / BLOCK);
-        let _ = steps.reserve(places);
+        let mut blocks = Vec::new(alloc);
+        let _ = blocks.reserve(places / BLOCK);
         Numbers {
-            bases,
-            steps,
-            far: IndexMap::with_hasher(alloc, hasher),
+            blocks,
+            scattered: Vec::new(alloc),
         }
     }
 
@@ -90,7 +112,7 @@ impl Numbers {
     pub(crate) fn len(&self) -> usize
         ensures { result ≡ length self.now }
     {
-        self.steps.len()
+        self.blocks.len() * BLOCK
     }
 
     /// The number at a place.
@@ -99,14 +121,12 @@ impl Numbers {
         requires { slot < length self.now }
         ensures { result ≡ slice_index self.now slot }
     {
-        match self.steps[slot] {
-            0 => 0,
-            FAR => match self.far.get(&(slot as u64)) {
-                Some(number) => *number,
-                None => 0,
-            },
-            step => self.bases[slot / BLOCK] + u32::from(step - 1),
+        let block = self.blocks[slot / BLOCK];
+        let place = slot % BLOCK;
+        if block.is_scattered() {
+            return self.scattered[(block.first - 1) as usize * BLOCK + place];
         }
+        block.number(place as u32)
     }
 
     /// Puts a number at a place.
@@ -118,27 +138,34 @@ impl Numbers {
         ensures ok { OnOk result (self.new ≡ slice_set self.old slot number) }
         ensures err { OnErr result (self.new ≡ self.old) }
     {
-        let base = self.bases[slot / BLOCK];
-        if base == 0 {
-            self.bases[slot / BLOCK] = number;
-            self.steps[slot] = 1;
-        } else if number >= base && number - base < u32::from(FAR - 1) {
-            self.steps[slot] = (number - base + 1) as u8;
-        } else {
-            self.far.insert(slot as u64, number)?;
-            self.steps[slot] = FAR;
+        let block = self.blocks[slot / BLOCK];
+        if let Some(block) = block.with((slot % BLOCK) as u32, number) {
+            self.blocks[slot / BLOCK] = block;
+            return Ok(());
         }
+        self.set_scattered(slot, number)
+    }
+
+    /// Puts a number at a place of a block, in a row of the block's own. This is a function of its own, since `set` runs for each
+    /// object, and seldom comes to it.
+    fn set_scattered(&mut self, slot: usize, number: u32) -> Result<(), AllocError>
+        requires within { slot < length self.old }
+        ensures ok { OnOk result (self.new ≡ slice_set self.old slot number) }
+        ensures err { OnErr result (self.new ≡ self.old) }
+    {
+        scatter(&mut self.blocks, &mut self.scattered, slot / BLOCK)?;
+        let row = (self.blocks[slot / BLOCK].first - 1) as usize;
+        self.scattered[row * BLOCK + slot % BLOCK] = number;
         Ok(())
     }
 
     /// One more row, which has no number yet.
     pub(crate) fn add_row(&mut self) -> Result<(), AllocError>
+        requires { length self.old + 512 ≤ 2 ^ 32 }
         ensures ok { OnOk result (self.new ≡ self.old ++ replicate 512 0) }
         ensures err { OnErr result (self.new ≡ self.old) }
     {
-        self.bases.reserve(ROW / BLOCK)?;
-        push_steps(&mut self.steps)?;
-        push_bases(&mut self.bases)?;
+        push_blocks(&mut self.blocks)?;
         Ok(())
     }
 }

@@ -75,7 +75,7 @@ impl PagedIds {
         let slots = Vec::with_capacity(alloc, room)?;
         // As many as `note` lets the rows have where there are so many IDs.
         let most_numbers = room.saturating_mul(8).saturating_add(1 << 16);
-        let numbers = Numbers::with_room(alloc, PageHasher::new(secret), most_numbers);
+        let numbers = Numbers::with_room(alloc, most_numbers);
         Ok(PagedIds {
             alloc,
             secret,

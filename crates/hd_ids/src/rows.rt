@@ -110,7 +110,8 @@ pub(crate) fn add_row(
     numbers: &mut Numbers,
     page: u64,
 ) -> Result<(), AllocError>
-    requires { rows.row_of pages.old.keys page ≡ length pages.old.keys }
+    requires new { rows.row_of pages.old.keys page ≡ length pages.old.keys }
+    requires few { length numbers.old + 512 ≤ 2 ^ 32 }
     ensures pages { OnOk result (pages.new.keys ≡ pages.old.keys ++ page ∷ []) }
     ensures numbers { OnOk result (numbers.new ≡ numbers.old ++ replicate 512 0) }
     ensures same_pages { OnErr result (pages.new.keys ≡ pages.old.keys) }

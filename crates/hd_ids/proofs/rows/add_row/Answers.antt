@@ -8,4 +8,4 @@ returns-clause-pages c =
     let pages : List ℕ = c.args.pages.now.keys in
     c.in_ok-insert.ensures.keys
     ∙ ap (λ (ks : List ℕ). cond (list_any (λ k. c.args.page == k) ks) ks (ks ++ c.args.page ∷ [])) c.in_ok-reserve.ensures.keys
-    ∙ ap (λ (b : Bool). cond b pages (pages ++ c.args.page ∷ [])) (row-absent pages c.args.page c.requires)
+    ∙ ap (λ (b : Bool). cond b pages (pages ++ c.args.page ∷ [])) (row-absent pages c.args.page c.requires.new)

@@ -1,66 +1,55 @@
-use Rattle.std.proofs.Common.{◌≡◌, ◌≢◌, ◌∙◌, ◌/◌, ◌<◌, ◌≤◌, ◌^◌, Some, None, length, get_or, sym, arith}
+use Rattle.std.proofs.Common.{◌≡◌, ◌∙◌, ℕ, ◌+◌, ◌-◌, ◌*◌, ◌/◌, ◌%◌, ◌<◌, ◌≤◌, ◌^◌, true, false, List, length, get_or, ap, sym, arith}
 use Rattle.std.proofs.lemmas.Grind.{get_or_default_zero}
-use Rattle.hd_ids.proofs.NumberLemmas.{steps-long, read-slot, far-is, near-is}
+use Rattle.hd_ids.specs.declared.block.Block.{Block}
+use Rattle.hd_ids.specs.Numbers.{block_at, is_scattered, no_numbers, number_by}
+use Rattle.hd_ids.proofs.NumberLemmas.{length-numbers, at-slot, by-row, by-follows, place-within, read-block}
 use Rattle.hd_ids.proofs.numbers.Numbers.get.Goals as goal
+
+pub index-block-requires : goal.index-block-requires
+index-block-requires c =
+    let a = c.self.inside in
+    omega (arith, c.requires, a.blocks.ok.0, length-numbers a.blocks.items a.scattered.items, ap length c.self.view_is)
 
 pub index-requires : goal.index-requires
 index-requires c =
     let a = c.self.inside in
-    omega (arith, c.requires, a.steps.ok.0, steps-long a.bases.items a.far.entries a.steps.items c.args.self.now c.self.view_is)
+    let lt : c.args.slot < length a.blocks.items * 32 = omega (arith, c.requires, length-numbers a.blocks.items a.scattered.items, ap length c.self.view_is) in
+    let block = read-block a.blocks.items (c.args.slot / 32) c.index-block.result.now (omega (arith, lt)) c.index-block.ensures in
+    let in_row : is_scattered (block_at a.blocks.items (c.args.slot / 32)) ≡ true = ap is_scattered (sym block) ∙ sym c.is_scattered.ensures ∙ c.if-is_scattered.true in
+    omega (arith, place-within a.blocks.items a.scattered.items c.args.slot 0 lt c.self.invariant in_row, ap (λ (b : Block). b.first) block, a.scattered.ok.0)
 
-pub index-requires-in_default : goal.index-requires-in_default
-index-requires-in_default c =
+pub returns-then-is_scattered : goal.returns-then-is_scattered
+returns-then-is_scattered c =
     let a = c.self.inside in
-    omega (arith, c.requires, a.bases.ok.0, c.self.invariant.lengths, steps-long a.bases.items a.far.entries a.steps.items c.args.self.now c.self.view_is)
+    let slot = c.args.slot in
+    let lt : slot < length a.blocks.items * 32 = omega (arith, c.requires, length-numbers a.blocks.items a.scattered.items, ap length c.self.view_is) in
+    let block = read-block a.blocks.items (slot / 32) c.index-block.result.now (omega (arith, lt)) c.index-block.ensures in
+    let in_row : is_scattered (block_at a.blocks.items (slot / 32)) ≡ true = ap is_scattered (sym block) ∙ sym c.is_scattered.ensures ∙ c.if-is_scattered.true in
+    let there = place-within a.blocks.items a.scattered.items slot 0 lt c.self.invariant in_row in
+    c.index.ensures
+    ∙ ap (λ (b : Block). get_or a.scattered.items ((b.first - 1) * 32 + slot % 32) c.index.result.now) block
+    ∙ get_or_default_zero a.scattered.items (((block_at a.blocks.items (slot / 32)).first - 1) * 32 + slot % 32) c.index.result.now there
+    ∙ sym (by-row a.scattered.items (block_at a.blocks.items (slot / 32)) (slot % 32) in_row)
+    ∙ sym (at-slot a.blocks.items a.scattered.items slot lt)
+    ∙ ap (λ (ns : List ℕ). get_or ns slot 0) c.self.view_is
 
-pub overflow_add-result : goal.overflow_add-result
-overflow_add-result c =
+pub number-requires-clause-low : goal.number-requires-clause-low
+number-requires-clause-low c =
     let a = c.self.inside in
-    let lt : c.args.slot / 32 < length a.bases.items = omega (arith, c.requires, c.self.invariant.lengths, steps-long a.bases.items a.far.entries a.steps.items c.args.self.now c.self.view_is) in
-    let base : get_or a.bases.items (c.args.slot / 32) 0 ≤ 2 ^ 31 = c.self.invariant.low (c.args.slot / 32) 0 lt in
-    let read : c.index-in_default.result.now ≡ get_or a.bases.items (c.args.slot / 32) 0 = c.index-in_default.ensures ∙ get_or_default_zero a.bases.items (c.args.slot / 32) _ lt in
-    omega (arith, base, read)
+    let lt : c.args.slot / 32 < length a.blocks.items = omega (arith, c.requires, length-numbers a.blocks.items a.scattered.items, ap length c.self.view_is) in
+    let block = read-block a.blocks.items (c.args.slot / 32) c.index-block.result.now lt c.index-block.ensures in
+    let low : (block_at a.blocks.items (c.args.slot / 32)).first ≤ 2 ^ 31 = c.self.invariant.low (c.args.slot / 32) no_numbers lt in
+    omega (arith, low, ap (λ (b : Block). b.first) block)
 
-pub returns-in-0 : goal.returns-in-0
-returns-in-0 c =
+pub returns : goal.returns
+returns c =
     let a = c.self.inside in
-    let lt : c.args.slot < length a.steps.items = omega (arith, c.requires, steps-long a.bases.items a.far.entries a.steps.items c.args.self.now c.self.view_is) in
-    let step : get_or a.steps.items c.args.slot 0 ≡ 0 = sym (get_or_default_zero a.steps.items c.args.slot _ lt) ∙ sym c.index.ensures ∙ c.in-0.is in
-    sym (read-slot a.bases.items a.far.entries a.steps.items c.args.self.now c.self.view_is c.args.slot 0 c.requires step)
-
-pub returns-in-Some : goal.returns-in-Some
-returns-in-Some c =
-    let a = c.self.inside in
-    let lt : c.args.slot < length a.steps.items = omega (arith, c.requires, steps-long a.bases.items a.far.entries a.steps.items c.args.self.now c.self.view_is) in
-    let step : get_or a.steps.items c.args.slot 0 ≡ 255 = sym (get_or_default_zero a.steps.items c.args.slot _ lt) ∙ sym c.index.ensures ∙ c.in-255.is in
-    sym (
-    read-slot a.bases.items a.far.entries a.steps.items c.args.self.now c.self.view_is c.args.slot 255 c.requires step
-    ∙ far-is a.bases.items a.far.entries c.args.slot (Some c.in-Some.number.now) c.in-Some.ensures.value
-    )
-
-pub returns-in-None : goal.returns-in-None
-returns-in-None c =
-    let a = c.self.inside in
-    let lt : c.args.slot < length a.steps.items = omega (arith, c.requires, steps-long a.bases.items a.far.entries a.steps.items c.args.self.now c.self.view_is) in
-    let step : get_or a.steps.items c.args.slot 0 ≡ 255 = sym (get_or_default_zero a.steps.items c.args.slot _ lt) ∙ sym c.index.ensures ∙ c.in-255.is in
-    sym (
-    read-slot a.bases.items a.far.entries a.steps.items c.args.self.now c.self.view_is c.args.slot 255 c.requires step
-    ∙ far-is a.bases.items a.far.entries c.args.slot None c.in-None.ensures.value
-    )
-
-pub returns-in_default : goal.returns-in_default
-returns-in_default c =
-    let a = c.self.inside in
-    let lt : c.args.slot < length a.steps.items = omega (arith, c.requires, steps-long a.bases.items a.far.entries a.steps.items c.args.self.now c.self.view_is) in
-    let row : c.args.slot / 32 < length a.bases.items = omega (arith, lt, c.self.invariant.lengths) in
-    let step : get_or a.steps.items c.args.slot 0 ≡ c.index.result.now = sym (get_or_default_zero a.steps.items c.args.slot _ lt) ∙ sym c.index.ensures in
-    let read : c.index-in_default.result.now ≡ get_or a.bases.items (c.args.slot / 32) 0 = c.index-in_default.ensures ∙ get_or_default_zero a.bases.items (c.args.slot / 32) _ row in
-    let some : c.index.result.now ≢ 0 = λ e. omega arith in
-    let near : c.index.result.now ≢ 255 = λ e. omega arith in
-    omega (
-      arith,
-      read,
-      c.from.ensures,
-      read-slot a.bases.items a.far.entries a.steps.items c.args.self.now c.self.view_is c.args.slot c.index.result.now c.requires step
-          ∙ near-is a.bases.items a.far.entries c.args.slot c.index.result.now some near,
-    )
+    let slot = c.args.slot in
+    let lt : slot < length a.blocks.items * 32 = omega (arith, c.requires, length-numbers a.blocks.items a.scattered.items, ap length c.self.view_is) in
+    let block = read-block a.blocks.items (slot / 32) c.index-block.result.now (omega (arith, lt)) c.index-block.ensures in
+    let follows : is_scattered (block_at a.blocks.items (slot / 32)) ≡ false = ap is_scattered (sym block) ∙ sym c.is_scattered.ensures ∙ c.if-is_scattered.false in
+    c.number.ensures
+    ∙ ap (λ (b : Block). number_by b (slot % 32)) block
+    ∙ sym (by-follows a.scattered.items (block_at a.blocks.items (slot / 32)) (slot % 32) follows)
+    ∙ sym (at-slot a.blocks.items a.scattered.items slot lt)
+    ∙ ap (λ (ns : List ℕ). get_or ns slot 0) c.self.view_is
