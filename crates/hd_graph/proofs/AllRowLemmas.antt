@@ -78,6 +78,12 @@ stretch-weight list first i s is =
     let rest = weight-at (drop first list) i s (at-later list first i s is) in
     omega (arith, rest, sum_by-append (λ (x : Sub). item_weight x.item) (take first list) (drop first list), ap weight (take-append-drop first list))
 
+-- the same by an index of the whole
+pub stretch-weight-at : (list : List Sub) (first i : ℕ) (s : Sub) → first ≤ i → slice_get list i ≡ Some s → weight (stretch first (i - first) list) + item_weight s.item ≤ weight list
+stretch-weight-at list first i s from is =
+    let e : i ≡ first + (i - first) = omega arith in
+    stretch-weight list first (i - first) s (subst (λ (n : ℕ). slice_get list n ≡ Some s) e is)
+
 -- the rows of two stretches, one behind the other
 module _ (known : KnownClasses) (bytes : List ℕ) (size : IdSize) (front back : List Sub) (t u : Table) (h : HasAllRows known bytes size front t) (k : HasAllRows known bytes size back u) where
   pub all-both : HasAllRows known bytes size (front ++ back) (record t { rows = t.rows ++ u.rows; count = t.count + u.count })

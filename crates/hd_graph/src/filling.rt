@@ -1,5 +1,5 @@
 //! Filling the rows and shapes of objects, in the order of their numbers.
-ghost use Rattle.std.specs.Prelude.{◌≡◌, ◌+◌, ◌<◌, ◌≤◌, ◌-◌, ◌^◌, [], ◌++◌, length, All, IfOk, OnOk};
+ghost use Rattle.std.specs.Prelude.{◌≡◌, ◌+◌, ◌<◌, ◌≤◌, ◌-◌, ◌^◌, [], ◌++◌, length, All, IfOk, IfSome, OnOk};
 ghost use Rattle.std.specs.List.{cons_option};
 ghost use Rattle.hd_terms.specs.FirstRecords.{id_of_item};
 ghost use Rattle.hd_classes.specs.Known.{known_at};
@@ -69,7 +69,7 @@ fn id_of(item: Item<'_>) -> Option<u64>
 
 /// Adds the row and the shape of the object of a sub-record, if it is one.
 #[inline(always)]
-fn fill_one(
+pub(crate) fn fill_one(
     alloc: Global,
     slot_table: &mut UnresolvedSlots<'_>,
     shapes: &mut Shapes,
@@ -160,67 +160,6 @@ fn fill_first_rows(
     Ok(())
 }
 
-/// Adds the row and the shape of the object of each of some sub-records that is one, whether its ID is an earlier one's or not: so
-/// many from the first on.
-fn fill_all(
-    alloc: Global,
-    slot_table: &mut UnresolvedSlots<'_>,
-    shapes: &mut Shapes,
-    layouts: &mut LayoutBytes<'_>,
-    list: &DumpSubs<'_>,
-    first: usize,
-    count: usize,
-) -> Result<(), AllocError>
-    requires size { layouts.old.size ≡ slot_table.old.size }
-    requires within { AreWithin slot_table.old.size slot_table.old.bytes list.now }
-    requires there { first + count ≤ length list.now }
-    requires no_ids { slot_table.old.ids ≡ [] }
-    requires empty { HasNoRows (columns slot_table.old shapes.old.objects) }
-    requires classes { AreLayouts layouts.old.size layouts.old.classes shapes.old.layouts }
-    ensures rows { OnOk result (HasAllRows (known_at layouts.old.classes) slot_table.old.bytes slot_table.old.size (stretch first count list.now) slot_table.new) }
-    ensures shapes { OnOk result (HasAllShapes (known_at layouts.old.classes) slot_table.old.size (stretch first count list.now) shapes.new.objects) }
-{
-    let subs = list.as_list();
-    for i in 0..count {
-        fill_one(alloc, slot_table, shapes, layouts, subs.get(first + i))?;
-    }
-    Ok(())
-}
-
-/// The references and the shapes of the objects of some sub-records, whether their IDs are repeated or not, over no IDs: of so many
-/// sub-records from the first on.
-pub(crate) fn rows_of_stretch<'a>(
-    alloc: Global,
-    classes: &Classes,
-    id_size: IdSize,
-    bytes: &'a [u8],
-    list: &DumpSubs<'_>,
-    first: usize,
-    count: usize,
-) -> Result<StretchRows<'a>, AllocError>
-    requires within { AreWithin id_size bytes.now list.now }
-    requires small { length bytes.now < 2 ^ 31 }
-    requires classes { AreFewAndShort classes.now }
-    requires there { first + count ≤ length list.now }
-    ensures rows { IfOk result (λ r. HasAllRows (known_at classes.now) bytes.now id_size (stretch first count list.now) r.slot_table) }
-    ensures shapes { IfOk result (λ r. HasAllShapes (known_at classes.now) id_size (stretch first count list.now) r.shapes.objects) }
-{
-    let mut layouts = LayoutBytes::new(alloc, classes, id_size)?;
-    let mut shapes = Shapes::with_capacity(alloc, count, classes.len())?;
-    let no_ids = Arc::new(alloc, JoinedIds::none(alloc)?)?;
-    let mut slot_table = UnresolvedSlots::new(alloc, bytes, id_size, no_ids, count)?;
-    fill_all(
-        alloc,
-        &mut slot_table,
-        &mut shapes,
-        &mut layouts,
-        list,
-        first,
-        count,
-    )?;
-    Ok(StretchRows { slot_table, shapes })
-}
-
 /// The references and the shapes of the objects of a file, by the file offsets of the references' IDs, where IDs are repeated:
 /// those of the first object of each ID.
 fn first_rows_of<'a>(
@@ -253,12 +192,12 @@ fn first_rows_of<'a>(
     })
 }
 
-/// The references and the shapes of the objects of these IDs, each once, by those of all sub-records. Where no ID is repeated they
-/// are the same; else they are made anew.
+/// The references and the shapes of the objects of these IDs, each once. Those of all sub-records are the same where no ID is
+/// repeated; where they aren't given, or some are repeated, they are made anew.
 pub(crate) fn rows_of<'a>(
     alloc: Global,
     ids: JoinedIds,
-    all: Rows<'a>,
+    all: Option<Rows<'a>>,
     classes: &Classes,
     id_size: IdSize,
     bytes: &'a [u8],
@@ -270,17 +209,18 @@ pub(crate) fn rows_of<'a>(
     requires no_null { All (λ id. 0 < id) ids }
     requires few { length ids < 2 ^ 31 }
     requires classes { AreFewAndShort classes.now }
-    requires rows { HasAllRows (known_at classes.now) bytes.now id_size list.now all.slot_table }
-    requires shapes { HasAllShapes (known_at classes.now) id_size list.now all.shapes.objects }
+    requires rows { IfSome all (λ r. HasAllRows (known_at classes.now) bytes.now id_size list.now r.slot_table) }
+    requires shapes { IfSome all (λ r. HasAllShapes (known_at classes.now) id_size list.now r.shapes.objects) }
     ensures { IfOk result (λ rows. HasRowsOf (known_at classes.now) bytes.now id_size list.now (columns rows.slot_table rows.shapes.objects)) }
 {
-    let Rows { slot_table, shapes } = all;
-    if shapes.len() == ids.len() {
-        let slot_table = slot_table.with_ids(alloc, ids)?;
-        return Ok(Rows { slot_table, shapes });
+    if let Some(Rows { slot_table, shapes }) = all {
+        if shapes.len() == ids.len() {
+            let slot_table = slot_table.with_ids(alloc, ids)?;
+            return Ok(Rows { slot_table, shapes });
+        }
+        drop(slot_table);
+        drop(shapes);
     }
-    drop(slot_table);
-    drop(shapes);
     let rows = first_rows_of(alloc, ids, classes, id_size, bytes, list)?;
     Ok(rows)
 }

@@ -23,7 +23,7 @@ pub(crate) struct Numbered {
 }
 
 /// The objects of two stretches of sub-records, those of the second numbered behind those of the first; `None` if an ID is in both.
-fn join_numbers(
+pub(crate) fn join_numbers(
     front: NumberedStretch,
     back: NumberedStretch,
 ) -> Result<Option<Numbered>, AllocError>
@@ -52,8 +52,9 @@ fn join_numbers(
     Ok(Some(Numbered { ids, roots, tally }))
 }
 
-/// The numbers of the objects of all sub-records, one after the other.
-fn number_alone(
+/// The numbers of the objects of a file, numbered one after the other: each ID once, how many objects are repeated or opaque, and the
+/// roots. An object with ID 0, and an instance that doesn't fit its class's layout, are faults. The secret is for the hashes of IDs.
+pub(crate) fn number_alone(
     alloc: Global,
     list: &DumpSubs<'_>,
     classes: &Classes,
@@ -75,36 +76,4 @@ fn number_alone(
     )?;
     let ids = JoinedIds::alone(alloc, ids)?;
     Ok(Numbered { ids, roots, tally })
-}
-
-/// The numbers of the objects of a file: each ID once, how many objects are repeated or opaque, and the roots. An object with ID 0,
-/// and an instance that doesn't fit its class's layout, are faults. The secret is for the hashes of IDs.
-///
-/// They are made of those of the first sub-records and of the others. If an ID is in both, or there is a fault, all objects are
-/// numbered anew, one after the other.
-pub(crate) fn numbers_of_both(
-    alloc: Global,
-    list: &DumpSubs<'_>,
-    classes: &Classes,
-    id_size: IdSize,
-    secret: u64,
-    split: usize,
-    front: Result<NumberedStretch, ReadFault>,
-    back: Result<NumberedStretch, ReadFault>,
-) -> Result<Numbered, ReadFault>
-    requires short { All (λ (p : ℕ × classes_of.ResolvedClass). length p.1.layout < 2 ^ 29) classes.now.classes }
-    requires there { split ≤ length list.now }
-    requires count { length list.now < 2 ^ 64 }
-    requires front { IfOk front (λ n. IsNumbered (known_at classes.now) id_size (stretch 0 split list.now) n.ids n.roots.items n.tally) }
-    requires back { IfOk back (λ n. IsNumbered (known_at classes.now) id_size (stretch split (length list.now - split) list.now) n.ids n.roots.items n.tally) }
-    ensures ok { IfOk result (λ n. IsNumbered (known_at classes.now) id_size list.now n.ids n.roots.items n.tally) }
-    ensures err { IfErr result (λ f. IsObjectFaultOrMemory (known_at classes.now) id_size list.now f) }
-{
-    if let Ok(front) = front
-        && let Ok(back) = back
-        && let Some(numbered) = join_numbers(front, back)?
-    {
-        return Ok(numbered);
-    }
-    number_alone(alloc, list, classes, id_size, secret)
 }
