@@ -1,6 +1,7 @@
 //! Filling the rows and shapes of objects, in the order of their numbers.
 ghost use Rattle.std.specs.Prelude.{◌≡◌, ◌+◌, ◌<◌, ◌≤◌, ◌-◌, ◌^◌, [], ◌++◌, length, All, IfOk, IfSome, OnOk};
 ghost use Rattle.std.specs.List.{cons_option};
+ghost use Rattle.std.specs.Arc.{arc_value};
 ghost use Rattle.hd_terms.specs.FirstRecords.{id_of_item};
 ghost use Rattle.hd_classes.specs.Known.{known_at};
 ghost use Rattle.hd_slots.specs.JoinedInside.{joined_table};
@@ -36,20 +37,49 @@ pub(crate) struct Rows<'a> {
     pub(crate) shapes: JoinedShapes,
 }
 
+impl<'a> StretchRows<'a> {
+    /// The rows and the shapes of no objects, over these IDs.
+    fn none(
+        alloc: Global,
+        bytes: &'a [u8],
+        id_size: IdSize,
+        ids: Arc<JoinedIds>,
+    ) -> Result<StretchRows<'a>, AllocError>
+        requires small { length bytes.now < 2 ^ 31 }
+        requires few { length (arc_value ids) < 2 ^ 31 }
+        requires no_null { All (λ id. 0 < id) (arc_value ids) }
+        ensures rows { IfOk result (λ r. r.slot_table ≡ record { bytes = bytes.now; size = id_size; ids = arc_value ids; rows = []; filling = []; count = 0 }) }
+        ensures shapes { IfOk result (λ r. r.shapes.objects ≡ []) }
+    {
+        let slot_table = UnresolvedSlots::new(alloc, bytes, id_size, ids, 0)?;
+        let shapes = Shapes::with_capacity(alloc, 0, 0)?;
+        Ok(StretchRows { slot_table, shapes })
+    }
+}
+
 impl<'a> Rows<'a> {
-    /// The rows and the shapes of two stretches, those of the second behind those of the first.
-    pub(crate) fn join(front: StretchRows<'a>, back: StretchRows<'a>) -> Rows<'a>
-        requires bytes { back.slot_table.bytes ≡ front.slot_table.bytes }
-        requires size { back.slot_table.size ≡ front.slot_table.size }
-        requires ids { back.slot_table.ids ≡ front.slot_table.ids }
-        requires filled { front.slot_table.filling ≡ [] }
-        requires back_filled { back.slot_table.filling ≡ [] }
-        ensures rows { result.slot_table ≡ joined_table front.entry.slot_table back.entry.slot_table }
-        ensures shapes { result.shapes.objects ≡ front.entry.shapes.objects ++ back.entry.shapes.objects }
+    /// The rows and the shapes of four stretches, those of each behind those of the one before.
+    pub(crate) fn join(
+        first: StretchRows<'a>,
+        second: StretchRows<'a>,
+        third: StretchRows<'a>,
+        fourth: StretchRows<'a>,
+    ) -> Rows<'a>
+        requires bytes { (second.slot_table.bytes ≡ first.slot_table.bytes) × (third.slot_table.bytes ≡ first.slot_table.bytes) × (fourth.slot_table.bytes ≡ first.slot_table.bytes) }
+        requires size { (second.slot_table.size ≡ first.slot_table.size) × (third.slot_table.size ≡ first.slot_table.size) × (fourth.slot_table.size ≡ first.slot_table.size) }
+        requires ids { (second.slot_table.ids ≡ first.slot_table.ids) × (third.slot_table.ids ≡ first.slot_table.ids) × (fourth.slot_table.ids ≡ first.slot_table.ids) }
+        requires filled { (first.slot_table.filling ≡ []) × (second.slot_table.filling ≡ []) × (third.slot_table.filling ≡ []) × (fourth.slot_table.filling ≡ []) }
+        ensures rows { result.slot_table ≡ joined_table (joined_table (joined_table first.entry.slot_table second.entry.slot_table) third.entry.slot_table) fourth.entry.slot_table }
+        ensures shapes { result.shapes.objects ≡ ((first.entry.shapes.objects ++ second.entry.shapes.objects) ++ third.entry.shapes.objects) ++ fourth.entry.shapes.objects }
     {
         Rows {
-            slot_table: JoinedRows::join(front.slot_table, back.slot_table),
-            shapes: JoinedShapes::join(front.shapes, back.shapes),
+            slot_table: JoinedRows::join(
+                first.slot_table,
+                second.slot_table,
+                third.slot_table,
+                fourth.slot_table,
+            ),
+            shapes: JoinedShapes::join(first.shapes, second.shapes, third.shapes, fourth.shapes),
         }
     }
 }
@@ -182,14 +212,13 @@ fn first_rows_of<'a>(
     let mut layouts = LayoutBytes::new(alloc, classes, id_size)?;
     let mut shapes = Shapes::with_capacity(alloc, count, classes.len())?;
     let ids = Arc::new(alloc, ids)?;
-    let back = UnresolvedSlots::new(alloc, bytes, id_size, Arc::try_clone(&ids)?, 0)?;
+    let second = StretchRows::none(alloc, bytes, id_size, Arc::try_clone(&ids)?)?;
+    let third = StretchRows::none(alloc, bytes, id_size, Arc::try_clone(&ids)?)?;
+    let fourth = StretchRows::none(alloc, bytes, id_size, Arc::try_clone(&ids)?)?;
     let mut slot_table = UnresolvedSlots::new(alloc, bytes, id_size, ids, count)?;
     fill_first_rows(alloc, &mut slot_table, &mut shapes, &mut layouts, list)?;
-    let none = Shapes::with_capacity(alloc, 0, 0)?;
-    Ok(Rows {
-        slot_table: JoinedRows::join(slot_table, back),
-        shapes: JoinedShapes::join(shapes, none),
-    })
+    let first = StretchRows { slot_table, shapes };
+    Ok(Rows::join(first, second, third, fourth))
 }
 
 /// The references and the shapes of the objects of these IDs, each once. Those of all sub-records are the same where no ID is

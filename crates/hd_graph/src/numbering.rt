@@ -1,7 +1,7 @@
 //! The numbers of the objects of a file, by those of two stretches of its sub-records.
 ghost use Rattle.std.specs.Prelude.{◌≡◌, ◌+◌, ◌-◌, ◌<◌, ◌≤◌, ◌^◌, ℕ, false, length, All, IfOk, IfErr, MatchOption};
 ghost use Rattle.hd_terms.specs.Classes as classes_of;
-ghost use Rattle.hd_ids.specs.Noted.{are_apart};
+ghost use Rattle.hd_ids.specs.Noted.{are_all_apart};
 ghost use Rattle.hd_classes.specs.Known.{known_at};
 ghost use Rattle.hd_graph.specs.Building.{stretch};
 ghost use Rattle.hd_graph.specs.Numbering.{IsNumbered, IsObjectFaultOrMemory, JoinsNumbers};
@@ -22,33 +22,29 @@ pub(crate) struct Numbered {
     pub(crate) tally: Tally,
 }
 
-/// The objects of two stretches of sub-records, those of the second numbered behind those of the first; `None` if an ID is in both.
+/// The objects of four stretches of sub-records, those of each numbered behind those of the one before; `None` if an ID is in two.
 pub(crate) fn join_numbers(
-    front: NumberedStretch,
-    back: NumberedStretch,
+    first: NumberedStretch,
+    second: NumberedStretch,
+    third: NumberedStretch,
+    fourth: NumberedStretch,
 ) -> Result<Option<Numbered>, AllocError>
-    requires repeated { front.tally.repeated + back.tally.repeated < 2 ^ 64 }
-    requires opaque { front.tally.opaque + back.tally.opaque < 2 ^ 64 }
-    ensures { IfOk result (λ joined. MatchOption joined (are_apart front.ids back.ids ≡ false) (JoinsNumbers front back)) }
+    requires repeated { first.tally.repeated + second.tally.repeated + third.tally.repeated + fourth.tally.repeated < 2 ^ 64 }
+    requires opaque { first.tally.opaque + second.tally.opaque + third.tally.opaque + fourth.tally.opaque < 2 ^ 64 }
+    ensures { IfOk result (λ joined. MatchOption joined (are_all_apart first.ids second.ids third.ids fourth.ids ≡ false) (JoinsNumbers first second third fourth)) }
 {
-    let NumberedStretch {
-        ids,
-        mut roots,
-        tally,
-    } = front;
-    let NumberedStretch {
-        ids: more_ids,
-        roots: more_roots,
-        tally: more,
-    } = back;
-    let Some(ids) = JoinedIds::join(ids, more_ids) else {
+    let tally = first
+        .tally
+        .with(second.tally)
+        .with(third.tally)
+        .with(fourth.tally);
+    let mut roots = first.roots;
+    let Some(ids) = JoinedIds::join(first.ids, second.ids, third.ids, fourth.ids) else {
         return Ok(None);
     };
-    roots.extend_from_slice(more_roots.as_slice())?;
-    let tally = Tally {
-        repeated: tally.repeated + more.repeated,
-        opaque: tally.opaque + more.opaque,
-    };
+    roots.extend_from_slice(second.roots.as_slice())?;
+    roots.extend_from_slice(third.roots.as_slice())?;
+    roots.extend_from_slice(fourth.roots.as_slice())?;
     Ok(Some(Numbered { ids, roots, tally }))
 }
 

@@ -1,13 +1,15 @@
-//! The numbers, the references and the shapes of the objects of a file, made side by side by two threads.
+//! The numbers, the references and the shapes of the objects of a file, made side by side by four threads.
 //!
-//! Each thread goes once over the sub-records of a half, and makes the numbers, the rows and the shapes of their objects. Those of the
-//! second half then stand behind those of the first. Where that can't be, since an ID is in both halves or the second has a
-//! fault, all objects are numbered anew by one thread. Where the system refuses a thread, the halves are made one after the other.
-ghost use Rattle.std.specs.Prelude.{◌≡◌, ◌-◌, ◌+◌, ◌<◌, ◌≤◌, ◌^◌, [], ◌++◌, length, IfOk, IfErr, IfSome};
+//! Each thread goes once over the sub-records of a quarter, and makes the numbers, the rows and the shapes of their objects. Those of
+//! each quarter then stand behind those of the one before. Where that can't be, since an ID is in two quarters or another than
+//! the first has a fault, all objects are numbered anew by one thread. The first thread begins the others; where the system
+//! refuses one, it does that part itself.
+ghost use Rattle.std.specs.Prelude.{◌≡◌, ◌-◌, ◌+◌, ◌<◌, ◌≤◌, ◌^◌, [], ◌++◌, drop, length, IfOk, IfErr, IfSome};
+ghost use Rattle.hd_slots.specs.JoinedInside.{joined_table};
 ghost use Rattle.hd_classes.specs.Known.{known_at};
 ghost use Rattle.hd_graph.specs.ArrayRows.{AreWithin};
+ghost use Rattle.hd_graph.specs.Made.{IsMade};
 ghost use Rattle.hd_graph.specs.Numbering.{IsNumbered, IsObjectFaultOrMemory, JoinsNumbers};
-ghost use Rattle.hd_slots.specs.JoinedInside.{joined_table};
 ghost use Rattle.hd_graph.specs.Building.{HasAllRows, HasAllShapes, AreFewAndShort, stretch};
 
 use crate::filling::Rows;
@@ -19,8 +21,9 @@ use hd_terms::{IdSize, ReadFault};
 use std::alloc::{AllocError, Global};
 use std::thread::{Threads, join};
 
-/// The numbers, the rows and the shapes of both halves of the sub-records, made side by side.
-fn halves<'a, R: Threads + Sync>(
+/// The numbers, the rows and the shapes of the objects of two stretches of the sub-records, made side by side: of those from the first
+/// index to the middle one, and of those from there to the end.
+fn make_two<'a, R: Threads + Sync>(
     rt: &R,
     alloc: Global,
     bytes: &'a [u8],
@@ -28,7 +31,9 @@ fn halves<'a, R: Threads + Sync>(
     classes: &Classes,
     id_size: IdSize,
     secret: u64,
-    split: usize,
+    first: usize,
+    middle: usize,
+    end: usize,
 ) -> (
     Result<MadeStretch<'a>, ReadFault>,
     Result<MadeStretch<'a>, ReadFault>,
@@ -36,68 +41,57 @@ fn halves<'a, R: Threads + Sync>(
     requires within { AreWithin id_size bytes.now list.now }
     requires small { length bytes.now < 2 ^ 31 }
     requires classes { AreFewAndShort classes.now }
-    requires there { split ≤ length list.now }
-    ensures front_numbers { IfOk result.0 (λ m. IsNumbered (known_at classes.now) id_size (stretch 0 split list.now) m.numbers.ids m.numbers.roots.items m.numbers.tally) }
-    ensures front_rows { IfOk result.0 (λ m. HasAllRows (known_at classes.now) bytes.now id_size (stretch 0 split list.now) m.rows.slot_table) }
-    ensures front_shapes { IfOk result.0 (λ m. HasAllShapes (known_at classes.now) id_size (stretch 0 split list.now) m.rows.shapes.objects) }
-    ensures err { IfErr result.0 (λ f. IsObjectFaultOrMemory (known_at classes.now) id_size list.now f) }
-    ensures back_numbers { IfOk result.1 (λ m. IsNumbered (known_at classes.now) id_size (stretch split (length list.now - split) list.now) m.numbers.ids m.numbers.roots.items m.numbers.tally) }
-    ensures back_rows { IfOk result.1 (λ m. HasAllRows (known_at classes.now) bytes.now id_size (stretch split (length list.now - split) list.now) m.rows.slot_table) }
-    ensures back_shapes { IfOk result.1 (λ m. HasAllShapes (known_at classes.now) id_size (stretch split (length list.now - split) list.now) m.rows.shapes.objects) }
+    requires there { (first ≤ middle) × (middle ≤ end) × (end ≤ length list.now) }
+    ensures front { IfOk result.0 (IsMade (known_at classes.now) bytes.now id_size (stretch first (middle - first) list.now)) }
+    ensures back { IfOk result.1 (IsMade (known_at classes.now) bytes.now id_size (stretch middle (end - middle) list.now)) }
+    ensures err { IfErr result.0 (λ f. IsObjectFaultOrMemory (known_at classes.now) id_size (drop first list.now) f) }
 {
-    let len = list.len();
     let front = || -> Result<MadeStretch<'_>, ReadFault>
         requires within { AreWithin id_size bytes.now list.now }
         requires small { length bytes.now < 2 ^ 31 }
         requires classes { AreFewAndShort classes.now }
-        requires there { split ≤ length list.now }
-        ensures numbers { IfOk result (λ m. IsNumbered (known_at classes.entry.now) id_size (stretch 0 split list.entry.now) m.numbers.ids m.numbers.roots.items m.numbers.tally) }
-        ensures rows { IfOk result (λ m. HasAllRows (known_at classes.entry.now) bytes.entry.now id_size (stretch 0 split list.entry.now) m.rows.slot_table) }
-        ensures shapes { IfOk result (λ m. HasAllShapes (known_at classes.entry.now) id_size (stretch 0 split list.entry.now) m.rows.shapes.objects) }
-        ensures err { IfErr result (λ f. IsObjectFaultOrMemory (known_at classes.entry.now) id_size list.entry.now f) }
-    { make_stretch(alloc, bytes, list, classes, id_size, secret, 0, split) };
+        requires there { (first ≤ middle) × (middle ≤ length list.now) }
+        ensures made { IfOk result (IsMade (known_at classes.entry.now) bytes.entry.now id_size (stretch first (middle - first) list.entry.now)) }
+        ensures err { IfErr result (λ f. IsObjectFaultOrMemory (known_at classes.entry.now) id_size (drop first list.entry.now) f) }
+    { make_stretch(alloc, bytes, list, classes, id_size, secret, first, middle) };
     let back = || -> Result<MadeStretch<'_>, ReadFault>
         requires within { AreWithin id_size bytes.now list.now }
         requires small { length bytes.now < 2 ^ 31 }
         requires classes { AreFewAndShort classes.now }
-        requires there { split ≤ len × (len ≡ length list.now) }
-        ensures numbers { IfOk result (λ m. IsNumbered (known_at classes.entry.now) id_size (stretch split (length list.entry.now - split) list.entry.now) m.numbers.ids m.numbers.roots.items m.numbers.tally) }
-        ensures rows { IfOk result (λ m. HasAllRows (known_at classes.entry.now) bytes.entry.now id_size (stretch split (length list.entry.now - split) list.entry.now) m.rows.slot_table) }
-        ensures shapes { IfOk result (λ m. HasAllShapes (known_at classes.entry.now) id_size (stretch split (length list.entry.now - split) list.entry.now) m.rows.shapes.objects) }
-    { make_stretch(alloc, bytes, list, classes, id_size, secret, split, len) };
+        requires there { (middle ≤ end) × (end ≤ length list.now) }
+        ensures { IfOk result (IsMade (known_at classes.entry.now) bytes.entry.now id_size (stretch middle (end - middle) list.entry.now)) }
+    { make_stretch(alloc, bytes, list, classes, id_size, secret, middle, end) };
     join(rt, front, back)
 }
 
-/// The numbers and the rows of the objects of a file, by those of the sub-records up to an index and from it on: `None` if an ID is
-/// in both.
-fn join_halves<'a>(
-    front: MadeStretch<'a>,
-    back: MadeStretch<'a>,
+/// The numbers, the rows and the shapes of four stretches as one, those of each behind those of the one before; `None` if an ID is in
+/// two.
+fn join_stretches<'a>(
+    first: MadeStretch<'a>,
+    second: MadeStretch<'a>,
+    third: MadeStretch<'a>,
+    fourth: MadeStretch<'a>,
 ) -> Result<Option<(Numbered, Rows<'a>)>, AllocError>
-    requires repeated { front.numbers.tally.repeated + back.numbers.tally.repeated < 2 ^ 64 }
-    requires opaque { front.numbers.tally.opaque + back.numbers.tally.opaque < 2 ^ 64 }
-    requires bytes { back.rows.slot_table.bytes ≡ front.rows.slot_table.bytes }
-    requires size { back.rows.slot_table.size ≡ front.rows.slot_table.size }
-    requires ids { back.rows.slot_table.ids ≡ front.rows.slot_table.ids }
-    requires filled { front.rows.slot_table.filling ≡ [] }
-    requires back_filled { back.rows.slot_table.filling ≡ [] }
-    ensures numbers { IfOk result (λ joined. IfSome joined (λ r. JoinsNumbers front.entry.numbers back.entry.numbers r.0)) }
-    ensures rows { IfOk result (λ joined. IfSome joined (λ r. r.1.slot_table ≡ joined_table front.entry.rows.slot_table back.entry.rows.slot_table)) }
-    ensures shapes { IfOk result (λ joined. IfSome joined (λ r. r.1.shapes.objects ≡ front.entry.rows.shapes.objects ++ back.entry.rows.shapes.objects)) }
+    requires repeated { first.numbers.tally.repeated + second.numbers.tally.repeated + third.numbers.tally.repeated + fourth.numbers.tally.repeated < 2 ^ 64 }
+    requires opaque { first.numbers.tally.opaque + second.numbers.tally.opaque + third.numbers.tally.opaque + fourth.numbers.tally.opaque < 2 ^ 64 }
+    requires bytes { (second.rows.slot_table.bytes ≡ first.rows.slot_table.bytes) × (third.rows.slot_table.bytes ≡ first.rows.slot_table.bytes) × (fourth.rows.slot_table.bytes ≡ first.rows.slot_table.bytes) }
+    requires size { (second.rows.slot_table.size ≡ first.rows.slot_table.size) × (third.rows.slot_table.size ≡ first.rows.slot_table.size) × (fourth.rows.slot_table.size ≡ first.rows.slot_table.size) }
+    requires ids { (second.rows.slot_table.ids ≡ first.rows.slot_table.ids) × (third.rows.slot_table.ids ≡ first.rows.slot_table.ids) × (fourth.rows.slot_table.ids ≡ first.rows.slot_table.ids) }
+    requires filled { (first.rows.slot_table.filling ≡ []) × (second.rows.slot_table.filling ≡ []) × (third.rows.slot_table.filling ≡ []) × (fourth.rows.slot_table.filling ≡ []) }
+    ensures numbers { IfOk result (λ joined. IfSome joined (λ r. JoinsNumbers first.entry.numbers second.entry.numbers third.entry.numbers fourth.entry.numbers r.0)) }
+    ensures rows { IfOk result (λ joined. IfSome joined (λ r. r.1.slot_table ≡ joined_table (joined_table (joined_table first.entry.rows.slot_table second.entry.rows.slot_table) third.entry.rows.slot_table) fourth.entry.rows.slot_table)) }
+    ensures shapes { IfOk result (λ joined. IfSome joined (λ r. r.1.shapes.objects ≡ ((first.entry.rows.shapes.objects ++ second.entry.rows.shapes.objects) ++ third.entry.rows.shapes.objects) ++ fourth.entry.rows.shapes.objects)) }
 {
-    let MadeStretch { numbers, rows } = front;
-    let MadeStretch {
-        numbers: more_numbers,
-        rows: more_rows,
-    } = back;
-    let Some(numbered) = join_numbers(numbers, more_numbers)? else {
+    let joined = join_numbers(first.numbers, second.numbers, third.numbers, fourth.numbers)?;
+    let Some(numbered) = joined else {
         return Ok(None);
     };
-    Ok(Some((numbered, Rows::join(rows, more_rows))))
+    let rows = Rows::join(first.rows, second.rows, third.rows, fourth.rows);
+    Ok(Some((numbered, rows)))
 }
 
-/// The numbers of the objects of a file, and the references and the shapes of all its sub-records of objects, if no ID is in both
-/// halves of them.
+/// The numbers of the objects of a file, and the references and the shapes of all its sub-records of objects, if no ID is in two
+/// quarters of them.
 pub(crate) fn numbers_and_rows<'a, R: Threads + Sync>(
     rt: &R,
     alloc: Global,
@@ -115,11 +109,47 @@ pub(crate) fn numbers_and_rows<'a, R: Threads + Sync>(
     ensures shapes { IfOk result (λ r. IfSome r.1 (λ rows. HasAllShapes (known_at classes.now) id_size list.now rows.shapes.objects)) }
     ensures err { IfErr result (λ f. IsObjectFaultOrMemory (known_at classes.now) id_size list.now f) }
 {
-    let split = list.len() / 2;
-    let (front, back) = halves(rt, alloc, bytes, list, classes, id_size, secret, split);
-    let front = front?;
-    if let Ok(back) = back
-        && let Some((numbered, rows)) = join_halves(front, back)?
+    let len = list.len();
+    let second = len / 4;
+    let third = len / 2;
+    let fourth = len - second;
+    let front = || -> (
+        Result<MadeStretch<'_>, ReadFault>,
+        Result<MadeStretch<'_>, ReadFault>,
+    )
+        requires within { AreWithin id_size bytes.now list.now }
+        requires small { length bytes.now < 2 ^ 31 }
+        requires classes { AreFewAndShort classes.now }
+        requires there { (second ≤ third) × (third ≤ length list.now) }
+        ensures front { IfOk result.0 (IsMade (known_at classes.entry.now) bytes.entry.now id_size (stretch 0 second list.entry.now)) }
+        ensures back { IfOk result.1 (IsMade (known_at classes.entry.now) bytes.entry.now id_size (stretch second (third - second) list.entry.now)) }
+        ensures err { IfErr result.0 (λ f. IsObjectFaultOrMemory (known_at classes.entry.now) id_size list.entry.now f) }
+    {
+        make_two(
+            rt, alloc, bytes, list, classes, id_size, secret, 0, second, third,
+        )
+    };
+    let back = || -> (
+        Result<MadeStretch<'_>, ReadFault>,
+        Result<MadeStretch<'_>, ReadFault>,
+    )
+        requires within { AreWithin id_size bytes.now list.now }
+        requires small { length bytes.now < 2 ^ 31 }
+        requires classes { AreFewAndShort classes.now }
+        requires there { (third ≤ fourth) × (fourth ≤ len) × (len ≡ length list.now) }
+        ensures front { IfOk result.0 (IsMade (known_at classes.entry.now) bytes.entry.now id_size (stretch third (fourth - third) list.entry.now)) }
+        ensures back { IfOk result.1 (IsMade (known_at classes.entry.now) bytes.entry.now id_size (stretch fourth (length list.entry.now - fourth) list.entry.now)) }
+    {
+        make_two(
+            rt, alloc, bytes, list, classes, id_size, secret, third, fourth, len,
+        )
+    };
+    let ((a, b), (c, d)) = join(rt, front, back);
+    let a = a?;
+    if let Ok(b) = b
+        && let Ok(c) = c
+        && let Ok(d) = d
+        && let Some((numbered, rows)) = join_stretches(a, b, c, d)?
     {
         return Ok((numbered, Some(rows)));
     }

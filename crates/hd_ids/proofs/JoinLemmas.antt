@@ -1,5 +1,5 @@
--- Two lists of IDs, one behind the other.
-use Rattle.std.proofs.Common.{◌≡◌, ◌∙◌, ℕ, suc, ◌+◌, ◌<◌, Bool, true, false, ◌||◌, not, cond, eqb, nat_eq, nat_lt, List, [], ◌∷◌, ◌++◌, length, get_or, take, position, Option, None, Some, refl, sym, ap, subst, arith, append_assoc}
+-- Lists of IDs, one behind the other.
+use Rattle.std.proofs.Common.{◌≡◌, ◌∙◌, ℕ, suc, ◌+◌, ◌<◌, Bool, true, false, ◌||◌, ◌&&◌, not, cond, eqb, nat_eq, nat_lt, List, [], ◌∷◌, ◌++◌, length, get_or, take, position, Option, None, Some, refl, sym, ap, subst, arith, append_assoc, length-append}
 use Rattle.std.specs.Prelude.{is_some}
 use Rattle.std.specs.Option.{option_map}
 use Rattle.std.specs.List.{AllByRecursion, list_any, position_or_len, IsDistinct}
@@ -9,7 +9,8 @@ use Rattle.std.proofs.lemmas.Bool.Decides.{nat_tests}
 use Rattle.std.proofs.lemmas.List.{append-nil, take_more}
 use Rattle.std.proofs.lemmas.List.Folds.{list_any-append}
 use Rattle.std.proofs.lemmas.Map.Keys.{IsDistinct-push, IsDistinct-head, IsDistinct-tail}
-use Rattle.hd_ids.specs.Noted.{is_noted, are_apart}
+use Rattle.hd_ids.specs.Joined.{joined, AreFound}
+use Rattle.hd_ids.specs.Noted.{is_noted, are_apart, are_all_apart}
 use Rattle.hd_ids.proofs.RowLemmas.{position-by-any}
 
 -- the first place that passes stands in the first list, or where none does in the second
@@ -58,13 +59,45 @@ module _ (p : ℕ → Bool) where
       ∙ or_later (p x) (length xs) (position p xs) (position p ys)
       ∙ ap (λ (a : Option ℕ). or_behind (suc (length xs)) a (position p ys)) (sym (position-cons x xs))
 
-  pub position-in-front : (xs ys : List ℕ) (i : ℕ) → Some i ≡ position p xs → Some i ≡ position p (xs ++ ys)
+  position-in-front : (xs ys : List ℕ) (i : ℕ) → Some i ≡ position p xs → Some i ≡ position p (xs ++ ys)
   unfolding or_behind
   position-in-front xs ys i e = sym (position-append xs ys ∙ ap (λ (a : Option ℕ). or_behind (length xs) a (position p ys)) (sym e))
 
-  pub position-behind : (xs ys : List ℕ) → None ≡ position p xs → option_map (λ (i : ℕ). length xs + i) (position p ys) ≡ position p (xs ++ ys)
+  position-behind : (xs ys : List ℕ) → None ≡ position p xs → (n : ℕ) → n ≡ length xs → (o : Option ℕ) → o ≡ position p ys → option_map (λ (i : ℕ). n + i) o ≡ position p (xs ++ ys)
   unfolding or_behind
-  position-behind xs ys e = sym (position-append xs ys ∙ ap (λ (a : Option ℕ). or_behind (length xs) a (position p ys)) (sym e))
+  position-behind xs ys none n is o e =
+      ap (λ (k : ℕ). option_map (λ (i : ℕ). k + i) o) is
+      ∙ ap (option_map (λ (i : ℕ). length xs + i)) e
+      ∙ sym (position-append xs ys ∙ ap (λ (a : Option ℕ). or_behind (length xs) a (position p ys)) (sym none))
+
+  position-nowhere : (xs ys : List ℕ) → None ≡ position p xs → None ≡ position p ys → None ≡ position p (xs ++ ys)
+  position-nowhere xs ys none more = position-behind xs ys none (length xs) refl None more
+
+  -- the first place among all IDs of four parts, where it is in one of them and in none before
+  module _ (first second third fourth : List ℕ) (first_end second_end third_end : ℕ) (found : AreFound first second third fourth first_end second_end third_end) where
+    two_end : second_end ≡ length (first ++ second)
+    two_end = omega (arith, found.first_is, found.second_is, length-append first second)
+
+    three_end : third_end ≡ length ((first ++ second) ++ third)
+    three_end = omega (arith, two_end, found.third_is, length-append (first ++ second) third)
+
+    pub position-in_first : (i : ℕ) → Some i ≡ position p first → Some i ≡ position p (joined first second third fourth)
+    position-in_first i e = position-in-front ((first ++ second) ++ third) fourth i (position-in-front (first ++ second) third i (position-in-front first second i e))
+
+    pub position-in_second : None ≡ position p first → (i : ℕ) → Some i ≡ position p second → Some (first_end + i) ≡ position p (joined first second third fourth)
+    position-in_second none i e =
+        position-in-front ((first ++ second) ++ third) fourth (first_end + i)
+        (position-in-front (first ++ second) third (first_end + i) (position-behind first second none first_end found.first_is (Some i) e))
+
+    pub position-in_third : None ≡ position p first → None ≡ position p second → (i : ℕ) → Some i ≡ position p third → Some (second_end + i) ≡ position p (joined first second third fourth)
+    position-in_third none none' i e =
+        position-in-front ((first ++ second) ++ third) fourth (second_end + i)
+        (position-behind (first ++ second) third (position-nowhere first second none none') second_end two_end (Some i) e)
+
+    pub position-in_fourth : None ≡ position p first → None ≡ position p second → None ≡ position p third → (o : Option ℕ) → o ≡ position p fourth
+        → option_map (λ (i : ℕ). third_end + i) o ≡ position p (joined first second third fourth)
+    position-in_fourth none none' none'' o e =
+        position-behind ((first ++ second) ++ third) fourth (position-nowhere (first ++ second) third (position-nowhere first second none none') none'') third_end three_end o e
 
 -- two tests fail
 neither : (a b : Bool) → (a || b) ≡ false → (a ≡ false) × (b ≡ false)
@@ -83,7 +116,7 @@ apart-push xs y ys h d = go ys h (IsDistinct-head nat_eq y ys d)
         rw here (go zs both.1 a.1)
 
 -- distinct IDs, and others that are, and none of them, are distinct together
-pub distinct-join : (xs ys : List ℕ) → IsDistinct nat_eq xs → IsDistinct nat_eq ys → list_any (is_noted xs) ys ≡ false → IsDistinct nat_eq (xs ++ ys)
+distinct-join : (xs ys : List ℕ) → IsDistinct nat_eq xs → IsDistinct nat_eq ys → list_any (is_noted xs) ys ≡ false → IsDistinct nat_eq (xs ++ ys)
 distinct-join xs [] d e h = subst (λ (ks : List ℕ). IsDistinct nat_eq ks) (sym (append-nil xs)) d
 distinct-join xs (y ∷ ys) d e h =
     let both = neither (is_noted xs y) (list_any (is_noted xs) ys) h in
@@ -91,12 +124,55 @@ distinct-join xs (y ∷ ys) d e h =
     (distinct-join (xs ++ y ∷ []) ys (IsDistinct-push nat_eq_equiv xs y d both.0) (IsDistinct-tail nat_eq y ys e) (apart-push xs y ys both.1 e))
 
 -- no ID is in both exactly where none of the second is noted in the first
-pub apart-none : (front back : List ℕ) → are_apart front back ≡ true → list_any (is_noted front) back ≡ false
+apart-none : (front back : List ℕ) → are_apart front back ≡ true → list_any (is_noted front) back ≡ false
 apart-none front back e = by (list_any (is_noted front) back) e
   where
     by : (b : Bool) → not b ≡ true → b ≡ false
     by true e = absurd cc
     by false e = refl
+
+-- two tests pass
+both-pass : (a b : Bool) → (a && b) ≡ true → (a ≡ true) × (b ≡ true)
+both-pass true b e = (refl, e)
+both-pass false b e = absurd cc
+
+-- the IDs of four parts are distinct together where those of each are, and no ID is in two
+pub distinct-joined : (first second third fourth : List ℕ) → IsDistinct nat_eq first → IsDistinct nat_eq second → IsDistinct nat_eq third → IsDistinct nat_eq fourth
+    → are_all_apart first second third fourth ≡ true → IsDistinct nat_eq (joined first second third fourth)
+distinct-joined first second third fourth d1 d2 d3 d4 e =
+    let apart = both-pass (are_apart first second && are_apart (first ++ second) third) (are_apart ((first ++ second) ++ third) fourth) e in
+    let before = both-pass (are_apart first second) (are_apart (first ++ second) third) apart.0 in
+    let two = distinct-join first second d1 d2 (apart-none first second before.0) in
+    let three = distinct-join (first ++ second) third two d3 (apart-none (first ++ second) third before.1) in
+    distinct-join ((first ++ second) ++ third) fourth three d4 (apart-none ((first ++ second) ++ third) fourth apart.1)
+
+-- no ID of two parts together is in a third where none of either is
+module _ (front more : List ℕ) where
+  or-swap : (a b c d : Bool) → ((a || b) || (c || d)) ≡ ((a || c) || (b || d))
+  or-swap true b c d = refl
+  or-swap false true true d = refl
+  or-swap false true false d = refl
+  or-swap false false c d = refl
+
+  noted-append : (back : List ℕ) → list_any (is_noted (front ++ more)) back ≡ (list_any (is_noted front) back || list_any (is_noted more) back)
+  noted-append [] = refl
+  noted-append (y ∷ ys) =
+      rw (list_any-append (λ k. eqb y k) front more, noted-append ys)
+      (or-swap (is_noted front y) (is_noted more y) (list_any (is_noted front) ys) (list_any (is_noted more) ys))
+
+  not-either : (a b : Bool) → not (a || b) ≡ (not a && not b)
+  not-either true b = refl
+  not-either false b = refl
+
+  apart-append : (back : List ℕ) → are_apart (front ++ more) back ≡ (are_apart front back && are_apart more back)
+  apart-append back = ap not (noted-append back) ∙ not-either (list_any (is_noted front) back) (list_any (is_noted more) back)
+
+  -- tested one after the other
+  pub apart-then : (back : List ℕ) (a b : Bool) → a ≡ are_apart front back → a ≡ true → b ≡ are_apart more back → b ≡ are_apart (front ++ more) back
+  apart-then back a b one pass other = other ∙ sym (apart-append back ∙ ap (λ (t : Bool). t && are_apart more back) (sym one ∙ pass))
+
+  pub apart-else : (back : List ℕ) (a : Bool) → a ≡ are_apart front back → a ≡ false → a ≡ are_apart (front ++ more) back
+  apart-else back a one fail = fail ∙ sym (apart-append back ∙ ap (λ (t : Bool). t && are_apart more back) (sym one ∙ fail))
 
 -- an ID is noted where it has a position
 pub some-noted : (ids : List ℕ) (id : ℕ) (o : Option ℕ) → o ≡ position (λ k. eqb id k) ids → is_some o ≡ is_noted ids id

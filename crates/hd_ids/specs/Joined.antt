@@ -1,19 +1,30 @@
--- IDs of two parts, one behind the other.
+-- IDs of four parts, one behind the other.
 -- Source: this project.
-use Rattle.std.specs.Prelude.{◌≡◌, nat_eq, ℕ, ◌+◌, ◌<◌, ◌^◌, List, ◌++◌, length, Option, IfSome}
+use Rattle.std.specs.Prelude.{◌≡◌, nat_eq, ℕ, ◌+◌, ◌<◌, ◌≤◌, ◌^◌, List, ◌++◌, length, slice_index, Option, IfSome}
 use Rattle.std.specs.List.{IsDistinct}
 
--- what finds IDs knows how many the first part has, and numbers of eight bytes count them all
-pub record AreFound (front : List ℕ) (front_len : ℕ) (back : List ℕ) : Type 0 where
-  pub front_is : front_len ≡ length front
-  pub few : length front + length back < 2 ^ 63
+-- the IDs of all parts by number
+abbrev pub joined : (first second third fourth : List ℕ) → List ℕ
+joined first second third fourth = ((first ++ second) ++ third) ++ fourth
+
+-- what finds IDs knows how many there are up to the end of each part but the last, and numbers of eight bytes count them all
+pub record AreFound (first second third fourth : List ℕ) (first_end second_end third_end : ℕ) : Type 0 where
+  pub first_is : first_end ≡ length first
+  pub second_is : second_end ≡ first_end + length second
+  pub third_is : third_end ≡ second_end + length third
+  pub few : third_end + length fourth < 2 ^ 63
 
 -- no ID is there twice
-pub record AreJoined (front : List ℕ) (front_len : ℕ) (back : List ℕ) : Type 0 where
-  pub distinct : IsDistinct nat_eq (front ++ back)
-  pub found : AreFound front front_len back
+pub record AreJoined (first second third fourth : List ℕ) (first_end second_end third_end : ℕ) : Type 0 where
+  pub distinct : IsDistinct nat_eq (joined first second third fourth)
+  pub found : AreFound first second third fourth first_end second_end third_end
 
 -- and what finds them by guesses finds the same IDs
-pub record AreFoundBy (front : List ℕ) (front_len : ℕ) (back : List ℕ) (guesser : Option (List ℕ)) : Type 0 where
-  pub found : AreFound front front_len back
-  pub guessed : IfSome guesser (λ ids. ids ≡ front ++ back)
+pub record AreFoundBy (first second third fourth : List ℕ) (first_end second_end third_end : ℕ) (guesser : Option (List ℕ)) : Type 0 where
+  pub found : AreFound first second third fourth first_end second_end third_end
+  pub guessed : IfSome guesser (λ ids. ids ≡ joined first second third fourth)
+
+-- these IDs are some of all, and stand there from a number on
+pub record StandAt (ids all : List ℕ) (base : ℕ) : Type 0 where
+  pub within : base + length ids ≤ length all
+  pub at : (i : ℕ) → i < length ids → slice_index all (base + i) ≡ slice_index ids i

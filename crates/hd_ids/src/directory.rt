@@ -9,12 +9,12 @@ const MOST_SPREAD: u64 = 16;
 /// The entry of a page that has no row. No row has this number.
 const NONE: u32 = 0xffff_ffff;
 
-/// A guess of the row of each page of IDs that are multiples of 8, in one of two parts. No answer depends on a guess: whoever asks
+/// A guess of the row of each page of IDs that are multiples of 8, in one of four parts. No answer depends on a guess: whoever asks
 /// looks whether the row is the page's.
 pub(crate) struct Directory {
     /// The first page that has an entry.
     first: u64,
-    /// For each page from the first on twice its row, and one more if it is a row of the second part.
+    /// For each page from the first on four times its row, and the part that has the row: 0 to 3.
     entries: Vec<u32>,
 }
 
@@ -35,26 +35,31 @@ fn bounds(mut first: u64, mut last: u64, pages: &[u64]) -> (u64, u64) {
 }
 
 impl Directory {
-    /// Guesses by the pages of two parts, each in the order of their rows. Where the pages lie far apart, or memory runs out, there
+    /// Guesses by the pages of four parts, each in the order of their rows. Where the pages lie far apart, or memory runs out, there
     /// are none.
-    pub(crate) fn of(alloc: Global, front: &[u64], back: &[u64]) -> Directory {
-        let (first, last) = bounds(0xffff_ffff_ffff_ffff, 0, front);
-        let (first, last) = bounds(first, last, back);
+    pub(crate) fn of(alloc: Global, parts: [&[u64]; 4]) -> Directory {
+        let (mut first, mut last) = (0xffff_ffff_ffff_ffff, 0);
+        let mut rows = 0_u64;
+        for part in 0..4 {
+            (first, last) = bounds(first, last, parts[part]);
+            rows = rows.saturating_add(parts[part].len() as u64);
+        }
         let span = last.saturating_sub(first).saturating_add(1);
-        let rows = (front.len() as u64).saturating_add(back.len() as u64);
         let mut entries = Vec::new(alloc);
         if span <= rows.saturating_mul(MOST_SPREAD) {
             let _ = entries.resize(span as usize, NONE);
         }
         let mut directory = Directory { first, entries };
-        directory.note(back, 1);
-        directory.note(front, 0);
+        directory.note(parts[3], 3);
+        directory.note(parts[2], 2);
+        directory.note(parts[1], 1);
+        directory.note(parts[0], 0);
         directory
     }
 
-    /// Notes the rows of the pages of a part, 0 or 1.
+    /// Notes the rows of the pages of a part, 0 to 3.
     fn note(&mut self, pages: &[u64], part: u32)
-        requires { part ≤ 1 }
+        requires { part ≤ 3 }
     {
         for row in 0..pages.len() {
             let page = pages[row];
@@ -62,16 +67,16 @@ impl Directory {
                 && let Some(place) = (page / 8).checked_sub(self.first)
                 && let Some(entry) = self.entries.get_mut(place as usize)
             {
-                *entry = (row % (1 << 31)) as u32 * 2 + part;
+                *entry = (row % (1 << 30)) as u32 * 4 + part;
             }
         }
     }
 
-    /// A row that may be that of an ID's page, and whether it is one of the second part.
+    /// A row that may be that of an ID's page, and the part that has it.
     #[inline(always)]
-    pub(crate) fn guess(&self, id: u64) -> (usize, bool) {
+    pub(crate) fn guess(&self, id: u64) -> (usize, usize) {
         let place = (id / 4096).wrapping_sub(self.first);
         let entry = self.entries.get(place as usize).copied().unwrap_or(NONE);
-        ((entry / 2) as usize, entry % 2 == 1)
+        ((entry / 4) as usize, (entry % 4) as usize)
     }
 }

@@ -1,8 +1,8 @@
 //! Finding IDs by a guess of the row of their page.
-ghost use Rattle.std.specs.Prelude.{◌≡◌, ◌≤◌, ◌==◌, ◌^◌, ◌++◌, ℕ, nat_eq, length, Some, position, IfSome};
+ghost use Rattle.std.specs.Prelude.{◌≡◌, ◌<◌, ◌≤◌, ◌==◌, ◌^◌, ℕ, nat_eq, length, Some, position, IfSome};
 ghost use Rattle.std.specs.List.{IsDistinct};
 ghost use Rattle.hd_ids.specs.Rows.{AreNumbers, ids_in};
-ghost use Rattle.hd_ids.specs.Joined as joined;
+ghost use Rattle.hd_ids.specs.Joined as parts;
 
 use crate::directory::Directory;
 use crate::numbers::Numbers;
@@ -56,43 +56,71 @@ impl<'a> IdsByRow<'a> {
     }
 }
 
-/// Finds IDs of two parts by guesses of the rows of their pages.
+/// Finds IDs of four parts by guesses of the rows of their pages.
 #[derive(Drop)]
 pub(crate) struct Guesser<'a> {
     directory: &'a Directory,
-    front: IdsByRow<'a>,
+    first: IdsByRow<'a>,
+    second: IdsByRow<'a>,
+    third: IdsByRow<'a>,
+    fourth: IdsByRow<'a>,
     /// How many IDs the first part has.
-    front_len: usize,
-    back: IdsByRow<'a>,
+    first_end: usize,
+    /// How many the first two parts have.
+    second_end: usize,
+    /// How many the first three parts have.
+    third_end: usize,
 }
 
 impl<'a> Model for Guesser<'a> {
-    ghost use Rattle.std.specs.Prelude.{ℕ, List, ◌++◌};
-    ghost use Rattle.hd_ids.specs.Joined.{AreJoined};
+    ghost use Rattle.std.specs.Prelude.{ℕ, List};
+    ghost use Rattle.hd_ids.specs.Joined.{joined, AreJoined};
 
     ghost Value = { List ℕ };
 
-    ghost view = { λ a. a.front ++ a.back };
+    ghost view = { λ a. joined a.first a.second a.third a.fourth };
 
-    ghost invariant = { λ a. AreJoined a.front a.front_len a.back };
+    ghost invariant = { λ a. AreJoined a.first a.second a.third a.fourth a.first_end a.second_end a.third_end };
 }
 
 impl<'a> Guesser<'a> {
-    /// Finds the IDs of these parts by these guesses.
+    /// Finds the IDs of these parts, which have so many up to the end of each, by these guesses.
     pub(crate) fn new(
         directory: &'a Directory,
-        front: IdsByRow<'a>,
-        front_len: usize,
-        back: IdsByRow<'a>,
+        first: IdsByRow<'a>,
+        second: IdsByRow<'a>,
+        third: IdsByRow<'a>,
+        fourth: IdsByRow<'a>,
+        first_end: usize,
+        second_end: usize,
+        third_end: usize,
     ) -> Guesser<'a>
-        requires { joined.AreJoined front front_len back }
-        ensures { result ≡ front.entry ++ back.entry }
+        requires { parts.AreJoined first second third fourth first_end second_end third_end }
+        ensures { result ≡ parts.joined first.entry second.entry third.entry fourth.entry }
     {
         Guesser {
             directory,
-            front,
-            front_len,
-            back,
+            first,
+            second,
+            third,
+            fourth,
+            first_end,
+            second_end,
+            third_end,
+        }
+    }
+
+    /// A part, 0 to 3, and the number of its first ID.
+    #[inline(always)]
+    fn part(&self, part: usize) -> (&IdsByRow<'a>, usize)
+        ensures stand { parts.StandAt result.0.now self.now result.1 }
+        ensures few { length self.now < 2 ^ 63 }
+    {
+        match part {
+            0 => (&self.first, 0),
+            1 => (&self.second, self.first_end),
+            2 => (&self.third, self.second_end),
+            _ => (&self.fourth, self.third_end),
         }
     }
 
@@ -101,12 +129,10 @@ impl<'a> Guesser<'a> {
     pub(crate) fn index_of(&self, id: u64) -> Option<usize>
         ensures { IfSome result (λ n. position (λ x. id == x) self.now ≡ Some n) }
     {
-        let (row, is_back) = self.directory.guess(id);
-        if !is_back {
-            return self.front.index_in(row, id);
-        }
-        match self.back.index_in(row, id) {
-            Some(number) => Some(self.front_len + number),
+        let (row, part) = self.directory.guess(id);
+        let (ids, base) = self.part(part);
+        match ids.index_in(row, id) {
+            Some(number) => Some(base + number),
             None => None,
         }
     }

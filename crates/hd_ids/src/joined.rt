@@ -1,6 +1,6 @@
-//! The IDs of two parts of a dump, one behind the other.
+//! The IDs of four parts of a dump, one behind the other.
 ghost use Rattle.std.specs.Prelude.{◌≡◌, ℕ, ◌==◌, ◌<◌, ◌++◌, [], length, true, false, position, Some, slice_index, IfOk, IfSome, MatchOption};
-ghost use Rattle.hd_ids.specs.Noted.{are_apart};
+ghost use Rattle.hd_ids.specs.Noted.{are_apart, are_all_apart};
 
 use crate::directory::Directory;
 use crate::finder::Finder;
@@ -9,16 +9,22 @@ use crate::ids::ObjectIds;
 use std::alloc::{AllocError, Global};
 use std::marker::Model;
 
-/// IDs of objects, each once, in two parts: those of the second are numbered behind those of the first.
+/// IDs of objects, each once, in four parts: those of each part are numbered behind those of the one before.
 ///
-/// Two threads number a part of the objects each, and nothing has to be copied where the parts are put together. Few pages of the
-/// heap have IDs of both. An ID is looked for in the first part, and where it isn't there in the second.
+/// Four threads number a part of the objects each, and nothing has to be copied where the parts are put together. Few pages of the
+/// heap have IDs of two. An ID is looked for in one part after another.
 pub struct JoinedIds {
-    front: ObjectIds,
+    first: ObjectIds,
+    second: ObjectIds,
+    third: ObjectIds,
+    fourth: ObjectIds,
     /// How many IDs the first part has.
-    front_len: usize,
-    back: ObjectIds,
-    /// Guesses of the rows of pages, where both parts go by pages.
+    first_end: usize,
+    /// How many the first two parts have.
+    second_end: usize,
+    /// How many the first three parts have.
+    third_end: usize,
+    /// Guesses of the rows of pages, where all parts go by pages.
     directory: Option<Directory>,
 }
 
@@ -26,27 +32,31 @@ impl Drop for JoinedIds {
     /// Drops the fields. A derived drop would be proved anew at each place that lets go of one.
     fn drop(self) {
         let Self {
-            front,
-            front_len: _,
-            back,
+            first,
+            second,
+            third,
+            fourth,
+            first_end: _,
+            second_end: _,
+            third_end: _,
             directory,
         } = self;
     }
 }
 
 impl Model for JoinedIds {
-    ghost use Rattle.std.specs.Prelude.{ℕ, List, ◌++◌};
-    ghost use Rattle.hd_ids.specs.Joined.{AreJoined};
+    ghost use Rattle.std.specs.Prelude.{ℕ, List};
+    ghost use Rattle.hd_ids.specs.Joined.{joined, AreJoined};
 
     ghost Value = { List ℕ };
 
-    ghost view = { λ a. a.front ++ a.back };
+    ghost view = { λ a. joined a.first a.second a.third a.fourth };
 
-    ghost invariant = { λ a. AreJoined a.front a.front_len a.back };
+    ghost invariant = { λ a. AreJoined a.first a.second a.third a.fourth a.first_end a.second_end a.third_end };
 }
 
-/// Whether no ID is in both.
-fn are_apart(front: &ObjectIds, back: &ObjectIds) -> bool
+/// Whether no ID is in both, ID by ID.
+fn are_apart_by_id(front: &ObjectIds, back: &ObjectIds) -> bool
     ensures { result ≡ are_apart front.now back.now }
 {
     let mut finder = front.finder();
@@ -68,12 +78,60 @@ fn are_apart_by_rows(front: &ObjectIds, back: &ObjectIds) -> bool
     front.is_apart_by_rows(back)
 }
 
-/// Guesses of the rows of the pages of both, where both go by pages.
-fn directory_of(front: &ObjectIds, back: &ObjectIds) -> Option<Directory> {
-    let (Some(front), Some(back)) = (front.paged(), back.paged()) else {
+/// Whether no ID is in both.
+fn are_apart(front: &ObjectIds, back: &ObjectIds) -> bool
+    ensures { result ≡ are_apart front.now back.now }
+{
+    are_apart_by_rows(front, back) || are_apart_by_id(front, back)
+}
+
+/// Whether no ID of two parts is in a third.
+fn two_are_apart(first: &ObjectIds, second: &ObjectIds, third: &ObjectIds) -> bool
+    ensures { result ≡ are_apart (first.now ++ second.now) third.now }
+{
+    are_apart(first, third) && are_apart(second, third)
+}
+
+/// Whether no ID of three parts is in a fourth.
+fn three_are_apart(
+    first: &ObjectIds,
+    second: &ObjectIds,
+    third: &ObjectIds,
+    fourth: &ObjectIds,
+) -> bool
+    ensures { result ≡ are_apart ((first.now ++ second.now) ++ third.now) fourth.now }
+{
+    two_are_apart(first, second, fourth) && are_apart(third, fourth)
+}
+
+/// Whether no ID is in two of these parts.
+fn are_all_apart(
+    first: &ObjectIds,
+    second: &ObjectIds,
+    third: &ObjectIds,
+    fourth: &ObjectIds,
+) -> bool
+    ensures { result ≡ are_all_apart first.now second.now third.now fourth.now }
+{
+    are_apart(first, second)
+        && two_are_apart(first, second, third)
+        && three_are_apart(first, second, third, fourth)
+}
+
+/// Guesses of the rows of the pages of all parts, where all go by pages.
+fn directory_of(
+    first: &ObjectIds,
+    second: &ObjectIds,
+    third: &ObjectIds,
+    fourth: &ObjectIds,
+) -> Option<Directory> {
+    let (Some(first), Some(second)) = (first.paged(), second.paged()) else {
         return None;
     };
-    Some(front.directory(back))
+    let (Some(third), Some(fourth)) = (third.paged(), fourth.paged()) else {
+        return None;
+    };
+    Some(first.directory(second, third, fourth))
 }
 
 impl JoinedIds {
@@ -85,8 +143,8 @@ impl JoinedIds {
     pub fn none(alloc: Global) -> Result<JoinedIds, AllocError>
         ensures { IfOk result (λ ids. ids ≡ []) }
     {
-        let front = ObjectIds::with_capacity(alloc, 0, 0)?;
-        JoinedIds::alone(alloc, front)
+        let first = ObjectIds::with_capacity(alloc, 0, 0)?;
+        JoinedIds::alone(alloc, first)
     }
 
     /// These IDs, with none behind them.
@@ -97,30 +155,44 @@ impl JoinedIds {
     pub fn alone(alloc: Global, ids: ObjectIds) -> Result<JoinedIds, AllocError>
         ensures { IfOk result (λ joined. joined ≡ ids) }
     {
-        let front_len = ids.len();
-        let back = ObjectIds::with_capacity(alloc, 0, 0)?;
+        let end = ids.len();
         Ok(JoinedIds {
-            front: ids,
-            front_len,
-            back,
+            first: ids,
+            second: ObjectIds::with_capacity(alloc, 0, 0)?,
+            third: ObjectIds::with_capacity(alloc, 0, 0)?,
+            fourth: ObjectIds::with_capacity(alloc, 0, 0)?,
+            first_end: end,
+            second_end: end,
+            third_end: end,
             directory: None,
         })
     }
 
-    /// These IDs, those of the second part behind those of the first; `None` if an ID is in both.
-    pub fn join(front: ObjectIds, back: ObjectIds) -> Option<JoinedIds>
-        ensures { MatchOption result (are_apart front back ≡ false) (λ ids. (are_apart front back ≡ true) × (ids ≡ front ++ back)) }
+    /// The IDs of four parts, those of each behind those of the one before; `None` if an ID is in two of them.
+    pub fn join(
+        first: ObjectIds,
+        second: ObjectIds,
+        third: ObjectIds,
+        fourth: ObjectIds,
+    ) -> Option<JoinedIds>
+        ensures { MatchOption result (are_all_apart first second third fourth ≡ false) (λ ids. (are_all_apart first second third fourth ≡ true) × (ids ≡ ((first ++ second) ++ third) ++ fourth)) }
     {
-        let front_len = front.len();
-        let back_len = back.len();
-        if !are_apart_by_rows(&front, &back) && !are_apart(&front, &back) {
+        if !are_all_apart(&first, &second, &third, &fourth) {
             return None;
         }
-        let directory = directory_of(&front, &back);
+        let first_end = first.len();
+        let second_end = first_end + second.len();
+        let third_end = second_end + third.len();
+        let fourth_len = fourth.len();
+        let directory = directory_of(&first, &second, &third, &fourth);
         Some(JoinedIds {
-            front,
-            front_len,
-            back,
+            first,
+            second,
+            third,
+            fourth,
+            first_end,
+            second_end,
+            third_end,
             directory,
         })
     }
@@ -129,7 +201,7 @@ impl JoinedIds {
     pub fn len(&self) -> usize
         ensures { result ≡ length self.now }
     {
-        self.front_len + self.back.len()
+        self.third_end + self.fourth.len()
     }
 
     /// The ID of a number.
@@ -138,11 +210,16 @@ impl JoinedIds {
         requires { number < length self.now }
         ensures { result ≡ slice_index self.now number }
     {
-        if number < self.front_len {
-            self.front.get(number)
-        } else {
-            self.back.get(number - self.front_len)
+        if number < self.second_end {
+            if number < self.first_end {
+                return self.first.get(number);
+            }
+            return self.second.get(number - self.first_end);
         }
+        if number < self.third_end {
+            return self.third.get(number - self.second_end);
+        }
+        self.fourth.get(number - self.third_end)
     }
 
     /// The number of an ID, if it is one of them.
@@ -150,12 +227,18 @@ impl JoinedIds {
         ensures first { result ≡ position (λ x. id == x) self.now }
         ensures distinct { (o : ℕ) → o < length self.now → slice_index self.now o ≡ id → result ≡ Some o }
     {
-        match self.front.index_of(id) {
-            Some(number) => Some(number),
-            None => match self.back.index_of(id) {
-                Some(number) => Some(self.front_len + number),
-                None => None,
-            },
+        if let Some(number) = self.first.index_of(id) {
+            return Some(number);
+        }
+        if let Some(number) = self.second.index_of(id) {
+            return Some(self.first_end + number);
+        }
+        if let Some(number) = self.third.index_of(id) {
+            return Some(self.second_end + number);
+        }
+        match self.fourth.index_of(id) {
+            Some(number) => Some(self.third_end + number),
+            None => None,
         }
     }
 
@@ -166,10 +249,22 @@ impl JoinedIds {
         let Some(directory) = &self.directory else {
             return None;
         };
-        let (Some(front), Some(back)) = (self.front.paged(), self.back.paged()) else {
+        let (Some(first), Some(second)) = (self.first.paged(), self.second.paged()) else {
             return None;
         };
-        Some(Guesser::new(directory, front.by_row(), self.front_len, back.by_row()))
+        let (Some(third), Some(fourth)) = (self.third.paged(), self.fourth.paged()) else {
+            return None;
+        };
+        Some(Guesser::new(
+            directory,
+            first.by_row(),
+            second.by_row(),
+            third.by_row(),
+            fourth.by_row(),
+            self.first_end,
+            self.second_end,
+            self.third_end,
+        ))
     }
 
     /// What finds the numbers of these IDs, one after another.
@@ -177,34 +272,44 @@ impl JoinedIds {
         ensures { result ≡ self.now }
     {
         JoinedFinder {
-            front: self.front.finder(),
-            front_len: self.front_len,
-            back: self.back.finder(),
+            first: self.first.finder(),
+            second: self.second.finder(),
+            third: self.third.finder(),
+            fourth: self.fourth.finder(),
+            first_end: self.first_end,
+            second_end: self.second_end,
+            third_end: self.third_end,
             guesser: self.guesser(),
         }
     }
 }
 
-/// Finds the numbers of IDs of two parts, one after another. An ID that lies near one that was asked for is found quicker; no
+/// Finds the numbers of IDs of four parts, one after another. An ID that lies near one that was asked for is found quicker; no
 /// answer depends on that.
 #[derive(Drop)]
 pub struct JoinedFinder<'a> {
-    front: Finder<'a>,
+    first: Finder<'a>,
+    second: Finder<'a>,
+    third: Finder<'a>,
+    fourth: Finder<'a>,
     /// How many IDs the first part has.
-    front_len: usize,
-    back: Finder<'a>,
+    first_end: usize,
+    /// How many the first two parts have.
+    second_end: usize,
+    /// How many the first three parts have.
+    third_end: usize,
     guesser: Option<Guesser<'a>>,
 }
 
 impl<'a> Model for JoinedFinder<'a> {
-    ghost use Rattle.std.specs.Prelude.{ℕ, List, ◌++◌};
-    ghost use Rattle.hd_ids.specs.Joined.{AreFoundBy};
+    ghost use Rattle.std.specs.Prelude.{ℕ, List};
+    ghost use Rattle.hd_ids.specs.Joined.{joined, AreFoundBy};
 
     ghost Value = { List ℕ };
 
-    ghost view = { λ a. a.front ++ a.back };
+    ghost view = { λ a. joined a.first a.second a.third a.fourth };
 
-    ghost invariant = { λ a. AreFoundBy a.front a.front_len a.back a.guesser };
+    ghost invariant = { λ a. AreFoundBy a.first a.second a.third a.fourth a.first_end a.second_end a.third_end a.guesser };
 }
 
 impl<'a> JoinedFinder<'a> {
@@ -227,12 +332,18 @@ impl<'a> JoinedFinder<'a> {
         ensures first { result ≡ position (λ x. id == x) self.old }
         ensures same { self.new ≡ self.old }
     {
-        match self.front.index_of(id) {
-            Some(number) => Some(number),
-            None => match self.back.index_of(id) {
-                Some(number) => Some(self.front_len + number),
-                None => None,
-            },
+        if let Some(number) = self.first.index_of(id) {
+            return Some(number);
+        }
+        if let Some(number) = self.second.index_of(id) {
+            return Some(self.first_end + number);
+        }
+        if let Some(number) = self.third.index_of(id) {
+            return Some(self.second_end + number);
+        }
+        match self.fourth.index_of(id) {
+            Some(number) => Some(self.third_end + number),
+            None => None,
         }
     }
 }

@@ -10,7 +10,7 @@ use indexmap::IndexSet;
 use std::marker::Model;
 
 /// How many rows are at hand.
-const AT_HAND: usize = 512;
+const AT_HAND: usize = 256;
 
 /// A page, and its row, one past the last where it has none.
 #[derive(Clone, Copy)]

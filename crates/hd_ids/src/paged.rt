@@ -134,9 +134,20 @@ impl PagedIds {
         IdsByRow::new(self.slots.as_slice(), self.pages.as_slice(), &self.numbers)
     }
 
-    /// Guesses of the rows of the pages of these IDs and of further ones.
-    pub(crate) fn directory(&self, back: &PagedIds) -> Directory {
-        Directory::of(self.alloc, self.pages.as_slice(), back.pages.as_slice())
+    /// Guesses of the rows of the pages of these IDs and of those of three further parts.
+    pub(crate) fn directory(
+        &self,
+        second: &PagedIds,
+        third: &PagedIds,
+        fourth: &PagedIds,
+    ) -> Directory {
+        let parts = [
+            self.pages.as_slice(),
+            second.pages.as_slice(),
+            third.pages.as_slice(),
+            fourth.pages.as_slice(),
+        ];
+        Directory::of(self.alloc, parts)
     }
 
     /// Whether the rows of these IDs and of others have no number at one place. Then no ID is in both. Few pages have IDs of both, so

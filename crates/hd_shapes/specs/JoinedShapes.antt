@@ -1,4 +1,4 @@
--- The shapes of two parts of the objects.
+-- The shapes of four parts of the objects.
 -- Source: this project.
 use Rattle.std.specs.Prelude.{◌≡◌, ℕ, ◌+◌, ◌<◌, ◌^◌, List, length}
 use Rattle.hd_shapes.specs.Shapes.{ObjectShape}
@@ -8,7 +8,9 @@ use Rattle.hd_shapes.specs.PackedShapes.{ShapeLists}
 pub record ObjectShapes : Type 0 where
   pub objects : List ObjectShape
 
--- the first part has so many objects, and numbers of eight bytes count them all
-pub record AreJoined (front : ShapeLists) (front_len : ℕ) (back : ShapeLists) : Type 0 where
-  pub front_is : front_len ≡ length front.objects
-  pub few : length front.objects + length back.objects < 2 ^ 64
+-- the first parts, up to each of three, have so many objects together, and numbers of eight bytes count those of all
+pub record AreJoined (first second third fourth : ShapeLists) (first_end second_end third_end : ℕ) : Type 0 where
+  pub first_is : first_end ≡ length first.objects
+  pub second_is : second_end ≡ first_end + length second.objects
+  pub third_is : third_end ≡ second_end + length third.objects
+  pub few : third_end + length fourth.objects < 2 ^ 64

@@ -1,19 +1,25 @@
-//! The shapes of the objects of two parts.
+//! The shapes of the objects of four parts.
 ghost use Rattle.std.specs.Prelude.{◌≡◌, ◌<◌, ◌++◌, length, slice_get, Some};
 ghost use Rattle.hd_shapes.specs.PackedShapes.{shape_view};
 
 use crate::shape::{Shape, Shapes};
 use std::marker::Model;
 
-/// The shapes of objects in two parts: the objects of the second are numbered behind those of the first.
+/// The shapes of objects in four parts: the objects of each part are numbered behind those of the one before.
 ///
-/// Two threads make the shapes of a part each, and nothing has to be copied where the parts are put together.
+/// Four threads make the shapes of a part each, and nothing has to be copied where the parts are put together.
 #[derive(Drop)]
 pub struct JoinedShapes {
-    front: Shapes,
+    first: Shapes,
+    second: Shapes,
+    third: Shapes,
+    fourth: Shapes,
     /// How many objects the first part has.
-    front_len: usize,
-    back: Shapes,
+    first_end: usize,
+    /// How many the first two parts have.
+    second_end: usize,
+    /// How many the first three parts have.
+    third_end: usize,
 }
 
 impl Model for JoinedShapes {
@@ -22,21 +28,27 @@ impl Model for JoinedShapes {
 
     ghost Value = { ObjectShapes };
 
-    ghost view = { λ a. record { objects = a.front.objects ++ a.back.objects } };
+    ghost view = { λ a. record { objects = ((a.first.objects ++ a.second.objects) ++ a.third.objects) ++ a.fourth.objects } };
 
-    ghost invariant = { λ a. AreJoined a.front a.front_len a.back };
+    ghost invariant = { λ a. AreJoined a.first a.second a.third a.fourth a.first_end a.second_end a.third_end };
 }
 
 impl JoinedShapes {
-    /// The shapes of both parts.
-    pub fn join(front: Shapes, back: Shapes) -> JoinedShapes
-        ensures { result.objects ≡ front.objects ++ back.objects }
+    /// The shapes of all four parts.
+    pub fn join(first: Shapes, second: Shapes, third: Shapes, fourth: Shapes) -> JoinedShapes
+        ensures { result.objects ≡ ((first.objects ++ second.objects) ++ third.objects) ++ fourth.objects }
     {
-        let front_len = front.len();
+        let first_end = first.len();
+        let second_end = first_end + second.len();
+        let third_end = second_end + third.len();
         JoinedShapes {
-            front,
-            front_len,
-            back,
+            first,
+            second,
+            third,
+            fourth,
+            first_end,
+            second_end,
+            third_end,
         }
     }
 
@@ -44,7 +56,27 @@ impl JoinedShapes {
     pub fn len(&self) -> usize
         ensures { result ≡ length self.now.objects }
     {
-        self.front_len + self.back.len()
+        self.third_end + self.fourth.len()
+    }
+
+    /// The part that has the object of a number, and the number of the object there.
+    #[inline(always)]
+    fn place(&self, o: u32) -> (&Shapes, u32)
+        requires { o < length self.now.objects }
+        ensures within { result.1 < length result.0.now.objects }
+        ensures same { slice_get result.0.now.objects result.1 ≡ slice_get self.now.objects o }
+    {
+        let number = o as usize;
+        if number < self.second_end {
+            if number < self.first_end {
+                return (&self.first, o);
+            }
+            return (&self.second, (number - self.first_end) as u32);
+        }
+        if number < self.third_end {
+            return (&self.third, (number - self.second_end) as u32);
+        }
+        (&self.fourth, (number - self.third_end) as u32)
     }
 
     /// The shape of the object of a number.
@@ -53,10 +85,7 @@ impl JoinedShapes {
         requires { o < length self.now.objects }
         ensures { slice_get self.now.objects o ≡ Some (shape_view result) }
     {
-        if (o as usize) < self.front_len {
-            self.front.get(o)
-        } else {
-            self.back.get((o as usize - self.front_len) as u32)
-        }
+        let (part, o) = self.place(o);
+        part.get(o)
     }
 }

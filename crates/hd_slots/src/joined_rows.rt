@@ -1,4 +1,4 @@
-//! The references of two parts of the objects, as the file has them.
+//! The references of four parts of the objects, as the file has them.
 ghost use Rattle.std.specs.Prelude.{◌≡◌, ◌+◌, ◌<◌, ◌^◌, [], length, All, IfOk};
 ghost use Rattle.hd_slots.specs.JoinedInside.{joined_table};
 
@@ -11,13 +11,15 @@ use std::marker::Model;
 use std::sync::Arc;
 use std::thread::{Threads, map_vec};
 
-/// The references of objects as the file has them, in two parts: the rows of the second lie behind those of the first.
+/// The references of objects as the file has them, in four parts: the rows of each part lie behind those of the one before.
 ///
-/// Two threads make the rows of a part of the objects each, and nothing has to be copied where the parts are put together.
+/// Four threads make the rows of a part of the objects each, and nothing has to be copied where the parts are put together.
 #[derive(Drop)]
 pub struct JoinedRows<'a> {
-    front: UnresolvedSlots<'a>,
-    back: UnresolvedSlots<'a>,
+    first: UnresolvedSlots<'a>,
+    second: UnresolvedSlots<'a>,
+    third: UnresolvedSlots<'a>,
+    fourth: UnresolvedSlots<'a>,
 }
 
 impl<'a> Model for JoinedRows<'a> {
@@ -26,22 +28,31 @@ impl<'a> Model for JoinedRows<'a> {
 
     ghost Value = { Table };
 
-    ghost view = { λ a. joined_table a.front a.back };
+    ghost view = { λ a. joined_table (joined_table (joined_table a.first a.second) a.third) a.fourth };
 
-    ghost invariant = { λ a. AreOfOneFile a.front a.back };
+    ghost invariant = { λ a. AreOfOneFile a.first a.second a.third a.fourth };
 }
 
 impl<'a> JoinedRows<'a> {
-    /// The rows of both, which are over the same IDs and of the same file. No row is being filled.
-    pub fn join(front: UnresolvedSlots<'a>, back: UnresolvedSlots<'a>) -> JoinedRows<'a>
-        requires bytes { back.bytes ≡ front.bytes }
-        requires size { back.size ≡ front.size }
-        requires ids { back.ids ≡ front.ids }
-        requires filled { front.filling ≡ [] }
-        requires back_filled { back.filling ≡ [] }
-        ensures { result ≡ joined_table front.entry back.entry }
+    /// The rows of all four, which are over the same IDs and of the same file. No row is being filled.
+    pub fn join(
+        first: UnresolvedSlots<'a>,
+        second: UnresolvedSlots<'a>,
+        third: UnresolvedSlots<'a>,
+        fourth: UnresolvedSlots<'a>,
+    ) -> JoinedRows<'a>
+        requires bytes { (second.bytes ≡ first.bytes) × (third.bytes ≡ first.bytes) × (fourth.bytes ≡ first.bytes) }
+        requires size { (second.size ≡ first.size) × (third.size ≡ first.size) × (fourth.size ≡ first.size) }
+        requires ids { (second.ids ≡ first.ids) × (third.ids ≡ first.ids) × (fourth.ids ≡ first.ids) }
+        requires filled { (first.filling ≡ []) × (second.filling ≡ []) × (third.filling ≡ []) × (fourth.filling ≡ []) }
+        ensures { result ≡ joined_table (joined_table (joined_table first.entry second.entry) third.entry) fourth.entry }
     {
-        JoinedRows { front, back }
+        JoinedRows {
+            first,
+            second,
+            third,
+            fourth,
+        }
     }
 
     /// The same rows, over the objects of these IDs.
@@ -55,16 +66,25 @@ impl<'a> JoinedRows<'a> {
         requires room { length ids + self.count < 2 ^ 32 }
         ensures { IfOk result (λ t. t ≡ record self.entry { ids = ids }) }
     {
-        let Self { front, back } = self;
+        let Self {
+            first,
+            second,
+            third,
+            fourth,
+        } = self;
         let ids = Arc::new(alloc, ids)?;
-        let more = Arc::try_clone(&ids)?;
+        let second_ids = Arc::try_clone(&ids)?;
+        let third_ids = Arc::try_clone(&ids)?;
+        let fourth_ids = Arc::try_clone(&ids)?;
         Ok(JoinedRows {
-            front: front.with_ids(ids),
-            back: back.with_ids(more),
+            first: first.with_ids(ids),
+            second: second.with_ids(second_ids),
+            third: third.with_ids(third_ids),
+            fourth: fourth.with_ids(fourth_ids),
         })
     }
 
-    /// The rows by numbers of objects, which are looked for on all processors, those of both parts side by side.
+    /// The rows by numbers of objects, which are looked for on all processors, those of all parts side by side.
     ///
     /// # Errors
     ///
@@ -72,10 +92,17 @@ impl<'a> JoinedRows<'a> {
     pub fn resolve<R: Threads + Sync>(self, rt: &R, alloc: Global) -> Result<SlotTable, AllocError>
         ensures { IfOk result (λ t. t ≡ record { ids = self.entry.ids; rows = self.entry.rows }) }
     {
-        let Self { front, back } = self;
-        let mut parts = Vec::with_capacity(alloc, 2)?;
-        parts.push(front)?;
-        parts.push(back)?;
+        let Self {
+            first,
+            second,
+            third,
+            fourth,
+        } = self;
+        let mut parts = Vec::with_capacity(alloc, 4)?;
+        parts.push(first)?;
+        parts.push(second)?;
+        parts.push(third)?;
+        parts.push(fourth)?;
         let mut resolved = map_vec(
             rt,
             parts,
@@ -84,12 +111,18 @@ impl<'a> JoinedRows<'a> {
                 ensures { IfOk result (λ t. t ≡ record { ids = part.entry.ids; rows = part.entry.rows }) }
             { part.resolve(rt, alloc) },
         )?;
-        let Some(back) = resolved.pop() else {
+        let Some(fourth) = resolved.pop() else {
             unreachable!()
         };
-        let Some(front) = resolved.pop() else {
+        let Some(third) = resolved.pop() else {
             unreachable!()
         };
-        Ok(SlotTable::new(front?, back?))
+        let Some(second) = resolved.pop() else {
+            unreachable!()
+        };
+        let Some(first) = resolved.pop() else {
+            unreachable!()
+        };
+        Ok(SlotTable::new(first?, second?, third?, fourth?))
     }
 }

@@ -92,9 +92,10 @@ impl ResolvedRows {
 
     /// How many rows there are.
     pub(crate) fn rows(&self) -> usize
-        ensures { result ≡ length self.now.rows }
+        ensures len { result ≡ length self.now.rows }
+        ensures few { result < 2 ^ 62 }
     {
-        self.starts.len() - 1
+        self.starts.as_slice().len() - 1
     }
 
     /// How many objects there are.

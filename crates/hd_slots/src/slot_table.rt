@@ -9,13 +9,19 @@ use crate::resolved_rows::ResolvedRows;
 use crate::targets::Targets;
 use std::marker::Model;
 
-/// The references of all objects, a row of IDs for each, in two parts: the rows of the second lie behind those of the first.
+/// The references of all objects, a row of IDs for each, in four parts: the rows of each part lie behind those of the one before.
 #[derive(Drop)]
 pub struct SlotTable {
-    front: ResolvedRows,
+    first: ResolvedRows,
+    second: ResolvedRows,
+    third: ResolvedRows,
+    fourth: ResolvedRows,
     /// How many rows the first part has.
-    front_rows: usize,
-    back: ResolvedRows,
+    first_end: usize,
+    /// How many the first two parts have.
+    second_end: usize,
+    /// How many the first three parts have.
+    third_end: usize,
 }
 
 impl Model for SlotTable {
@@ -24,22 +30,33 @@ impl Model for SlotTable {
 
     ghost Value = { Rows };
 
-    ghost view = { λ a. joined_rows a.front a.back };
+    ghost view = { λ a. joined_rows (joined_rows (joined_rows a.first a.second) a.third) a.fourth };
 
-    ghost invariant = { λ a. AreOfOneDump a.front a.front_rows a.back };
+    ghost invariant = { λ a. AreOfOneDump a.first a.second a.third a.fourth a.first_end a.second_end a.third_end };
 }
 
 impl SlotTable {
-    /// The rows of both parts, which are over the same IDs.
-    pub(crate) fn new(front: ResolvedRows, back: ResolvedRows) -> SlotTable
-        requires { back.ids ≡ front.ids }
-        ensures { result ≡ joined_rows front back }
+    /// The rows of all four parts, which are over the same IDs.
+    pub(crate) fn new(
+        first: ResolvedRows,
+        second: ResolvedRows,
+        third: ResolvedRows,
+        fourth: ResolvedRows,
+    ) -> SlotTable
+        requires { (second.ids ≡ first.ids) × (third.ids ≡ first.ids) × (fourth.ids ≡ first.ids) }
+        ensures { result ≡ joined_rows (joined_rows (joined_rows first second) third) fourth }
     {
-        let front_rows = front.rows();
+        let first_end = first.rows();
+        let second_end = first_end + second.rows();
+        let third_end = second_end + third.rows();
         SlotTable {
-            front,
-            front_rows,
-            back,
+            first,
+            second,
+            third,
+            fourth,
+            first_end,
+            second_end,
+            third_end,
         }
     }
 
@@ -47,7 +64,7 @@ impl SlotTable {
     pub fn objects(&self) -> usize
         ensures { result ≡ length self.now.ids }
     {
-        self.front.objects()
+        self.first.objects()
     }
 
     /// The ID of the object of a number.
@@ -55,7 +72,7 @@ impl SlotTable {
         requires { o < length self.now.ids }
         ensures { result ≡ slice_index self.now.ids o }
     {
-        self.front.id_of(o)
+        self.first.id_of(o)
     }
 
     /// The number of the object with an ID. No two objects have one ID.
@@ -63,7 +80,28 @@ impl SlotTable {
         ensures first { result ≡ position (λ x. id == x) self.now.ids }
         ensures distinct { (o : ℕ) → o < length self.now.ids → slice_index self.now.ids o ≡ id → result ≡ Some o }
     {
-        self.front.index_of(id)
+        self.first.index_of(id)
+    }
+
+    /// The part that has the row of an object, and the number of the row there.
+    #[inline(always)]
+    fn place(&self, o: u32) -> (&ResolvedRows, u32)
+        requires { o < length self.now.rows }
+        ensures ids { result.0.now.ids ≡ self.now.ids }
+        ensures within { result.1 < length result.0.now.rows }
+        ensures same { row_at result.0.now result.1 ≡ row_at self.now o }
+    {
+        let row = o as usize;
+        if row < self.second_end {
+            if row < self.first_end {
+                return (&self.first, o);
+            }
+            return (&self.second, (row - self.first_end) as u32);
+        }
+        if row < self.third_end {
+            return (&self.third, (row - self.second_end) as u32);
+        }
+        (&self.fourth, (row - self.third_end) as u32)
     }
 
     /// How many IDs the row of an object has.
@@ -71,11 +109,8 @@ impl SlotTable {
         requires { o < length self.now.rows }
         ensures { result ≡ length (row_at self.now o) }
     {
-        if (o as usize) < self.front_rows {
-            self.front.row_len(o)
-        } else {
-            self.back.row_len((o as usize - self.front_rows) as u32)
-        }
+        let (part, o) = self.place(o);
+        part.row_len(o)
     }
 
     /// The objects that the row of an object refers to, ID by ID.
@@ -84,11 +119,8 @@ impl SlotTable {
         requires { o < length self.now.rows }
         ensures { result ≡ map (λ id. position (λ x. id == x) self.now.ids) (row_at self.now o) }
     {
-        if (o as usize) < self.front_rows {
-            self.front.targets(o)
-        } else {
-            self.back.targets((o as usize - self.front_rows) as u32)
-        }
+        let (part, o) = self.place(o);
+        part.targets(o)
     }
 
     /// The ID at an index of an object's row, and the number of its object, if it is one's.
@@ -98,11 +130,8 @@ impl SlotTable {
         ensures id { result.0 ≡ slice_index (row_at self.now o) i }
         ensures target { result.1 ≡ position (λ x. result.0 == x) self.now.ids }
     {
-        if (o as usize) < self.front_rows {
-            self.front.get(o, i)
-        } else {
-            self.back.get((o as usize - self.front_rows) as u32, i)
-        }
+        let (part, o) = self.place(o);
+        part.get(o, i)
     }
 
     /// How many IDs of all rows are objects', and how many are others'.
@@ -110,11 +139,13 @@ impl SlotTable {
         ensures objects { result.objects ≡ known_in self.now }
         ensures others { result.others ≡ absent_in self.now }
     {
-        let front = self.front.counts();
-        let back = self.back.counts();
+        let first = self.first.counts();
+        let second = self.second.counts();
+        let third = self.third.counts();
+        let fourth = self.fourth.counts();
         IdCounts {
-            objects: front.objects + back.objects,
-            others: front.others + back.others,
+            objects: first.objects + second.objects + third.objects + fourth.objects,
+            others: first.others + second.others + third.others + fourth.others,
         }
     }
 
@@ -123,10 +154,7 @@ impl SlotTable {
         requires { o < length self.now.rows }
         ensures { result ≡ last_from 0 (row_at self.now o) }
     {
-        if (o as usize) < self.front_rows {
-            self.front.last(o)
-        } else {
-            self.back.last((o as usize - self.front_rows) as u32)
-        }
+        let (part, o) = self.place(o);
+        part.last(o)
     }
 }

@@ -172,7 +172,7 @@ fn ids_at_the_ends(rt: HostRuntime) {
     assert!(rt; are_those(&ids, once.as_slice()));
 }
 
-/// The ID at an offset of a page of 4,096 addresses. The rows of pages whose numbers are 512 apart take turns in one place of
+/// The ID at an offset of a page of 4,096 addresses. The rows of pages whose numbers are 256 apart take turns in one place of
 /// a finder.
 fn id_in(page: u64, offset: u64) -> u64 {
     page.wrapping_mul(4096).wrapping_add(offset)
@@ -181,7 +181,7 @@ fn id_in(page: u64, offset: u64) -> u64 {
 #[test]
 fn finder_of_pages_with_one_place(rt: HostRuntime) {
     let mut ids = ObjectIds::with_capacity(rt.alloc(), 0, 5).expect(&rt, "an index is made");
-    let (first, second, none) = (7, 7 + 512, 7 + 1024);
+    let (first, second, none) = (7, 7 + 256, 7 + 512);
     for id in [id_in(first, 0), id_in(second, 0), id_in(first, 8)] {
         ids.note(id).expect(&rt, "the ID is noted");
     }
@@ -204,16 +204,19 @@ fn ids_of<R: Abort>(rt: &R, alloc: Global, more: &[u64]) -> ObjectIds {
 }
 
 #[test]
-fn ids_of_two_parts(rt: HostRuntime) {
-    // 0x1008 and 0x1010 lie on one page, 0x9000 on another
-    let front = ids_of(&rt, rt.alloc(), &[0x1008, 0x9000]);
-    let back = ids_of(&rt, rt.alloc(), &[0x2000, 0x1010]);
-    let ids = JoinedIds::join(front, back).expect(&rt, "no ID is in both");
-    assert_eq!(rt; ids.len(), 4);
-    let numbers = [0x1008, 0x9000, 0x2000, 0x1010, 0x1018].map(|id| ids.index_of(id));
-    assert_eq!(rt; numbers, [Some(0), Some(1), Some(2), Some(3), None]);
+fn ids_of_four_parts(rt: HostRuntime) {
+    // 0x1008, 0x1010 and 0x1020 lie on one page, 0x9000 and 0x9008 on another
+    let first = ids_of(&rt, rt.alloc(), &[0x1008, 0x9000]);
+    let second = ids_of(&rt, rt.alloc(), &[0x2000, 0x1010]);
+    let third = ids_of(&rt, rt.alloc(), &[0x9008]);
+    let fourth = ids_of(&rt, rt.alloc(), &[0x1020, 0x3000]);
+    let ids = JoinedIds::join(first, second, third, fourth).expect(&rt, "no ID is in two");
+    assert_eq!(rt; ids.len(), 7);
+    let all = [0x1008, 0x9000, 0x2000, 0x1010, 0x9008, 0x1020, 0x3000];
+    assert_eq!(rt; ids.index_of(0x1018), None);
     let mut finder = ids.finder();
-    for (number, id) in [0x1008, 0x9000, 0x2000, 0x1010].into_iter().enumerate() {
+    for (number, id) in all.into_iter().enumerate() {
+        assert_eq!(rt; ids.index_of(id), Some(number));
         assert_eq!(rt; finder.index_of(id), Some(number));
         if number < ids.len() {
             assert_eq!(rt; ids.get(number), id);
@@ -222,11 +225,29 @@ fn ids_of_two_parts(rt: HostRuntime) {
     assert_eq!(rt; finder.index_of(0x1018), None);
 }
 
+/// Whether parts with these IDs, one in each, can be joined.
+fn are_joined<R: Abort>(rt: &R, alloc: Global, ids: [u64; 4]) -> bool {
+    let [first, second, third, fourth] = ids;
+    let first = ids_of(rt, alloc, &[first, 0x9000]);
+    let second = ids_of(rt, alloc, &[second]);
+    let third = ids_of(rt, alloc, &[third, 0x2000]);
+    let fourth = ids_of(rt, alloc, &[fourth]);
+    JoinedIds::join(first, second, third, fourth).is_some()
+}
+
 #[test]
-fn ids_of_both_parts(rt: HostRuntime) {
-    let front = ids_of(&rt, rt.alloc(), &[0x1008, 0x9000]);
-    let back = ids_of(&rt, rt.alloc(), &[0x2000, 0x1008]);
-    assert!(rt; JoinedIds::join(front, back).is_none());
+fn ids_of_two_of_the_parts(rt: HostRuntime) {
+    assert!(rt; are_joined(&rt, rt.alloc(), [8, 16, 24, 32]));
+    for ids in [
+        [8, 8, 24, 32],
+        [8, 16, 8, 32],
+        [8, 16, 24, 8],
+        [8, 16, 16, 32],
+        [8, 16, 24, 16],
+        [8, 16, 24, 24],
+    ] {
+        assert!(rt; !are_joined(&rt, rt.alloc(), ids));
+    }
 }
 
 #[test]

@@ -1,23 +1,28 @@
-use Rattle.std.proofs.Common.{◌∙◌, ℕ, ◌+◌, eqb, length, Some, ap}
-use Rattle.std.specs.Option.{option_map}
-use Rattle.hd_ids.proofs.JoinLemmas.{position-in-front, position-behind}
+use Rattle.std.proofs.Common.{◌∙◌, eqb, Some, None}
+use Rattle.hd_ids.proofs.JoinLemmas.{position-in_first, position-in_second, position-in_third, position-in_fourth}
 use Rattle.hd_ids.proofs.joined.JoinedFinder.index_without.Goals as goal
-use Rattle.hd_ids.proofs.joined.JoinedFinder.index_without.Goals.{in-Some-index_of, in-None-index_of}
+use Rattle.hd_ids.proofs.joined.JoinedFinder.index_without.Goals.{in-Some-index_of-3, in-None}
 
 pub returns-in-Some-clause-first : goal.returns-in-Some-clause-first
 returns-in-Some-clause-first c =
     let a = c.self.inside in
-    rw (← c.self.view_is) (position-in-front (λ x. eqb c.args.id x) a.front a.back c.in-Some.number c.in-Some.ensures.first)
+    rw (← c.self.view_is) (position-in_first (λ x. eqb c.args.id x) a.first a.second a.third a.fourth a.first_end a.second_end a.third_end c.self.invariant.found c.in-Some.number c.in-Some.ensures.first)
 
-pub returns-after-index_of-2-clause-first : goal.returns-after-index_of-2-clause-first
-returns-after-index_of-2-clause-first c =
+pub returns-in-Some-index_of-clause-first : goal.returns-in-Some-index_of-clause-first
+returns-in-Some-index_of-clause-first c =
     let a = c.self.inside in
-    let behind = position-behind (λ x. eqb c.args.id x) a.front a.back c.in-None.ensures.first in
-    rw (← c.self.view_is) (elim c.match-index_of-2.branch [
-      | in-Some-index_of w ↦
-          w.result-is
-          ∙ ap (λ (n : ℕ). Some (n + w.in-Some-index_of.number)) c.self.invariant.found.front_is
-          ∙ ap (option_map (λ (i : ℕ). length a.front + i)) w.in-Some-index_of.ensures.first
-          ∙ behind
-      | in-None-index_of w ↦ w.result-is ∙ ap (option_map (λ (i : ℕ). length a.front + i)) w.in-None-index_of.ensures.first ∙ behind
+    rw (← c.self.view_is) (position-in_second (λ x. eqb c.args.id x) a.first a.second a.third a.fourth a.first_end a.second_end a.third_end c.self.invariant.found c.in_default.ensures.first c.in-Some-index_of.number c.in-Some-index_of.ensures.first)
+
+pub returns-in-Some-index_of-2-clause-first : goal.returns-in-Some-index_of-2-clause-first
+returns-in-Some-index_of-2-clause-first c =
+    let a = c.self.inside in
+    rw (← c.self.view_is) (position-in_third (λ x. eqb c.args.id x) a.first a.second a.third a.fourth a.first_end a.second_end a.third_end c.self.invariant.found c.in_default.ensures.first c.in_default-index_of.ensures.first c.in-Some-index_of-2.number c.in-Some-index_of-2.ensures.first)
+
+pub returns-clause-first : goal.returns-clause-first
+returns-clause-first c =
+    let a = c.self.inside in
+    let fourth = position-in_fourth (λ x. eqb c.args.id x) a.first a.second a.third a.fourth a.first_end a.second_end a.third_end c.self.invariant.found c.in_default.ensures.first c.in_default-index_of.ensures.first c.in_default-index_of-2.ensures.first in
+    rw (← c.self.view_is) (elim c.match-index_of-4.branch [
+      | in-Some-index_of-3 w ↦ w.result-is ∙ fourth (Some w.in-Some-index_of-3.number) w.in-Some-index_of-3.ensures.first
+      | in-None w ↦ w.result-is ∙ fourth None w.in-None.ensures.first
     ])

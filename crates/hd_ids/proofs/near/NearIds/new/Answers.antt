@@ -9,5 +9,5 @@ invariant_of-result c =
     record {
       numbers_are = r.numbers_are;
       few = omega (arith, r.numbers_are.rows, r.small, r.few_ids);
-      rows = All-replicate (HasRow c.args.pages.now.keys) 512 (record { page = c.args.page; row = c.args.row }) (record { row = r.last; within = r.within });
+      rows = All-replicate (HasRow c.args.pages.now.keys) 256 (record { page = c.args.page; row = c.args.row }) (record { row = r.last; within = r.within });
     }

@@ -2,7 +2,7 @@ use Rattle.std.proofs.Common.{◌∙◌, ℕ, not, List, eqb, get_or, position, 
 use Rattle.std.proofs.lemmas.List.Folds.{list_any_at}
 use Rattle.hd_ids.specs.Noted.{is_noted}
 use Rattle.hd_ids.proofs.JoinLemmas.{some-noted, none-next}
-use Rattle.hd_ids.proofs.joined.are_apart.Goals as goal
+use Rattle.hd_ids.proofs.joined.are_apart_by_id.Goals as goal
 
 pub returns-then-is_some : goal.returns-then-is_some
 returns-then-is_some c =
