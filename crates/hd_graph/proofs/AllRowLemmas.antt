@@ -3,6 +3,7 @@ use Rattle.std.proofs.Common.{◌≡◌, ◌∙◌, ℕ, suc, ◌+◌, ◌-◌, 
 use Rattle.std.specs.Option.{option_map}
 use Rattle.std.specs.List.{filter_map, cons_option, slice_get}
 use Rattle.std.proofs.lemmas.List.{append-nil, map-append, length-map, length-drop, get_or-drop, take_all, take-append-drop}
+use Rattle.std.proofs.Math.Seq.{take-add}
 use Rattle.std.proofs.lemmas.List.Sums.{sum_by-append}
 use Rattle.std.proofs.lemmas.Option.{get_or_from_slice_get, slice_get_within, slice_get-get_or}
 use Rattle.std.proofs.lemmas.List.Elements.{filter_map-append}
@@ -78,6 +79,12 @@ stretch-weight list first i s is =
     let rest = weight-at (drop first list) i s (at-later list first i s is) in
     omega (arith, rest, sum_by-append (λ (x : Sub). item_weight x.item) (take first list) (drop first list), ap weight (take-append-drop first list))
 
+-- the same by an index of the whole
+pub stretch-weight-at : (list : List Sub) (first i : ℕ) (s : Sub) → first ≤ i → slice_get list i ≡ Some s → weight (stretch first (i - first) list) + item_weight s.item ≤ weight list
+stretch-weight-at list first i s from is =
+    let e : i ≡ first + (i - first) = omega arith in
+    stretch-weight list first (i - first) s (subst (λ (n : ℕ). slice_get list n ≡ Some s) e is)
+
 -- the rows of two stretches, one behind the other
 module _ (known : KnownClasses) (bytes : List ℕ) (size : IdSize) (front back : List Sub) (t u : Table) (h : HasAllRows known bytes size front t) (k : HasAllRows known bytes size back u) where
   pub all-both : HasAllRows known bytes size (front ++ back) (record t { rows = t.rows ++ u.rows; count = t.count + u.count })
@@ -94,20 +101,32 @@ module _ (known : KnownClasses) (bytes : List ℕ) (size : IdSize) (front back :
   }
 
 -- a list is its stretches up to an index and from it on
-pub stretches : (list : List Sub) (split len : ℕ) → length list ≤ len → stretch 0 split list ++ stretch split (len - split) list ≡ list
+stretches : (list : List Sub) (split len : ℕ) → length list ≤ len → stretch 0 split list ++ stretch split (len - split) list ≡ list
 stretches list split len long =
     ap (λ (back : List Sub). take split list ++ back) (take_all (len - split) (drop split list) (omega (arith, length-drop split list, long)))
     ∙ take-append-drop split list
 
+-- two stretches of which one begins where the other ends are one
+adjacent : (list : List Sub) (middle end : ℕ) → middle ≤ end → stretch 0 middle list ++ stretch middle (end - middle) list ≡ stretch 0 end list
+adjacent list middle end from =
+    let e : middle + (end - middle) ≡ end = omega arith in
+    sym (take-add middle (end - middle) list) ∙ ap (λ (n : ℕ). take n list) e
+
+-- a list is its four stretches up to, between and from three indices
+pub four-stretches : (list : List Sub) (second third fourth len : ℕ) → second ≤ third → third ≤ fourth → length list ≤ len
+    → ((stretch 0 second list ++ stretch second (third - second) list) ++ stretch third (fourth - third) list) ++ stretch fourth (len - fourth) list ≡ list
+four-stretches list second third fourth len from then long =
+    ap (λ (front : List Sub). (front ++ stretch third (fourth - third) list) ++ stretch fourth (len - fourth) list) (adjacent list second third from)
+    ∙ ap (λ (front : List Sub). front ++ stretch fourth (len - fourth) list) (adjacent list third fourth then)
+    ∙ stretches list fourth len long
+
 -- the shapes of two stretches, one behind the other
-pub shapes-both : (known : KnownClasses) (size : IdSize) (list : List Sub) (split len : ℕ) (front back : List ObjectShape) → length list ≤ len
-    → HasAllShapes known size (stretch 0 split list) front → HasAllShapes known size (stretch split (len - split) list) back → HasAllShapes known size list (front ++ back)
-shapes-both known size list split len front back long h k =
+pub shapes-both : (known : KnownClasses) (size : IdSize) (front back : List Sub) (xs ys : List ObjectShape) → HasAllShapes known size front xs → HasAllShapes known size back ys → HasAllShapes known size (front ++ back) (xs ++ ys)
+shapes-both known size front back xs ys h k =
     let shape = λ (x : Sub). shape_of_item known size x.item in
-    ap (λ (ss : List ObjectShape). ss ++ back) h
-    ∙ ap (λ (ss : List ObjectShape). filter_map shape (stretch 0 split list) ++ ss) k
-    ∙ sym (filter_map-append shape (stretch 0 split list) (stretch split (len - split) list))
-    ∙ ap (filter_map shape) (stretches list split len long)
+    ap (λ (ss : List ObjectShape). ss ++ ys) h
+    ∙ ap (λ (ss : List ObjectShape). filter_map shape front ++ ss) k
+    ∙ sym (filter_map-append shape front back)
 
 -- one more shape, or none
 pub shapes-next : (known : KnownClasses) (size : IdSize) (list : List Sub) (i : ℕ) (s : Sub) → slice_get list i ≡ Some s → (old new : List ObjectShape)
@@ -184,3 +203,15 @@ module _ (known : KnownClasses) (bytes : List ℕ) (size : IdSize) (list : List 
     shapes_are = shapes_are ∙ ap (map shape_of_entry) (sym none-repeated);
     filled = h.filled;
   }
+
+-- rows and shapes behind which three parts with none stand
+pub rows-alone : (known : KnownClasses) (bytes : List ℕ) (size : IdSize) (list : List Sub) (t : Table) (shapes : List ObjectShape) (count : ℕ) → HasRowsOf known bytes size list (columns t shapes)
+    → HasRowsOf known bytes size list (columns (record t { rows = ((t.rows ++ []) ++ []) ++ []; count = count }) (((shapes ++ []) ++ []) ++ []))
+rows-alone known bytes size list t shapes count h = record {
+  bytes_are = h.bytes_are;
+  size_is = h.size_is;
+  ids_are = h.ids_are;
+  rows_are = append-nil ((t.rows ++ []) ++ []) ∙ append-nil (t.rows ++ []) ∙ append-nil t.rows ∙ h.rows_are;
+  shapes_are = append-nil ((shapes ++ []) ++ []) ∙ append-nil (shapes ++ []) ∙ append-nil shapes ∙ h.shapes_are;
+  filled = h.filled;
+}

@@ -1,6 +1,6 @@
 -- Numbering one stretch of sub-records behind another.
-use Rattle.std.proofs.Common.{◌≡◌, ◌∙◌, ℕ, ◌+◌, ◌-◌, ◌<◌, ◌≤◌, inl, inr, List, [], ◌∷◌, ◌++◌, length, map, Bool, true, false, ◌||◌, cond, eqb, refl, sym, ap, subst, arith, append_assoc, true≢false}
-use Rattle.std.specs.Prelude.{count_by}
+use Rattle.std.proofs.Common.{◌≡◌, ◌∙◌, ℕ, ◌+◌, ◌<◌, inl, inr, List, [], ◌∷◌, ◌++◌, map, Bool, true, false, ◌||◌, cond, eqb, refl, sym, ap, subst, arith, append_assoc, true≢false}
+use Rattle.std.specs.Prelude.{count_by, not, ◌&&◌}
 use Rattle.std.specs.List.{list_any, filter_map}
 use Rattle.std.proofs.lemmas.Bool.{eqb-true, or_cases, or_parts}
 use Rattle.std.proofs.lemmas.Cmp.{nat_eq_equiv}
@@ -17,7 +17,8 @@ use Rattle.hd_terms.specs.FirstRecords.{object_sub, first_subs, repeats}
 use Rattle.hd_terms.specs.HeapFaults.{object_fault}
 use Rattle.hd_terms.specs.Classes.{KnownClasses}
 use Rattle.hd_terms.specs.Objects.{is_opaque}
-use Rattle.hd_ids.specs.Noted.{is_noted}
+use Rattle.hd_ids.specs.Noted.{is_noted, are_all_apart}
+use Rattle.hd_slots.specs.JoinedInside.{joined_table}
 use Rattle.hd_classes.specs.Firsts.{firsts, firsts_from}
 use Rattle.hd_classes.proofs.FirstLemmas.{firsts_from-append, is_known, known-map}
 use Rattle.hd_classes.proofs.RepeatLemmas.{repeats-push}
@@ -25,11 +26,14 @@ use Rattle.hd_graph.specs.declared.graph.StoredRoot.{StoredRoot}
 use Rattle.hd_graph.specs.declared.number.Tally.{Tally}
 use Rattle.hd_graph.specs.GraphInside.{root_of_row}
 use Rattle.hd_graph.specs.ArrayRows.{object_id, roots_in}
-use Rattle.hd_graph.specs.Building.{stretch}
-use Rattle.hd_graph.specs.Numbering.{IsNumbered}
+use Rattle.hd_graph.specs.declared.numbering.Numbered.{Numbered}
+use Rattle.hd_graph.specs.declared.stretch.MadeStretch.{MadeStretch}
+use Rattle.hd_graph.specs.Building.{HasAllRows, HasAllShapes}
+use Rattle.hd_graph.specs.Made.{IsMade}
+use Rattle.hd_graph.specs.Numbering.{IsNumbered, JoinsNumbers}
 use Rattle.hd_graph.proofs.NumberLemmas.{sub_key, object_subs, ids-of-subs, standing-firsts}
 use Rattle.hd_graph.proofs.RowLemmas.{same}
-use Rattle.hd_graph.proofs.AllRowLemmas.{stretches}
+use Rattle.hd_graph.proofs.AllRowLemmas.{all-both, shapes-both}
 
 -- none of the later elements has the key of one of the earlier
 abbrev AreApart : {X : Type 0} → (X → ℕ) → List X → List X → Type 0
@@ -145,10 +149,42 @@ module _ (known : KnownClasses) (size : IdSize) (front back : List Sub) (ids : L
         ∙ k.no_fault;
   }
 
--- and so are the two parts of a whole list
-pub numbered-halves : (known : KnownClasses) (size : IdSize) (list : List Sub) (half len : ℕ) (ids : List ℕ) (roots : List StoredRoot) (tally : Tally) (more_ids : List ℕ) (more_roots : List StoredRoot) (more : Tally) → length list ≤ len
-    → IsNumbered known size (stretch 0 half list) ids roots tally → IsNumbered known size (stretch half (len - half) list) more_ids more_roots more → list_any (is_noted ids) more_ids ≡ false
-    → IsNumbered known size list (ids ++ more_ids) (roots ++ more_roots) (record { repeated = tally.repeated + more.repeated; opaque = tally.opaque + more.opaque })
-numbered-halves known size list half len ids roots tally more_ids more_roots more long h k new =
-    subst (λ (l : List Sub). IsNumbered known size l (ids ++ more_ids) (roots ++ more_roots) (record { repeated = tally.repeated + more.repeated; opaque = tally.opaque + more.opaque })) (stretches list half len long)
-    (numbered-join known size (stretch 0 half list) (stretch half (len - half) list) ids roots tally more_ids more_roots more h k new)
+-- no ID is in two of four parts
+pub record AreApartParts (first second third fourth : List ℕ) : Type 0 where
+  pub two : list_any (is_noted first) second ≡ false
+  pub three : list_any (is_noted (first ++ second)) third ≡ false
+  pub four : list_any (is_noted ((first ++ second) ++ third)) fourth ≡ false
+
+all-apart : (first second third fourth : List ℕ) → are_all_apart first second third fourth ≡ true → AreApartParts first second third fourth
+all-apart first second third fourth e = by (list_any (is_noted first) second) (list_any (is_noted (first ++ second)) third) (list_any (is_noted ((first ++ second) ++ third)) fourth) refl refl refl e
+  where
+    by : (a b c : Bool) → a ≡ list_any (is_noted first) second → b ≡ list_any (is_noted (first ++ second)) third → c ≡ list_any (is_noted ((first ++ second) ++ third)) fourth → (not a && not b && not c) ≡ true → AreApartParts first second third fourth
+    by false false false f g h t = record { two = sym f; three = sym g; four = sym h }
+    by true b c f g h t = absurd cc
+    by false true c f g h t = absurd cc
+    by false false true f g h t = absurd cc
+
+-- four stretches of which no ID is in two, one behind the other
+pub made-joined : (known : KnownClasses) (bytes : List ℕ) (size : IdSize) (A B C D : List Sub) (a b c d : MadeStretch) (all : Numbered) → IsMade known bytes size A a → IsMade known bytes size B b → IsMade known bytes size C c → IsMade known bytes size D d
+    → JoinsNumbers a.numbers b.numbers c.numbers d.numbers all → IsNumbered known size (((A ++ B) ++ C) ++ D) all.ids all.roots.items all.tally
+made-joined known bytes size A B C D a b c d all h k l m joins =
+    let parts = all-apart a.numbers.ids b.numbers.ids c.numbers.ids d.numbers.ids joins.apart in
+    let two = numbered-join known size A B _ _ _ _ _ _ h.numbers k.numbers parts.two in
+    let three = numbered-join known size (A ++ B) C _ _ _ _ _ _ two l.numbers parts.three in
+    rw (joins.ids_are, joins.roots_are, joins.tally_is) (numbered-join known size ((A ++ B) ++ C) D _ _ _ _ _ _ three m.numbers parts.four)
+
+-- their rows
+pub rows-joined : (known : KnownClasses) (bytes : List ℕ) (size : IdSize) (A B C D : List Sub) (a b c d : MadeStretch) → IsMade known bytes size A a → IsMade known bytes size B b → IsMade known bytes size C c → IsMade known bytes size D d
+    → HasAllRows known bytes size (((A ++ B) ++ C) ++ D) (joined_table (joined_table (joined_table a.rows.slot_table b.rows.slot_table) c.rows.slot_table) d.rows.slot_table)
+rows-joined known bytes size A B C D a b c d h k l m =
+    let two = all-both known bytes size A B _ _ h.rows k.rows in
+    let three = all-both known bytes size (A ++ B) C _ _ two l.rows in
+    all-both known bytes size ((A ++ B) ++ C) D _ _ three m.rows
+
+-- and their shapes
+pub shapes-joined : (known : KnownClasses) (bytes : List ℕ) (size : IdSize) (A B C D : List Sub) (a b c d : MadeStretch) → IsMade known bytes size A a → IsMade known bytes size B b → IsMade known bytes size C c → IsMade known bytes size D d
+    → HasAllShapes known size (((A ++ B) ++ C) ++ D) (((a.rows.shapes.objects ++ b.rows.shapes.objects) ++ c.rows.shapes.objects) ++ d.rows.shapes.objects)
+shapes-joined known bytes size A B C D a b c d h k l m =
+    let two = shapes-both known size A B a.rows.shapes.objects b.rows.shapes.objects h.shapes k.shapes in
+    let three = shapes-both known size (A ++ B) C _ c.rows.shapes.objects two l.shapes in
+    shapes-both known size ((A ++ B) ++ C) D _ d.rows.shapes.objects three m.shapes

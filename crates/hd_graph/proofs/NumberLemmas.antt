@@ -1,5 +1,5 @@
 -- Numbering objects, one sub-record after another.
-use Rattle.std.proofs.Common.{◌≡◌, ◌∙◌, ℕ, ◌+◌, ◌<◌, ◌≤◌, inl, inr, List, [], ◌∷◌, ◌++◌, length, map, take, drop, Option, Some, None, Bool, true, false, ◌&&◌, ◌||◌, cond, eqb, eq-eqb, ne_eqb, refl, sym, ap, subst, arith, All, append_assoc}
+use Rattle.std.proofs.Common.{◌≡◌, ◌∙◌, ℕ, ◌+◌, ◌<◌, ◌≤◌, inl, inr, List, [], ◌∷◌, ◌++◌, length, map, take, drop, Option, Some, None, Bool, true, false, ◌&&◌, ◌||◌, cond, eqb, eq-eqb, ne_eqb, refl, sym, ap, subst, arith, All, append_assoc, true≢false}
 use Rattle.std.specs.Prelude.{count_by, not}
 use Rattle.std.specs.Option.{option_map}
 use Rattle.std.specs.List.{list_any, filter_map, cons_option, slice_get}
@@ -165,6 +165,30 @@ module _ (known : KnownClasses) (size : IdSize) where
       by_noted true = omega (arith, opaque)
       by_noted false = let none : cond (is_opaque known item) 1 0 ≡ 0 = ap (λ (o : Bool). let n : ℕ = cond o 1 0 in n) plain in omega (arith, opaque, none)
 
+  -- an object of an ID that was noted before
+  pub noted-notes : (item : Item) (id : ℕ) (ids : List ℕ) (tally : Tally) (ids' : List ℕ) (tally' : Tally) → 0 < id → NotesId id ids tally.repeated ids' tally'.repeated → tally'.opaque ≡ tally.opaque
+      → is_noted ids id ≡ true → NotesObject known size item id ids tally ids' tally'
+  noted-notes item id ids tally ids' tally' some noted opaque old = record {
+    some = some;
+    noted = noted;
+    fits = λ new. absurd (true≢false (sym old ∙ new));
+    opaque = opaque ∙ by_noted (is_noted ids id) old;
+  }
+    where
+      by_noted : (b : Bool) → b ≡ true → tally.opaque ≡ tally.opaque + cond (not b && is_opaque known item) 1 0
+      by_noted true e = omega arith
+      by_noted false e = absurd (true≢false (sym e))
+
+  -- one of a new ID that fits
+  pub new-notes : (item : Item) (id : ℕ) (ids : List ℕ) (tally : Tally) (ids' : List ℕ) (tally' : Tally) (o : Bool) → 0 < id → NotesId id ids tally.repeated ids' tally'.repeated → is_opaque known item ≡ o → tally'.opaque ≡ tally.opaque + cond o 1 0
+      → is_noted ids id ≡ false → is_size_mismatch known size item ≡ false → NotesObject known size item id ids tally ids' tally'
+  new-notes item id ids tally ids' tally' o some noted is counted new fits = record {
+    some = some;
+    noted = noted;
+    fits = λ e. fits;
+    opaque = counted ∙ ap (λ (b : Bool). tally.opaque + cond (true && b) 1 0) (sym is) ∙ ap (λ (b : Bool). tally.opaque + cond (not b && is_opaque known item) 1 0) (sym new);
+  }
+
   -- no noted ID is 0
   null-new : (ids : List ℕ) → All (λ k. 0 < k) ids → list_any (λ k. eqb 0 k) ids ≡ false
   null-new [] all = refl
@@ -218,6 +242,12 @@ pub not-noted : (new noted : Bool) → new ≡ not noted → new ≡ true → no
 not-noted true true e f = absurd cc
 not-noted true false e f = refl
 not-noted false noted e f = absurd cc
+
+-- an ID that isn't
+pub was-noted : (new noted : Bool) → new ≡ not noted → new ≡ false → noted ≡ true
+was-noted false false e f = absurd cc
+was-noted false true e f = refl
+was-noted true noted e f = absurd cc
 
 -- the ID 0 stops an object of any kind
 pub null-stop : (known : KnownClasses) (size : IdSize) (item : Item) (id offset : ℕ) (ids : List ℕ) (f : ReadFault) → IsNullIdOrMemory id offset f → IsObjectStop known size item id offset ids f

@@ -6,3 +6,4 @@ pub mod ArrayRows
 pub mod Numbering
 pub mod Building
 pub mod Counting
+pub mod Made

@@ -15,7 +15,7 @@ use Rattle.hd_graph.specs.declared.number.Tally.{Tally}
 use Rattle.hd_graph.specs.declared.number.NumberedStretch.{NumberedStretch}
 use Rattle.hd_graph.specs.declared.numbering.Numbered.{Numbered}
 use Rattle.hd_graph.specs.GraphInside.{root_of_row}
-use Rattle.hd_ids.specs.Noted.{is_noted, are_apart}
+use Rattle.hd_ids.specs.Noted.{is_noted, are_all_apart}
 use Rattle.hd_classes.specs.Repeats.{NotesId}
 use Rattle.hd_graph.specs.ArrayRows.{object_id, object_ids, roots_in}
 
@@ -33,6 +33,10 @@ pub record IsNumbered (known : KnownClasses) (size : IdSize) (list : List Sub) (
   pub roots_are : map root_of_row roots ≡ roots_in list
   pub no_null : All (λ id. 0 < id) ids
   pub no_fault : object_faults known size list ≡ []
+
+-- what is counted of two stretches
+abbrev pub joined_tally : Tally → Tally → Tally
+joined_tally front back = record { repeated = front.repeated + back.repeated; opaque = front.opaque + back.opaque }
 
 -- one more sub-record is numbered
 abbrev pub NumbersOneMore : KnownClasses → IdSize → Sub → List ℕ → List StoredRoot → Tally → List ℕ → List StoredRoot → Tally → Type 0
@@ -59,9 +63,9 @@ IsNullIdOrMemory id offset f = (f ≡ fault causes.OutOfMemory 0) ⊎ ((id ≡ 0
 abbrev pub StopsAt : KnownClasses → IdSize → Sub → List ℕ → ReadFault → Type 0
 StopsAt known size s ids f = (f ≡ fault causes.OutOfMemory 0) ⊎ ((id : ℕ) × (object_id s ≡ Some id) × IsObjectStop known size s.item id s.offset ids f)
 
--- two stretches are numbered as one, the second behind the first: no ID is in both
-pub record JoinsNumbers (front back : NumberedStretch) (all : Numbered) : Type 0 where
-  pub apart : are_apart front.ids back.ids ≡ true
-  pub ids_are : all.ids ≡ front.ids ++ back.ids
-  pub roots_are : all.roots.items ≡ front.roots.items ++ back.roots.items
-  pub tally_is : all.tally ≡ record { repeated = front.tally.repeated + back.tally.repeated; opaque = front.tally.opaque + back.tally.opaque }
+-- four stretches are numbered as one, each behind the one before: no ID is in two
+pub record JoinsNumbers (first second third fourth : NumberedStretch) (all : Numbered) : Type 0 where
+  pub apart : are_all_apart first.ids second.ids third.ids fourth.ids ≡ true
+  pub ids_are : all.ids ≡ ((first.ids ++ second.ids) ++ third.ids) ++ fourth.ids
+  pub roots_are : all.roots.items ≡ ((first.roots.items ++ second.roots.items) ++ third.roots.items) ++ fourth.roots.items
+  pub tally_is : all.tally ≡ joined_tally (joined_tally (joined_tally first.tally second.tally) third.tally) fourth.tally

@@ -1,6 +1,7 @@
 //! Filling the rows and shapes of objects, in the order of their numbers.
-ghost use Rattle.std.specs.Prelude.{◌≡◌, ◌+◌, ◌<◌, ◌≤◌, ◌-◌, ◌^◌, [], ◌++◌, length, All, IfOk, OnOk};
+ghost use Rattle.std.specs.Prelude.{◌≡◌, ◌+◌, ◌<◌, ◌≤◌, ◌-◌, ◌^◌, [], ◌++◌, length, All, IfOk, IfSome, OnOk};
 ghost use Rattle.std.specs.List.{cons_option};
+ghost use Rattle.std.specs.Arc.{arc_value};
 ghost use Rattle.hd_terms.specs.FirstRecords.{id_of_item};
 ghost use Rattle.hd_classes.specs.Known.{known_at};
 ghost use Rattle.hd_slots.specs.JoinedInside.{joined_table};
@@ -36,20 +37,49 @@ pub(crate) struct Rows<'a> {
     pub(crate) shapes: JoinedShapes,
 }
 
+impl<'a> StretchRows<'a> {
+    /// The rows and the shapes of no objects, over these IDs.
+    fn none(
+        alloc: Global,
+        bytes: &'a [u8],
+        id_size: IdSize,
+        ids: Arc<JoinedIds>,
+    ) -> Result<StretchRows<'a>, AllocError>
+        requires small { length bytes.now < 2 ^ 31 }
+        requires few { length (arc_value ids) < 2 ^ 31 }
+        requires no_null { All (λ id. 0 < id) (arc_value ids) }
+        ensures rows { IfOk result (λ r. r.slot_table ≡ record { bytes = bytes.now; size = id_size; ids = arc_value ids; rows = []; filling = []; count = 0 }) }
+        ensures shapes { IfOk result (λ r. r.shapes.objects ≡ []) }
+    {
+        let slot_table = UnresolvedSlots::new(alloc, bytes, id_size, ids, 0)?;
+        let shapes = Shapes::with_capacity(alloc, 0, 0)?;
+        Ok(StretchRows { slot_table, shapes })
+    }
+}
+
 impl<'a> Rows<'a> {
-    /// The rows and the shapes of two stretches, those of the second behind those of the first.
-    pub(crate) fn join(front: StretchRows<'a>, back: StretchRows<'a>) -> Rows<'a>
-        requires bytes { back.slot_table.bytes ≡ front.slot_table.bytes }
-        requires size { back.slot_table.size ≡ front.slot_table.size }
-        requires ids { back.slot_table.ids ≡ front.slot_table.ids }
-        requires filled { front.slot_table.filling ≡ [] }
-        requires back_filled { back.slot_table.filling ≡ [] }
-        ensures rows { result.slot_table ≡ joined_table front.entry.slot_table back.entry.slot_table }
-        ensures shapes { result.shapes.objects ≡ front.entry.shapes.objects ++ back.entry.shapes.objects }
+    /// The rows and the shapes of four stretches, those of each behind those of the one before.
+    pub(crate) fn join(
+        first: StretchRows<'a>,
+        second: StretchRows<'a>,
+        third: StretchRows<'a>,
+        fourth: StretchRows<'a>,
+    ) -> Rows<'a>
+        requires bytes { (second.slot_table.bytes ≡ first.slot_table.bytes) × (third.slot_table.bytes ≡ first.slot_table.bytes) × (fourth.slot_table.bytes ≡ first.slot_table.bytes) }
+        requires size { (second.slot_table.size ≡ first.slot_table.size) × (third.slot_table.size ≡ first.slot_table.size) × (fourth.slot_table.size ≡ first.slot_table.size) }
+        requires ids { (second.slot_table.ids ≡ first.slot_table.ids) × (third.slot_table.ids ≡ first.slot_table.ids) × (fourth.slot_table.ids ≡ first.slot_table.ids) }
+        requires filled { (first.slot_table.filling ≡ []) × (second.slot_table.filling ≡ []) × (third.slot_table.filling ≡ []) × (fourth.slot_table.filling ≡ []) }
+        ensures rows { result.slot_table ≡ joined_table (joined_table (joined_table first.entry.slot_table second.entry.slot_table) third.entry.slot_table) fourth.entry.slot_table }
+        ensures shapes { result.shapes.objects ≡ ((first.entry.shapes.objects ++ second.entry.shapes.objects) ++ third.entry.shapes.objects) ++ fourth.entry.shapes.objects }
     {
         Rows {
-            slot_table: JoinedRows::join(front.slot_table, back.slot_table),
-            shapes: JoinedShapes::join(front.shapes, back.shapes),
+            slot_table: JoinedRows::join(
+                first.slot_table,
+                second.slot_table,
+                third.slot_table,
+                fourth.slot_table,
+            ),
+            shapes: JoinedShapes::join(first.shapes, second.shapes, third.shapes, fourth.shapes),
         }
     }
 }
@@ -69,7 +99,7 @@ fn id_of(item: Item<'_>) -> Option<u64>
 
 /// Adds the row and the shape of the object of a sub-record, if it is one.
 #[inline(always)]
-fn fill_one(
+pub(crate) fn fill_one(
     alloc: Global,
     slot_table: &mut UnresolvedSlots<'_>,
     shapes: &mut Shapes,
@@ -160,67 +190,6 @@ fn fill_first_rows(
     Ok(())
 }
 
-/// Adds the row and the shape of the object of each of some sub-records that is one, whether its ID is an earlier one's or not: so
-/// many from the first on.
-fn fill_all(
-    alloc: Global,
-    slot_table: &mut UnresolvedSlots<'_>,
-    shapes: &mut Shapes,
-    layouts: &mut LayoutBytes<'_>,
-    list: &DumpSubs<'_>,
-    first: usize,
-    count: usize,
-) -> Result<(), AllocError>
-    requires size { layouts.old.size ≡ slot_table.old.size }
-    requires within { AreWithin slot_table.old.size slot_table.old.bytes list.now }
-    requires there { first + count ≤ length list.now }
-    requires no_ids { slot_table.old.ids ≡ [] }
-    requires empty { HasNoRows (columns slot_table.old shapes.old.objects) }
-    requires classes { AreLayouts layouts.old.size layouts.old.classes shapes.old.layouts }
-    ensures rows { OnOk result (HasAllRows (known_at layouts.old.classes) slot_table.old.bytes slot_table.old.size (stretch first count list.now) slot_table.new) }
-    ensures shapes { OnOk result (HasAllShapes (known_at layouts.old.classes) slot_table.old.size (stretch first count list.now) shapes.new.objects) }
-{
-    let subs = list.as_list();
-    for i in 0..count {
-        fill_one(alloc, slot_table, shapes, layouts, subs.get(first + i))?;
-    }
-    Ok(())
-}
-
-/// The references and the shapes of the objects of some sub-records, whether their IDs are repeated or not, over no IDs: of so many
-/// sub-records from the first on.
-pub(crate) fn rows_of_stretch<'a>(
-    alloc: Global,
-    classes: &Classes,
-    id_size: IdSize,
-    bytes: &'a [u8],
-    list: &DumpSubs<'_>,
-    first: usize,
-    count: usize,
-) -> Result<StretchRows<'a>, AllocError>
-    requires within { AreWithin id_size bytes.now list.now }
-    requires small { length bytes.now < 2 ^ 31 }
-    requires classes { AreFewAndShort classes.now }
-    requires there { first + count ≤ length list.now }
-    ensures rows { IfOk result (λ r. HasAllRows (known_at classes.now) bytes.now id_size (stretch first count list.now) r.slot_table) }
-    ensures shapes { IfOk result (λ r. HasAllShapes (known_at classes.now) id_size (stretch first count list.now) r.shapes.objects) }
-{
-    let mut layouts = LayoutBytes::new(alloc, classes, id_size)?;
-    let mut shapes = Shapes::with_capacity(alloc, count, classes.len())?;
-    let no_ids = Arc::new(alloc, JoinedIds::none(alloc)?)?;
-    let mut slot_table = UnresolvedSlots::new(alloc, bytes, id_size, no_ids, count)?;
-    fill_all(
-        alloc,
-        &mut slot_table,
-        &mut shapes,
-        &mut layouts,
-        list,
-        first,
-        count,
-    )?;
-    Ok(StretchRows { slot_table, shapes })
-}
-
 /// The references and the shapes of the objects of a file, by the file offsets of the references' IDs, where IDs are repeated:
 /// those of the first object of each ID.
 fn first_rows_of<'a>(
@@ -243,22 +212,21 @@ fn first_rows_of<'a>(
     let mut layouts = LayoutBytes::new(alloc, classes, id_size)?;
     let mut shapes = Shapes::with_capacity(alloc, count, classes.len())?;
     let ids = Arc::new(alloc, ids)?;
-    let back = UnresolvedSlots::new(alloc, bytes, id_size, Arc::try_clone(&ids)?, 0)?;
+    let second = StretchRows::none(alloc, bytes, id_size, Arc::try_clone(&ids)?)?;
+    let third = StretchRows::none(alloc, bytes, id_size, Arc::try_clone(&ids)?)?;
+    let fourth = StretchRows::none(alloc, bytes, id_size, Arc::try_clone(&ids)?)?;
     let mut slot_table = UnresolvedSlots::new(alloc, bytes, id_size, ids, count)?;
     fill_first_rows(alloc, &mut slot_table, &mut shapes, &mut layouts, list)?;
-    let none = Shapes::with_capacity(alloc, 0, 0)?;
-    Ok(Rows {
-        slot_table: JoinedRows::join(slot_table, back),
-        shapes: JoinedShapes::join(shapes, none),
-    })
+    let first = StretchRows { slot_table, shapes };
+    Ok(Rows::join(first, second, third, fourth))
 }
 
-/// The references and the shapes of the objects of these IDs, each once, by those of all sub-records. Where no ID is repeated they
-/// are the same; else they are made anew.
+/// The references and the shapes of the objects of these IDs, each once. Those of all sub-records are the same where no ID is
+/// repeated; where they aren't given, or some are repeated, they are made anew.
 pub(crate) fn rows_of<'a>(
     alloc: Global,
     ids: JoinedIds,
-    all: Rows<'a>,
+    all: Option<Rows<'a>>,
     classes: &Classes,
     id_size: IdSize,
     bytes: &'a [u8],
@@ -270,17 +238,18 @@ pub(crate) fn rows_of<'a>(
     requires no_null { All (λ id. 0 < id) ids }
     requires few { length ids < 2 ^ 31 }
     requires classes { AreFewAndShort classes.now }
-    requires rows { HasAllRows (known_at classes.now) bytes.now id_size list.now all.slot_table }
-    requires shapes { HasAllShapes (known_at classes.now) id_size list.now all.shapes.objects }
+    requires rows { IfSome all (λ r. HasAllRows (known_at classes.now) bytes.now id_size list.now r.slot_table) }
+    requires shapes { IfSome all (λ r. HasAllShapes (known_at classes.now) id_size list.now r.shapes.objects) }
     ensures { IfOk result (λ rows. HasRowsOf (known_at classes.now) bytes.now id_size list.now (columns rows.slot_table rows.shapes.objects)) }
 {
-    let Rows { slot_table, shapes } = all;
-    if shapes.len() == ids.len() {
-        let slot_table = slot_table.with_ids(alloc, ids)?;
-        return Ok(Rows { slot_table, shapes });
+    if let Some(Rows { slot_table, shapes }) = all {
+        if shapes.len() == ids.len() {
+            let slot_table = slot_table.with_ids(alloc, ids)?;
+            return Ok(Rows { slot_table, shapes });
+        }
+        drop(slot_table);
+        drop(shapes);
     }
-    drop(slot_table);
-    drop(shapes);
     let rows = first_rows_of(alloc, ids, classes, id_size, bytes, list)?;
     Ok(rows)
 }

@@ -15,6 +15,7 @@ mod number;
 mod numbering;
 mod opening;
 mod sharing;
+mod stretch;
 
 pub use graph::{Graph, RootRead, SlotName, SlotRead};
 pub use opening::open_dump;

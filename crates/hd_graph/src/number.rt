@@ -2,18 +2,21 @@
 ghost use Rattle.std.specs.Prelude.{◌≡◌, ◌+◌, ◌<◌, ◌≤◌, ◌-◌, drop, ◌^◌, ℕ, true, not, if◌then◌else◌, length, All, IfOk, IfErr, OnOk};
 ghost use Rattle.hd_terms.specs.Classes as classes_of;
 ghost use Rattle.hd_terms.specs.SubRecords.{Instance};
-ghost use Rattle.hd_classes.specs.Known.{known_at};
+ghost use Rattle.hd_terms.specs.declared.IdSize.{IdSize};
+ghost use Rattle.hd_terms.specs.declared.Span.{Span};
+ghost use Rattle.hd_classes.specs.Fits.{IsFit};
+ghost use Rattle.hd_classes.specs.Known.{Known, known_at};
 ghost use Rattle.hd_subs.specs.Views.{sub_view};
 ghost use Rattle.hd_ids.specs.Noted.{is_noted};
 ghost use Rattle.hd_classes.specs.Repeats.{NotesId};
 ghost use Rattle.hd_graph.specs.Building.{stretch};
-ghost use Rattle.hd_graph.specs.Numbering.{IsNumbered, NumbersOneMore, IsObjectFaultOrMemory, NotesObject, IsObjectStop, IsNullIdOrMemory, StopsAt};
+ghost use Rattle.hd_graph.specs.Numbering.{IsNumbered, joined_tally, NumbersOneMore, IsObjectFaultOrMemory, NotesObject, IsObjectStop, IsNullIdOrMemory, StopsAt};
 
 use crate::graph::StoredRoot;
 use hd_classes::{Classes, Fit, LayoutBytes, note_id};
 use hd_ids::ObjectIds;
 use hd_subs::{DumpSubs, Item, Sub};
-use hd_terms::{Cause, IdSize, ReadFault, Span};
+use hd_terms::{Cause, IdSize, ReadFault};
 use std::alloc::Global;
 
 /// What is counted of objects.
@@ -23,6 +26,20 @@ pub(crate) struct Tally {
     pub(crate) repeated: u64,
     /// How many instances have a class that isn't known.
     pub(crate) opaque: u64,
+}
+
+impl Tally {
+    /// What is counted of both.
+    pub(crate) fn with(self, more: Tally) -> Tally
+        requires repeated { self.repeated + more.repeated < 2 ^ 64 }
+        requires opaque { self.opaque + more.opaque < 2 ^ 64 }
+        ensures { result ≡ joined_tally self more }
+    {
+        Tally {
+            repeated: self.repeated + more.repeated,
+            opaque: self.opaque + more.opaque,
+        }
+    }
 }
 
 /// The numbers of the objects of some sub-records, and the roots.
@@ -58,42 +75,40 @@ fn number_object(
     Ok(new)
 }
 
-/// Numbers an instance. If its ID is new, it has to fit its class's layout, and it is counted if its class isn't known.
+/// Numbers an instance, by how its values fit the layout of its class. If its ID is new, they have to fit, and it is counted if its
+/// class isn't known.
 #[inline(always)]
-fn number_instance(
+pub(crate) fn number_fitted(
     ids: &mut ObjectIds,
     tally: &mut Tally,
-    layouts: &mut LayoutBytes<'_>,
+    fit: Fit,
     id: u64,
-    class: u64,
-    values: Span,
     offset: u64,
 ) -> Result<(), ReadFault>
     requires repeated { tally.old.repeated + 1 < 2 ^ 64 }
     requires opaque { tally.old.opaque + 1 < 2 ^ 64 }
-    ensures ok { OnOk result (NotesObject (known_at layouts.old.classes) layouts.old.size (Instance id class values) id ids.old tally.old ids.new tally.new) }
-    ensures err { IfErr result (λ f. IsObjectStop (known_at layouts.old.classes) layouts.old.size (Instance id class values) id offset ids.old f) }
-    ensures same { OnOk result (layouts.new ≡ layouts.old) }
+    ensures ok { OnOk result ((classes : Known) (size : IdSize) (class : ℕ) (values : Span) → IsFit size values.len classes class fit → NotesObject (known_at classes) size (Instance id class values) id ids.old tally.old ids.new tally.new) }
+    ensures err { IfErr result (λ f. (classes : Known) (size : IdSize) (class : ℕ) (values : Span) → IsFit size values.len classes class fit → IsObjectStop (known_at classes) size (Instance id class values) id offset ids.old f) }
 {
     if !number_object(ids, tally, id, offset)? {
         return Ok(());
     }
-    match layouts.fit(class, values.len) {
-        Fit::Unknown => tally.opaque += 1,
-        Fit::Misfit => {
-            return Err(ReadFault {
-                cause: Cause::InstanceSize,
-                offset,
-            });
+    match fit {
+        Fit::Unknown => {
+            tally.opaque += 1;
+            Ok(())
         }
-        Fit::Class(_) => {}
+        Fit::Misfit => Err(ReadFault {
+            cause: Cause::InstanceSize,
+            offset,
+        }),
+        Fit::Class(_) => Ok(()),
     }
-    Ok(())
 }
 
 /// Numbers an object, or keeps a root.
 #[inline(always)]
-fn number_one(
+pub(crate) fn number_one(
     ids: &mut ObjectIds,
     roots: &mut Vec<StoredRoot>,
     tally: &mut Tally,
@@ -113,7 +128,8 @@ fn number_one(
             number_object(ids, tally, class.id, offset)?;
         }
         Item::Instance { id, class, values } => {
-            number_instance(ids, tally, layouts, id, class, values, offset)?;
+            let fit = layouts.fit(class, values.len);
+            number_fitted(ids, tally, fit, id, offset)?;
         }
         Item::ObjArray { id, .. } => {
             number_object(ids, tally, id, offset)?;

@@ -1,7 +1,7 @@
 //! The numbers of the objects of a file, by those of two stretches of its sub-records.
 ghost use Rattle.std.specs.Prelude.{◌≡◌, ◌+◌, ◌-◌, ◌<◌, ◌≤◌, ◌^◌, ℕ, false, length, All, IfOk, IfErr, MatchOption};
 ghost use Rattle.hd_terms.specs.Classes as classes_of;
-ghost use Rattle.hd_ids.specs.Noted.{are_apart};
+ghost use Rattle.hd_ids.specs.Noted.{are_all_apart};
 ghost use Rattle.hd_classes.specs.Known.{known_at};
 ghost use Rattle.hd_graph.specs.Building.{stretch};
 ghost use Rattle.hd_graph.specs.Numbering.{IsNumbered, IsObjectFaultOrMemory, JoinsNumbers};
@@ -22,38 +22,35 @@ pub(crate) struct Numbered {
     pub(crate) tally: Tally,
 }
 
-/// The objects of two stretches of sub-records, those of the second numbered behind those of the first; `None` if an ID is in both.
-fn join_numbers(
-    front: NumberedStretch,
-    back: NumberedStretch,
+/// The objects of four stretches of sub-records, those of each numbered behind those of the one before; `None` if an ID is in two.
+pub(crate) fn join_numbers(
+    first: NumberedStretch,
+    second: NumberedStretch,
+    third: NumberedStretch,
+    fourth: NumberedStretch,
 ) -> Result<Option<Numbered>, AllocError>
-    requires repeated { front.tally.repeated + back.tally.repeated < 2 ^ 64 }
-    requires opaque { front.tally.opaque + back.tally.opaque < 2 ^ 64 }
-    ensures { IfOk result (λ joined. MatchOption joined (are_apart front.ids back.ids ≡ false) (JoinsNumbers front back)) }
+    requires repeated { first.tally.repeated + second.tally.repeated + third.tally.repeated + fourth.tally.repeated < 2 ^ 64 }
+    requires opaque { first.tally.opaque + second.tally.opaque + third.tally.opaque + fourth.tally.opaque < 2 ^ 64 }
+    ensures { IfOk result (λ joined. MatchOption joined (are_all_apart first.ids second.ids third.ids fourth.ids ≡ false) (JoinsNumbers first second third fourth)) }
 {
-    let NumberedStretch {
-        ids,
-        mut roots,
-        tally,
-    } = front;
-    let NumberedStretch {
-        ids: more_ids,
-        roots: more_roots,
-        tally: more,
-    } = back;
-    let Some(ids) = JoinedIds::join(ids, more_ids) else {
+    let tally = first
+        .tally
+        .with(second.tally)
+        .with(third.tally)
+        .with(fourth.tally);
+    let mut roots = first.roots;
+    let Some(ids) = JoinedIds::join(first.ids, second.ids, third.ids, fourth.ids) else {
         return Ok(None);
     };
-    roots.extend_from_slice(more_roots.as_slice())?;
-    let tally = Tally {
-        repeated: tally.repeated + more.repeated,
-        opaque: tally.opaque + more.opaque,
-    };
+    roots.extend_from_slice(second.roots.as_slice())?;
+    roots.extend_from_slice(third.roots.as_slice())?;
+    roots.extend_from_slice(fourth.roots.as_slice())?;
     Ok(Some(Numbered { ids, roots, tally }))
 }
 
-/// The numbers of the objects of all sub-records, one after the other.
-fn number_alone(
+/// The numbers of the objects of a file, numbered one after the other: each ID once, how many objects are repeated or opaque, and the
+/// roots. An object with ID 0, and an instance that doesn't fit its class's layout, are faults. The secret is for the hashes of IDs.
+pub(crate) fn number_alone(
     alloc: Global,
     list: &DumpSubs<'_>,
     classes: &Classes,
@@ -75,36 +72,4 @@ fn number_alone(
     )?;
     let ids = JoinedIds::alone(alloc, ids)?;
     Ok(Numbered { ids, roots, tally })
-}
-
-/// The numbers of the objects of a file: each ID once, how many objects are repeated or opaque, and the roots. An object with ID 0,
-/// and an instance that doesn't fit its class's layout, are faults. The secret is for the hashes of IDs.
-///
-/// They are made of those of the first sub-records and of the others. If an ID is in both, or there is a fault, all objects are
-/// numbered anew, one after the other.
-pub(crate) fn numbers_of_both(
-    alloc: Global,
-    list: &DumpSubs<'_>,
-    classes: &Classes,
-    id_size: IdSize,
-    secret: u64,
-    split: usize,
-    front: Result<NumberedStretch, ReadFault>,
-    back: Result<NumberedStretch, ReadFault>,
-) -> Result<Numbered, ReadFault>
-    requires short { All (λ (p : ℕ × classes_of.ResolvedClass). length p.1.layout < 2 ^ 29) classes.now.classes }
-    requires there { split ≤ length list.now }
-    requires count { length list.now < 2 ^ 64 }
-    requires front { IfOk front (λ n. IsNumbered (known_at classes.now) id_size (stretch 0 split list.now) n.ids n.roots.items n.tally) }
-    requires back { IfOk back (λ n. IsNumbered (known_at classes.now) id_size (stretch split (length list.now - split) list.now) n.ids n.roots.items n.tally) }
-    ensures ok { IfOk result (λ n. IsNumbered (known_at classes.now) id_size list.now n.ids n.roots.items n.tally) }
-    ensures err { IfErr result (λ f. IsObjectFaultOrMemory (known_at classes.now) id_size list.now f) }
-{
-    if let Ok(front) = front
-        && let Ok(back) = back
-        && let Some(numbered) = join_numbers(front, back)?
-    {
-        return Ok(numbered);
-    }
-    number_alone(alloc, list, classes, id_size, secret)
 }

@@ -65,19 +65,21 @@ returns-in_ok-number_object-in-PrimArray-clause-ok c = λ front h.
     (ap (λ i. id_of_item (item_view i)) c.in-PrimArray.is)
     (ap (λ i. cons_option (root_of_item (item_view i)) []) c.in-PrimArray.is)
 
-pub returns-in_err-number_instance-in-Instance-clause-err : goal.returns-in_err-number_instance-in-Instance-clause-err
-returns-in_err-number_instance-in-Instance-clause-err c =
-    let p = err_from_is_err_and c.from_residual-in_err-number_instance-in-Instance.result c.from_residual-in_err-number_instance-in-Instance.ensures.1 in
+pub returns-in_err-number_fitted-in-Instance-clause-err : goal.returns-in_err-number_fitted-in-Instance-clause-err
+returns-in_err-number_fitted-in-Instance-clause-err c =
+    let p = err_from_is_err_and c.from_residual-in_err-number_fitted-in-Instance.result c.from_residual-in_err-number_fitted-in-Instance.ensures.1 in
+    let stop = c.in_err-number_fitted-in-Instance.ensures.err c.args.layouts.now.classes c.args.layouts.now.size c.in-Instance.class c.in-Instance.values c.fit-fit.ensures.fit in
     rw (p.1, p.2) (inr (
       c.in-Instance.id,
       ap (λ i. id_of_item (item_view i)) c.in-Instance.is,
-      subst (λ (i : Item). IsObjectStop (known_at c.args.layouts.now.classes) c.args.layouts.now.size i c.in-Instance.id c.args.sub.offset c.args.ids.now c.in_err-number_instance-in-Instance.field-0.0) (sym (ap item_view c.in-Instance.is)) c.in_err-number_instance-in-Instance.ensures.err,
+      subst (λ (i : Item). IsObjectStop (known_at c.args.layouts.now.classes) c.args.layouts.now.size i c.in-Instance.id c.args.sub.offset c.args.ids.now c.in_err-number_fitted-in-Instance.field-0.0) (sym (ap item_view c.in-Instance.is)) stop,
     ))
 
-pub returns-in_ok-number_instance-in-Instance-clause-ok : goal.returns-in_ok-number_instance-in-Instance-clause-ok
-returns-in_ok-number_instance-in-Instance-clause-ok c = λ front h.
+pub returns-in_ok-number_fitted-in-Instance-clause-ok : goal.returns-in_ok-number_fitted-in-Instance-clause-ok
+returns-in_ok-number_fitted-in-Instance-clause-ok c = λ front h.
     let s : Sub = sub_view c.args.sub in
+    let notes = c.in_ok-number_fitted-in-Instance.ensures.ok c.args.layouts.now.classes c.args.layouts.now.size c.in-Instance.class c.in-Instance.values c.fit-fit.ensures.fit in
     object-push (known_at c.args.layouts.now.classes) c.args.layouts.now.size front c.args.ids.now c.args.roots.now.items c.args.tally.now h s c.in-Instance.id _ _
-    (subst (λ (i : Item). NotesObject (known_at c.args.layouts.now.classes) c.args.layouts.now.size i c.in-Instance.id c.args.ids.now c.args.tally.now c.number_instance.new.ids c.number_instance.new.tally) (sym (ap item_view c.in-Instance.is)) c.in_ok-number_instance-in-Instance.ensures.ok)
+    (subst (λ (i : Item). NotesObject (known_at c.args.layouts.now.classes) c.args.layouts.now.size i c.in-Instance.id c.args.ids.now c.args.tally.now c.number_fitted.new.ids c.number_fitted.new.tally) (sym (ap item_view c.in-Instance.is)) notes)
     (ap (λ i. id_of_item (item_view i)) c.in-Instance.is)
     (ap (λ i. cons_option (root_of_item (item_view i)) []) c.in-Instance.is)
