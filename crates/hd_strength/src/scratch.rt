@@ -47,11 +47,16 @@ fn join_kept(alloc: Global, parts: Vec<Part>) -> Result<Vec<PackedReached>, NoMe
     Ok(kept)
 }
 
-/// The strengths that all parts found, in the order of their objects' numbers.
-fn join_strengths(alloc: Global, parts: Vec<Part>) -> Result<Vec<Strength>, NoMemory>
+/// The strengths that all parts found, in the order of their objects' numbers. There is room for those of so many objects at once,
+/// so that nothing is copied twice.
+fn join_strengths(
+    alloc: Global,
+    parts: Vec<Part>,
+    objects: u32,
+) -> Result<Vec<Strength>, NoMemory>
     ensures { IfOk result (λ strengths. strengths.items ≡ map strength_of (found_in parts.items)) }
 {
-    let mut strengths = Vec::new(alloc);
+    let mut strengths = Vec::with_capacity(alloc, objects as usize)?;
     for part in parts {
         let mut list = part.into_found().into_strengths();
         strengths.append(&mut list)?;
@@ -150,6 +155,6 @@ pub fn strengths_alone<R: Threads + Sync>(
         removed: &removed,
     };
     let Search { parts, whole: _ } = find(rt, alloc, edited, false)?;
-    let strengths = join_strengths(alloc, parts)?;
+    let strengths = join_strengths(alloc, parts, graph.objects())?;
     Ok(strengths)
 }
