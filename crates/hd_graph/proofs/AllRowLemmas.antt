@@ -68,13 +68,8 @@ at-distance list first i s from is =
     let e : i ≡ first + (i - first) = omega arith in
     at-later list first (i - first) s (subst (λ (n : ℕ). slice_get list n ≡ Some s) e is)
 
--- the same of a stretch of the sub-records
-pub stretch-next : (known : KnownClasses) (bytes : List ℕ) (size : IdSize) (list : List Sub) (first i : ℕ) (s : Sub) → slice_get list (first + i) ≡ Some s → (old new : Table)
-    → HasAllRows known bytes size (stretch first i list) old → AddsItemRow known old.bytes old.size s.item old new → HasAllRows known bytes size (stretch first (i + 1) list) new
-stretch-next known bytes size list first i s is = all-next known bytes size (drop first list) i s (at-later list first i s is)
-
--- it weighs no more than all
-pub stretch-weight : (list : List Sub) (first i : ℕ) (s : Sub) → slice_get list (first + i) ≡ Some s → weight (stretch first i list) + item_weight s.item ≤ weight list
+-- a stretch of the sub-records weighs no more than all
+stretch-weight : (list : List Sub) (first i : ℕ) (s : Sub) → slice_get list (first + i) ≡ Some s → weight (stretch first i list) + item_weight s.item ≤ weight list
 stretch-weight list first i s is =
     let rest = weight-at (drop first list) i s (at-later list first i s is) in
     omega (arith, rest, sum_by-append (λ (x : Sub). item_weight x.item) (take first list) (drop first list), ap weight (take-append-drop first list))

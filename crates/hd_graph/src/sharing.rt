@@ -4,7 +4,7 @@
 //! each quarter then stand behind those of the one before. Where that can't be, since an ID is in two quarters or another than
 //! the first has a fault, all objects are numbered anew by one thread. The first thread begins the others; where the system
 //! refuses one, it does that part itself.
-ghost use Rattle.std.specs.Prelude.{◌≡◌, ◌-◌, ◌+◌, ◌<◌, ◌≤◌, ◌^◌, [], ◌++◌, drop, length, IfOk, IfErr, IfSome};
+ghost use Rattle.std.specs.Prelude.{◌≡◌, ◌-◌, ◌+◌, ◌<◌, ◌≤◌, ◌^◌, [], ◌++◌, length, IfOk, IfErr, IfSome};
 ghost use Rattle.hd_slots.specs.JoinedInside.{joined_table};
 ghost use Rattle.hd_classes.specs.Known.{known_at};
 ghost use Rattle.hd_graph.specs.ArrayRows.{AreWithin};
@@ -22,7 +22,7 @@ use std::alloc::{AllocError, Global};
 use std::thread::{Threads, join};
 
 /// The numbers, the rows and the shapes of the objects of two stretches of the sub-records, made side by side: of those from the first
-/// index to the middle one, and of those from there to the end.
+/// index to the next, and of those from there to the end.
 fn make_two<'a, R: Threads + Sync>(
     rt: &R,
     alloc: Global,
@@ -32,7 +32,7 @@ fn make_two<'a, R: Threads + Sync>(
     id_size: IdSize,
     secret: u64,
     first: usize,
-    middle: usize,
+    second: usize,
     end: usize,
 ) -> (
     Result<MadeStretch<'a>, ReadFault>,
@@ -41,27 +41,78 @@ fn make_two<'a, R: Threads + Sync>(
     requires within { AreWithin id_size bytes.now list.now }
     requires small { length bytes.now < 2 ^ 31 }
     requires classes { AreFewAndShort classes.now }
-    requires there { (first ≤ middle) × (middle ≤ end) × (end ≤ length list.now) }
-    ensures front { IfOk result.0 (IsMade (known_at classes.now) bytes.now id_size (stretch first (middle - first) list.now)) }
-    ensures back { IfOk result.1 (IsMade (known_at classes.now) bytes.now id_size (stretch middle (end - middle) list.now)) }
-    ensures err { IfErr result.0 (λ f. IsObjectFaultOrMemory (known_at classes.now) id_size (drop first list.now) f) }
+    requires there { (first ≤ second) × (second ≤ end) × (end ≤ length list.now) }
+    ensures front { IfOk result.0 (IsMade (known_at classes.now) bytes.now id_size (stretch first (second - first) list.now)) }
+    ensures back { IfOk result.1 (IsMade (known_at classes.now) bytes.now id_size (stretch second (end - second) list.now)) }
 {
     let front = || -> Result<MadeStretch<'_>, ReadFault>
         requires within { AreWithin id_size bytes.now list.now }
         requires small { length bytes.now < 2 ^ 31 }
         requires classes { AreFewAndShort classes.now }
-        requires there { (first ≤ middle) × (middle ≤ length list.now) }
-        ensures made { IfOk result (IsMade (known_at classes.entry.now) bytes.entry.now id_size (stretch first (middle - first) list.entry.now)) }
-        ensures err { IfErr result (λ f. IsObjectFaultOrMemory (known_at classes.entry.now) id_size (drop first list.entry.now) f) }
-    { make_stretch(alloc, bytes, list, classes, id_size, secret, first, middle) };
+        requires there { (first ≤ second) × (second ≤ length list.now) }
+        ensures { IfOk result (IsMade (known_at classes.entry.now) bytes.entry.now id_size (stretch first (second - first) list.entry.now)) }
+    { make_stretch(alloc, bytes, list, classes, id_size, secret, first, second) };
     let back = || -> Result<MadeStretch<'_>, ReadFault>
         requires within { AreWithin id_size bytes.now list.now }
         requires small { length bytes.now < 2 ^ 31 }
         requires classes { AreFewAndShort classes.now }
-        requires there { (middle ≤ end) × (end ≤ length list.now) }
-        ensures { IfOk result (IsMade (known_at classes.entry.now) bytes.entry.now id_size (stretch middle (end - middle) list.entry.now)) }
-    { make_stretch(alloc, bytes, list, classes, id_size, secret, middle, end) };
+        requires there { (second ≤ end) × (end ≤ length list.now) }
+        ensures { IfOk result (IsMade (known_at classes.entry.now) bytes.entry.now id_size (stretch second (end - second) list.entry.now)) }
+    { make_stretch(alloc, bytes, list, classes, id_size, secret, second, end) };
     join(rt, front, back)
+}
+
+/// The same of three stretches, each of which ends where the next begins.
+fn make_three<'a, R: Threads + Sync>(
+    rt: &R,
+    alloc: Global,
+    bytes: &'a [u8],
+    list: &DumpSubs<'_>,
+    classes: &Classes,
+    id_size: IdSize,
+    secret: u64,
+    first: usize,
+    second: usize,
+    third: usize,
+    end: usize,
+) -> (
+    Result<MadeStretch<'a>, ReadFault>,
+    (
+        Result<MadeStretch<'a>, ReadFault>,
+        Result<MadeStretch<'a>, ReadFault>,
+    ),
+)
+    requires within { AreWithin id_size bytes.now list.now }
+    requires small { length bytes.now < 2 ^ 31 }
+    requires classes { AreFewAndShort classes.now }
+    requires there { (first ≤ second) × (second ≤ third) × (third ≤ end) × (end ≤ length list.now) }
+    ensures front { IfOk result.0 (IsMade (known_at classes.now) bytes.now id_size (stretch first (second - first) list.now)) }
+    ensures middle { IfOk result.1.0 (IsMade (known_at classes.now) bytes.now id_size (stretch second (third - second) list.now)) }
+    ensures back { IfOk result.1.1 (IsMade (known_at classes.now) bytes.now id_size (stretch third (end - third) list.now)) }
+{
+    let front = || -> Result<MadeStretch<'_>, ReadFault>
+        requires within { AreWithin id_size bytes.now list.now }
+        requires small { length bytes.now < 2 ^ 31 }
+        requires classes { AreFewAndShort classes.now }
+        requires there { (first ≤ second) × (second ≤ length list.now) }
+        ensures { IfOk result (IsMade (known_at classes.entry.now) bytes.entry.now id_size (stretch first (second - first) list.entry.now)) }
+    { make_stretch(alloc, bytes, list, classes, id_size, secret, first, second) };
+    let rest = || -> (
+        Result<MadeStretch<'_>, ReadFault>,
+        Result<MadeStretch<'_>, ReadFault>,
+    )
+        requires within { AreWithin id_size bytes.now list.now }
+        requires small { length bytes.now < 2 ^ 31 }
+        requires classes { AreFewAndShort classes.now }
+        requires there { (second ≤ third) × (third ≤ end) × (end ≤ length list.now) }
+        ensures front { IfOk result.0 (IsMade (known_at classes.entry.now) bytes.entry.now id_size (stretch second (third - second) list.entry.now)) }
+        ensures back { IfOk result.1 (IsMade (known_at classes.entry.now) bytes.entry.now id_size (stretch third (end - third) list.entry.now)) }
+    {
+        make_two(
+            rt, alloc, bytes, list, classes, id_size, secret, second, third, end,
+        )
+    };
+    join(rt, front, rest)
 }
 
 /// The numbers, the rows and the shapes of four stretches as one, those of each behind those of the one before; `None` if an ID is in
@@ -113,38 +164,34 @@ pub(crate) fn numbers_and_rows<'a, R: Threads + Sync>(
     let second = len / 4;
     let third = len / 2;
     let fourth = len - second;
-    let front = || -> (
+    let front = || -> Result<MadeStretch<'_>, ReadFault>
+        requires within { AreWithin id_size bytes.now list.now }
+        requires small { length bytes.now < 2 ^ 31 }
+        requires classes { AreFewAndShort classes.now }
+        requires there { second ≤ length list.now }
+        ensures made { IfOk result (IsMade (known_at classes.entry.now) bytes.entry.now id_size (stretch 0 second list.entry.now)) }
+        ensures err { IfErr result (λ f. IsObjectFaultOrMemory (known_at classes.entry.now) id_size list.entry.now f) }
+    { make_stretch(alloc, bytes, list, classes, id_size, secret, 0, second) };
+    let rest = || -> (
         Result<MadeStretch<'_>, ReadFault>,
-        Result<MadeStretch<'_>, ReadFault>,
+        (
+            Result<MadeStretch<'_>, ReadFault>,
+            Result<MadeStretch<'_>, ReadFault>,
+        ),
     )
         requires within { AreWithin id_size bytes.now list.now }
         requires small { length bytes.now < 2 ^ 31 }
         requires classes { AreFewAndShort classes.now }
-        requires there { (second ≤ third) × (third ≤ length list.now) }
-        ensures front { IfOk result.0 (IsMade (known_at classes.entry.now) bytes.entry.now id_size (stretch 0 second list.entry.now)) }
-        ensures back { IfOk result.1 (IsMade (known_at classes.entry.now) bytes.entry.now id_size (stretch second (third - second) list.entry.now)) }
-        ensures err { IfErr result.0 (λ f. IsObjectFaultOrMemory (known_at classes.entry.now) id_size list.entry.now f) }
+        requires there { (second ≤ third) × (third ≤ fourth) × (fourth ≤ len) × (len ≡ length list.now) }
+        ensures front { IfOk result.0 (IsMade (known_at classes.entry.now) bytes.entry.now id_size (stretch second (third - second) list.entry.now)) }
+        ensures middle { IfOk result.1.0 (IsMade (known_at classes.entry.now) bytes.entry.now id_size (stretch third (fourth - third) list.entry.now)) }
+        ensures back { IfOk result.1.1 (IsMade (known_at classes.entry.now) bytes.entry.now id_size (stretch fourth (length list.entry.now - fourth) list.entry.now)) }
     {
-        make_two(
-            rt, alloc, bytes, list, classes, id_size, secret, 0, second, third,
+        make_three(
+            rt, alloc, bytes, list, classes, id_size, secret, second, third, fourth, len,
         )
     };
-    let back = || -> (
-        Result<MadeStretch<'_>, ReadFault>,
-        Result<MadeStretch<'_>, ReadFault>,
-    )
-        requires within { AreWithin id_size bytes.now list.now }
-        requires small { length bytes.now < 2 ^ 31 }
-        requires classes { AreFewAndShort classes.now }
-        requires there { (third ≤ fourth) × (fourth ≤ len) × (len ≡ length list.now) }
-        ensures front { IfOk result.0 (IsMade (known_at classes.entry.now) bytes.entry.now id_size (stretch third (fourth - third) list.entry.now)) }
-        ensures back { IfOk result.1 (IsMade (known_at classes.entry.now) bytes.entry.now id_size (stretch fourth (length list.entry.now - fourth) list.entry.now)) }
-    {
-        make_two(
-            rt, alloc, bytes, list, classes, id_size, secret, third, fourth, len,
-        )
-    };
-    let ((a, b), (c, d)) = join(rt, front, back);
+    let (a, (b, (c, d))) = join(rt, front, rest);
     let a = a?;
     if let Ok(b) = b
         && let Ok(c) = c

@@ -19,9 +19,9 @@ join_stretches-requires-clause-repeated g c =
     let third : ℕ = len / 2 in
     let fourth : ℕ = len - second in
     let a = rw c.in_ok-a.was at c.join-a.ensures.first.0 in
-    let b = rw c.in-Ok.is at c.join-a.ensures.first.1.0 in
-    let m = rw c.in-Ok-c.is at c.join-a.ensures.second.0 in
-    let d = rw c.in-Ok-d.is at c.join-a.ensures.second.1 in
+    let b = rw c.in-Ok.is at c.join-a.ensures.second.0 in
+    let m = rw c.in-Ok-c.is at c.join-a.ensures.second.1.0 in
+    let d = rw c.in-Ok-d.is at c.join-a.ensures.second.1.1 in
     omega (
       arith,
       c.len-len.ensures,
@@ -42,9 +42,9 @@ join_stretches-requires-clause-opaque g c =
     let third : ℕ = len / 2 in
     let fourth : ℕ = len - second in
     let a = rw c.in_ok-a.was at c.join-a.ensures.first.0 in
-    let b = rw c.in-Ok.is at c.join-a.ensures.first.1.0 in
-    let m = rw c.in-Ok-c.is at c.join-a.ensures.second.0 in
-    let d = rw c.in-Ok-d.is at c.join-a.ensures.second.1 in
+    let b = rw c.in-Ok.is at c.join-a.ensures.second.0 in
+    let m = rw c.in-Ok-c.is at c.join-a.ensures.second.1.0 in
+    let d = rw c.in-Ok-d.is at c.join-a.ensures.second.1.1 in
     omega (
       arith,
       c.len-len.ensures,
@@ -66,9 +66,9 @@ returns-clause-numbers g c =
     let third : ℕ = len / 2 in
     let fourth : ℕ = len - second in
     let a = rw c.in_ok-a.was at c.join-a.ensures.first.0 in
-    let b = rw c.in-Ok.is at c.join-a.ensures.first.1.0 in
-    let m = rw c.in-Ok-c.is at c.join-a.ensures.second.0 in
-    let d = rw c.in-Ok-d.is at c.join-a.ensures.second.1 in
+    let b = rw c.in-Ok.is at c.join-a.ensures.second.0 in
+    let m = rw c.in-Ok-c.is at c.join-a.ensures.second.1.0 in
+    let d = rw c.in-Ok-d.is at c.join-a.ensures.second.1.1 in
     let all = c.in-Some.numbered in
     let joins = rw c.in-Some.is at c.in_ok-numbered.ensures.numbers in
     subst (λ (xs : List Sub). IsNumbered known size xs all.ids all.roots.items all.tally)
@@ -86,9 +86,9 @@ returns-clause-rows g c =
     let third : ℕ = len / 2 in
     let fourth : ℕ = len - second in
     let a = rw c.in_ok-a.was at c.join-a.ensures.first.0 in
-    let b = rw c.in-Ok.is at c.join-a.ensures.first.1.0 in
-    let m = rw c.in-Ok-c.is at c.join-a.ensures.second.0 in
-    let d = rw c.in-Ok-d.is at c.join-a.ensures.second.1 in
+    let b = rw c.in-Ok.is at c.join-a.ensures.second.0 in
+    let m = rw c.in-Ok-c.is at c.join-a.ensures.second.1.0 in
+    let d = rw c.in-Ok-d.is at c.join-a.ensures.second.1.1 in
     let table = joined_table (joined_table (joined_table c.in_ok-a.a.rows.slot_table c.in-Ok.b.rows.slot_table) c.in-Ok-c.c.rows.slot_table) c.in-Ok-d.d.rows.slot_table in
     let joined = rw c.in-Some.is at c.in_ok-numbered.ensures.rows in
     rw joined
@@ -107,9 +107,9 @@ returns-clause-shapes g c =
     let third : ℕ = len / 2 in
     let fourth : ℕ = len - second in
     let a = rw c.in_ok-a.was at c.join-a.ensures.first.0 in
-    let b = rw c.in-Ok.is at c.join-a.ensures.first.1.0 in
-    let m = rw c.in-Ok-c.is at c.join-a.ensures.second.0 in
-    let d = rw c.in-Ok-d.is at c.join-a.ensures.second.1 in
+    let b = rw c.in-Ok.is at c.join-a.ensures.second.0 in
+    let m = rw c.in-Ok-c.is at c.join-a.ensures.second.1.0 in
+    let d = rw c.in-Ok-d.is at c.join-a.ensures.second.1.1 in
     let shapes = ((c.in_ok-a.a.rows.shapes.objects ++ c.in-Ok.b.rows.shapes.objects) ++ c.in-Ok-c.c.rows.shapes.objects) ++ c.in-Ok-d.d.rows.shapes.objects in
     let joined = rw c.in-Some.is at c.in_ok-numbered.ensures.shapes in
     rw joined
