@@ -75,6 +75,12 @@ def ids_in_turns(size):
     return in_segments([array((1 << 32) + (i % pages << 12) + i // pages % 512 * 8) for i in range(size // 25)])
 
 
+def ids_going_down(size):
+    """Empty arrays 64 addresses apart, the highest first, so that no number of a block of places follows the one before it."""
+    count = size // 25
+    return in_segments([array((1 << 32) + (count - i) * 64) for i in range(count)])
+
+
 def chain_of_classes(size):
     """Classes, each the super class of the next."""
     return in_segments([class_dump(i + 1, i) for i in range(size // 75)])
@@ -157,6 +163,7 @@ DUMPS = [
     ids_far_apart,
     ids_of_few_pages,
     ids_in_turns,
+    ids_going_down,
     chain_of_classes,
     chain_with_fields,
     chain_with_instances,
