@@ -1,10 +1,11 @@
 //! The whole program, over given streams.
 ghost use Rattle.std.specs.Prelude.{◌≡◌, ◌≢◌, ◌⊎◌, [], Result, Err};
+ghost use Rattle.std.specs.Arc.{arc_value};
 ghost use Rattle.std.specs.Io.KnownBytes.{Keeps};
 ghost use Rattle.hd_terms.specs.Workers.{IsWorkers};
 ghost use Rattle.hd_terms.specs.declared.Mode.TheVariants.{Direct};
 ghost use Rattle.hd_protocol.specs.declared.run.RunFault.{RunFault};
-ghost use Rattle.hd_protocol.specs.Running.{RunsDump};
+ghost use Rattle.hd_protocol.specs.Running.{RunsDump, RunsOver};
 ghost use Rattle.hd_program.specs.Performing.{server_status, status, Performs, RunsFile, RunsWords, FailsFirst, ServesOrFails};
 ghost use Rattle.hd_arguments.specs.Tasks.{IsAnalysts, TaskWorkers};
 
@@ -13,6 +14,7 @@ use crate::file::{FileFault, read_file};
 use crate::server::{ServerFault, serve_bytes};
 use hd_arguments::{Opening, Serving, Task, WORKERS, WordsFault, read_arguments};
 use hd_buffer::Buffer;
+use hd_graph::Graph;
 use hd_protocol::{RunFault, SAMPLE, open_alone, open_bytes, run_bytes, serve_alone, stat_bytes};
 use hd_terminal::StatusLine;
 use hd_terms::Mode;
@@ -23,7 +25,7 @@ use std::io::{BufRead, Write};
 use std::net::{Net, TcpListener, TcpStream};
 use std::random::RandomSource;
 use std::rt::Files;
-use std::sync::Wait;
+use std::sync::{Arc, Wait};
 use std::thread::Threads;
 use std::time::Clock;
 
@@ -106,6 +108,24 @@ fn report_usage<E: Write>(fault: &WordsFault, faults: &mut E) -> u8
     }
 }
 
+/// Serves one analyst's lines over an open graph. What is being done is shown until the first line.
+fn run_graph<T: AllocGlobal + Clock + Threads + Wait + Sync, R: BufRead, W: Write, E: Write>(
+    rt: &T,
+    graph: Arc<Graph>,
+    status: &mut StatusLine,
+    input: &mut R,
+    output: &mut W,
+    faults: &mut E,
+) -> Result<(), RunFault>
+    ensures { RunsOver (arc_value graph) (R.remaining input.old) (R.remaining input.new) (W.contents output.old) (W.contents output.new) result }
+{
+    status.show(rt, faults, "finding strengths");
+    let counts = shown_counts(&graph, status);
+    let (board, desk) = open_alone(rt, rt.alloc(), graph)?;
+    end_status(status, rt, faults, counts);
+    serve_alone(rt, rt.alloc(), board, desk, input, output)
+}
+
 /// Serves one analyst's lines over the bytes of a file, which are given up before the first line. What is being done is shown
 /// until then.
 fn run_file<
@@ -128,11 +148,7 @@ fn run_file<
     status.show(rt, faults, "finding objects and references");
     let graph = open_bytes(rt, bytes.as_slice(), opening.workers, opening.mode)?;
     drop(bytes);
-    status.show(rt, faults, "finding strengths");
-    let counts = shown_counts(&graph, status);
-    let (board, desk) = open_alone(rt, rt.alloc(), graph)?;
-    end_status(status, rt, faults, counts);
-    serve_alone(rt, rt.alloc(), board, desk, input, output)?;
+    run_graph(rt, graph, status, input, output, faults)?;
     Ok(())
 }
 
