@@ -1,4 +1,4 @@
-//! The numbers of the objects of a file, by those of two stretches of its sub-records.
+//! The numbers of the objects of a file, by those of four stretches of its sub-records, or made by one thread.
 ghost use Rattle.std.specs.Prelude.{◌≡◌, ◌+◌, ◌-◌, ◌<◌, ◌≤◌, ◌^◌, ℕ, false, length, All, IfOk, IfErr, MatchOption};
 ghost use Rattle.hd_terms.specs.Classes as classes_of;
 ghost use Rattle.hd_ids.specs.Noted.{are_all_apart};
