@@ -1,5 +1,5 @@
 -- Lists of IDs, one behind the other.
-use Rattle.std.proofs.Common.{◌≡◌, ◌∙◌, ℕ, suc, ◌+◌, ◌<◌, Bool, true, false, ◌||◌, ◌&&◌, not, cond, eqb, nat_eq, nat_lt, List, [], ◌∷◌, ◌++◌, length, get_or, take, position, Option, None, Some, refl, sym, ap, subst, arith, append_assoc, length-append}
+use Rattle.std.proofs.Common.{◌≡◌, ◌∙◌, ℕ, suc, ◌+◌, ◌<◌, Bool, true, false, ◌||◌, ◌&&◌, not, cond, eqb, nat_eq, nat_lt, List, [], ◌∷◌, ◌++◌, length, get_or, take, position, Option, None, Some, refl, sym, ap, subst, arith, append_assoc, length-append, ◌^◌}
 use Rattle.std.specs.Prelude.{is_some}
 use Rattle.std.specs.Option.{option_map}
 use Rattle.std.specs.List.{AllByRecursion, list_any, position_or_len, IsDistinct}
@@ -9,7 +9,7 @@ use Rattle.std.proofs.lemmas.Bool.Decides.{nat_tests}
 use Rattle.std.proofs.lemmas.List.{append-nil, take_more}
 use Rattle.std.proofs.lemmas.List.Folds.{list_any-append}
 use Rattle.std.proofs.lemmas.Map.Keys.{IsDistinct-push, IsDistinct-head, IsDistinct-tail}
-use Rattle.hd_ids.specs.Joined.{joined, AreFound}
+use Rattle.hd_ids.specs.Joined.{joined, AreFound, AreJoined}
 use Rattle.hd_ids.specs.Noted.{is_noted, are_apart, are_all_apart}
 use Rattle.hd_ids.proofs.RowLemmas.{position-by-any}
 
@@ -145,6 +145,14 @@ distinct-joined first second third fourth d1 d2 d3 d4 e =
     let two = distinct-join first second d1 d2 (apart-none first second before.0) in
     let three = distinct-join (first ++ second) third two d3 (apart-none (first ++ second) third before.1) in
     distinct-join ((first ++ second) ++ third) fourth three d4 (apart-none ((first ++ second) ++ third) fourth apart.1)
+
+-- so they can be joined
+pub parts-joined : (first second third fourth : List ℕ) (a b c d : ℕ) → a ≡ length first → b ≡ length second → c ≡ length third → d ≡ length fourth → a < 2 ^ 60 → b < 2 ^ 60 → c < 2 ^ 60 → d < 2 ^ 60
+    → IsDistinct nat_eq first → IsDistinct nat_eq second → IsDistinct nat_eq third → IsDistinct nat_eq fourth → are_all_apart first second third fourth ≡ true → AreJoined first second third fourth a (a + b) (a + b + c)
+parts-joined first second third fourth a b c d a_is b_is c_is d_is a_few b_few c_few d_few d1 d2 d3 d4 e = record {
+  distinct = distinct-joined first second third fourth d1 d2 d3 d4 e;
+  found = record { first_is = a_is; second_is = omega (arith, b_is); third_is = omega (arith, c_is); few = omega (arith, a_few, b_few, c_few, d_is, d_few) };
+}
 
 -- no ID of two parts together is in a third where none of either is
 module _ (front more : List ℕ) where

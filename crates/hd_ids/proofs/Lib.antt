@@ -5,5 +5,6 @@ pub mod NumberLemmas
 pub mod RowLemmas
 pub mod JoinLemmas
 pub mod GuessLemmas
+pub mod HeapLemmas
 pub mod ApartLemmas
 pub mod SlotLemmas

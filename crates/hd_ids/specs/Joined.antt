@@ -1,6 +1,6 @@
 -- IDs of four parts, one behind the other.
 -- Source: this project.
-use Rattle.std.specs.Prelude.{◌≡◌, nat_eq, ℕ, ◌+◌, ◌<◌, ◌≤◌, ◌^◌, List, ◌++◌, length, slice_index, Option, IfSome}
+use Rattle.std.specs.Prelude.{◌≡◌, nat_eq, ℕ, ◌+◌, ◌<◌, ◌≤◌, ◌^◌, List, ◌++◌, length, slice_index}
 use Rattle.std.specs.List.{IsDistinct}
 
 -- the IDs of all parts by number
@@ -18,11 +18,6 @@ pub record AreFound (first second third fourth : List ℕ) (first_end second_end
 pub record AreJoined (first second third fourth : List ℕ) (first_end second_end third_end : ℕ) : Type 0 where
   pub distinct : IsDistinct nat_eq (joined first second third fourth)
   pub found : AreFound first second third fourth first_end second_end third_end
-
--- and what finds them by guesses finds the same IDs
-pub record AreFoundBy (first second third fourth : List ℕ) (first_end second_end third_end : ℕ) (guesser : Option (List ℕ)) : Type 0 where
-  pub found : AreFound first second third fourth first_end second_end third_end
-  pub guessed : IfSome guesser (λ ids. ids ≡ joined first second third fourth)
 
 -- these IDs are some of all, and stand there from a number on
 pub record StandAt (ids all : List ℕ) (base : ℕ) : Type 0 where

@@ -56,13 +56,16 @@ impl Block {
         requires low_number { number ≤ 2 ^ 31 }
         ensures { IfSome result (IsBlockWith self place number) }
     {
-        if self.mask == 0 && self.first == 0 {
+        if self.mask == 0 {
+            if self.first != 0 {
+                return None;
+            }
             return Some(Block {
                 mask: 1 << place,
                 first: number,
             });
         }
-        if self.mask == 0 || self.mask >> place != 0 {
+        if self.mask >> place != 0 {
             return None;
         }
         if self.first + self.mask.count_ones() != number {

@@ -26,7 +26,7 @@ impl Drop for Directory {
 }
 
 /// The first and the last of some pages and of two others.
-fn bounds(mut first: u64, mut last: u64, pages: &[u64]) -> (u64, u64) {
+pub(crate) fn bounds(mut first: u64, mut last: u64, pages: &[u64]) -> (u64, u64) {
     for i in 0..pages.len() {
         first = first.min(pages[i] / 8);
         last = last.max(pages[i] / 8);

@@ -13,8 +13,8 @@ use std::marker::Model;
 #[derive(Drop)]
 pub(crate) struct IdsByRow<'a> {
     slots: &'a [u32],
-    pages: &'a [u64],
-    numbers: &'a Numbers,
+    pub(crate) pages: &'a [u64],
+    pub(crate) numbers: &'a Numbers,
 }
 
 impl<'a> Model for IdsByRow<'a> {

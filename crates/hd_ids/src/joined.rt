@@ -1,10 +1,13 @@
 //! The IDs of four parts of a dump, one behind the other.
 ghost use Rattle.std.specs.Prelude.{◌≡◌, ℕ, ◌==◌, ◌<◌, ◌++◌, [], length, true, false, position, Some, slice_index, IfOk, IfSome, MatchOption};
 ghost use Rattle.hd_ids.specs.Noted.{are_apart, are_all_apart};
+ghost use Rattle.hd_ids.specs.Joined.{joined, AreJoined};
+ghost use Rattle.hd_ids.specs.Heap.{Tells};
 
 use crate::directory::Directory;
 use crate::finder::Finder;
 use crate::guessing::Guesser;
+use crate::heap_blocks::HeapBlocks;
 use crate::ids::ObjectIds;
 use std::alloc::{AllocError, Global};
 use std::marker::Model;
@@ -26,6 +29,8 @@ pub struct JoinedIds {
     third_end: usize,
     /// Guesses of the rows of pages, where all parts go by pages.
     directory: Option<Directory>,
+    /// Their numbers by where they lie in the heap, where all parts go by pages and these lie close to one another.
+    heap: Option<HeapBlocks>,
 }
 
 impl Drop for JoinedIds {
@@ -40,19 +45,21 @@ impl Drop for JoinedIds {
             second_end: _,
             third_end: _,
             directory,
+            heap,
         } = self;
     }
 }
 
 impl Model for JoinedIds {
     ghost use Rattle.std.specs.Prelude.{ℕ, List};
-    ghost use Rattle.hd_ids.specs.Joined.{joined, AreJoined};
+    ghost use Rattle.hd_ids.specs.Joined.{joined};
+    ghost use Rattle.hd_ids.specs.Heap.{AreNumbered};
 
     ghost Value = { List ℕ };
 
     ghost view = { λ a. joined a.first a.second a.third a.fourth };
 
-    ghost invariant = { λ a. AreJoined a.first a.second a.third a.fourth a.first_end a.second_end a.third_end };
+    ghost invariant = { λ a. AreNumbered a.first a.second a.third a.fourth a.first_end a.second_end a.third_end a.heap };
 }
 
 /// Whether no ID is in both, ID by ID.
@@ -134,6 +141,34 @@ fn directory_of(
     Some(first.directory(second, third, fourth))
 }
 
+/// The numbers of the IDs of all parts by where they lie in the heap, where all go by pages, and these lie close to one another. So
+/// many IDs there are up to the end of each part but the last.
+fn heap_of(
+    first: &ObjectIds,
+    second: &ObjectIds,
+    third: &ObjectIds,
+    fourth: &ObjectIds,
+    first_end: usize,
+    second_end: usize,
+    third_end: usize,
+) -> Option<HeapBlocks>
+    requires { AreJoined first.now second.now third.now fourth.now first_end second_end third_end }
+    ensures { IfSome result (Tells (joined first.now second.now third.now fourth.now)) }
+{
+    let (Some(first), Some(second)) = (first.paged(), second.paged()) else {
+        return None;
+    };
+    let (Some(third), Some(fourth)) = (third.paged(), fourth.paged()) else {
+        return None;
+    };
+    let mut heap = first.heap_without_ids(second, third, fourth)?;
+    heap.add(&first.by_row(), 0);
+    heap.add(&second.by_row(), first_end);
+    heap.add(&third.by_row(), second_end);
+    heap.add(&fourth.by_row(), third_end);
+    Some(heap)
+}
+
 impl JoinedIds {
     /// No IDs.
     ///
@@ -165,6 +200,7 @@ impl JoinedIds {
             second_end: end,
             third_end: end,
             directory: None,
+            heap: None,
         })
     }
 
@@ -185,6 +221,9 @@ impl JoinedIds {
         let third_end = second_end + third.len();
         let fourth_len = fourth.len();
         let directory = directory_of(&first, &second, &third, &fourth);
+        let heap = heap_of(
+            &first, &second, &third, &fourth, first_end, second_end, third_end,
+        );
         Some(JoinedIds {
             first,
             second,
@@ -194,6 +233,7 @@ impl JoinedIds {
             second_end,
             third_end,
             directory,
+            heap,
         })
     }
 
@@ -280,6 +320,7 @@ impl JoinedIds {
             second_end: self.second_end,
             third_end: self.third_end,
             guesser: self.guesser(),
+            heap: self.heap.as_ref(),
         }
     }
 }
@@ -299,23 +340,41 @@ pub struct JoinedFinder<'a> {
     /// How many the first three parts have.
     third_end: usize,
     guesser: Option<Guesser<'a>>,
+    /// The numbers of the IDs by where they lie in the heap, if there are any.
+    heap: Option<&'a HeapBlocks>,
 }
 
 impl<'a> Model for JoinedFinder<'a> {
     ghost use Rattle.std.specs.Prelude.{ℕ, List};
-    ghost use Rattle.hd_ids.specs.Joined.{joined, AreFoundBy};
+    ghost use Rattle.hd_ids.specs.Joined.{joined};
+    ghost use Rattle.hd_ids.specs.Heap.{AreFoundBy};
 
     ghost Value = { List ℕ };
 
     ghost view = { λ a. joined a.first a.second a.third a.fourth };
 
-    ghost invariant = { λ a. AreFoundBy a.first a.second a.third a.fourth a.first_end a.second_end a.third_end a.guesser };
+    ghost invariant = { λ a. AreFoundBy a.first a.second a.third a.fourth a.first_end a.second_end a.third_end a.guesser a.heap };
 }
 
 impl<'a> JoinedFinder<'a> {
     /// The number of an ID, if it is one of them.
     #[inline(always)]
     pub fn index_of(&mut self, id: u64) -> Option<usize>
+        ensures first { result ≡ position (λ x. id == x) self.old }
+        ensures same { self.new ≡ self.old }
+    {
+        if let Some(heap) = self.heap
+            && let Some(number) = heap.index_of(id)
+        {
+            return Some(number);
+        }
+        self.index_by_guess(id)
+    }
+
+    /// The number of an ID, if it is one of them, of which the heap's blocks tell nothing. This is a function of its own, since
+    /// `index_of` runs for each reference, and seldom comes to it.
+    #[inline(never)]
+    fn index_by_guess(&mut self, id: u64) -> Option<usize>
         ensures first { result ≡ position (λ x. id == x) self.old }
         ensures same { self.new ≡ self.old }
     {

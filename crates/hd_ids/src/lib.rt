@@ -5,6 +5,7 @@ mod block;
 mod directory;
 mod finder;
 mod guessing;
+mod heap_blocks;
 mod ids;
 mod joined;
 mod near;

@@ -1,5 +1,5 @@
 //! Numbers of IDs in rows, 2 bits for each.
-ghost use Rattle.std.specs.Prelude.{◌≡◌, ◌+◌, ◌-◌, ◌*◌, ◌/◌, ◌<◌, ◌≤◌, ◌^◌, [], ◌++◌, length, map, replicate, slice_index, slice_set, true, IfOk, OnOk, OnErr};
+ghost use Rattle.std.specs.Prelude.{◌≡◌, ℕ, ◌+◌, ◌-◌, ◌*◌, ◌/◌, ◌<◌, ◌≤◌, ◌^◌, [], ◌++◌, length, map, replicate, slice_index, slice_set, true, false, IfOk, OnOk, OnErr};
 ghost use Rattle.std.specs.List.{range_with_len};
 ghost use Rattle.hd_ids.specs.Numbers.{block_at, is_scattered, no_numbers, number_by, numbers_of, AreBlocks};
 
@@ -123,10 +123,23 @@ impl Numbers {
     {
         let block = self.blocks[slot / BLOCK];
         let place = slot % BLOCK;
-        if block.is_scattered() {
-            return self.scattered[(block.first - 1) as usize * BLOCK + place];
+        if block.mask != 0 {
+            return block.number(place as u32);
         }
-        block.number(place as u32)
+        if block.first == 0 {
+            return 0;
+        }
+        self.scattered[(block.first - 1) as usize * BLOCK + place]
+    }
+
+    /// The block of an index, which tells the numbers at its 32 places where these follow one another.
+    #[inline(always)]
+    pub(crate) fn block(&self, index: usize) -> Block
+        requires { index * 32 < length self.now }
+        ensures low { result.first ≤ 2 ^ 31 }
+        ensures numbers { is_scattered result ≡ false → (place : ℕ) → place < 32 → slice_index self.now (index * 32 + place) ≡ number_by result place }
+    {
+        self.blocks[index]
     }
 
     /// Puts a number at a place.

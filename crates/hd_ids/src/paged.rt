@@ -2,9 +2,11 @@
 ghost use Rattle.std.specs.Prelude.{◌≡◌, nat_eq, ◌<◌, ◌^◌, ◌==◌, ℕ, [], length, not, position, Some, slice_index, true, IfOk, OnOk, OnErr, IfSome, IfNone};
 ghost use Rattle.std.specs.List.{IsDistinct};
 ghost use Rattle.hd_ids.specs.Noted.{are_apart, is_noted, noted};
+ghost use Rattle.hd_ids.specs.Heap.{told};
 
 use crate::directory::Directory;
 use crate::guessing::IdsByRow;
+use crate::heap_blocks::HeapBlocks;
 use crate::near::NearIds;
 use crate::numbers::{Numbers, ROW};
 use crate::plain::PlainIds;
@@ -148,6 +150,24 @@ impl PagedIds {
             fourth.pages.as_slice(),
         ];
         Directory::of(self.alloc, parts)
+    }
+
+    /// Blocks of the heap over the pages of these IDs and of those of three further parts, which tell no number yet.
+    pub(crate) fn heap_without_ids(
+        &self,
+        second: &PagedIds,
+        third: &PagedIds,
+        fourth: &PagedIds,
+    ) -> Option<HeapBlocks>
+        ensures { IfSome result (λ h. (id : ℕ) → told h id ≡ 0) }
+    {
+        let parts = [
+            self.pages.as_slice(),
+            second.pages.as_slice(),
+            third.pages.as_slice(),
+            fourth.pages.as_slice(),
+        ];
+        HeapBlocks::over(self.alloc, parts)
     }
 
     /// Whether the rows of these IDs and of others have no number at one place. Then no ID is in both. Few pages have IDs of both, so
