@@ -8,7 +8,7 @@ ghost use Rattle.hd_graph.specs.Shapes.{AreColumns, row_objects};
 ghost use Rattle.hd_graph.specs.Kinds.{kept_of, IsReferentEdge, AreKindsOfPart, AreKinds};
 
 use crate::graph::{Graph, index_in, kind_of_slot, referent_in};
-use hd_shapes::JoinedShapes;
+use hd_shapes::{JoinedShapes, ShapeList};
 use hd_slots::SlotTable;
 use hd_terms::{EdgeKind, RefKind, Slot};
 use hd_threads::map_indices;
@@ -105,10 +105,15 @@ impl KindLists {
 const PARTS: usize = 4;
 
 /// The index of an object's referent among its slots, and the kind of the reference there, if it refers to an object.
-fn referent_edge(slot_table: &SlotTable, shapes: &JoinedShapes, o: u32) -> Option<(u32, EdgeKind)>
-    requires columns { AreColumns shapes.now.objects slot_table.now.ids slot_table.now.rows }
+fn referent_edge(
+    slot_table: &SlotTable,
+    shapes: &mut ShapeList<'_>,
+    o: u32,
+) -> Option<(u32, EdgeKind)>
+    requires columns { AreColumns shapes.old.objects slot_table.now.ids slot_table.now.rows }
     requires object { o < length slot_table.now.ids }
-    ensures { IsReferentEdge (row_objects shapes.now.objects slot_table.now.ids slot_table.now.rows) o result }
+    ensures edge { IsReferentEdge (row_objects shapes.old.objects slot_table.now.ids slot_table.now.rows) o result }
+    ensures same { shapes.new ≡ shapes.old }
 {
     let shape = shapes.get(o);
     let Some(referent) = referent_in(shape) else {
@@ -138,11 +143,12 @@ fn kinds_of_part(
     ensures { IfOk result (AreKindsOfPart (row_objects shapes.now.objects slot_table.now.ids slot_table.now.rows) part) }
 {
     let mut lists = KindLists::none(alloc);
+    let mut list = shapes.as_list();
     let objects = slot_table.objects();
     let start = objects * part / PARTS;
     let end = objects * (part + 1) / PARTS;
     for o in start as u32..end as u32 {
-        if let Some((index, kind)) = referent_edge(slot_table, shapes, o) {
+        if let Some((index, kind)) = referent_edge(slot_table, &mut list, o) {
             lists.push(kind, KeptEdge { source: o, index })?;
         }
     }

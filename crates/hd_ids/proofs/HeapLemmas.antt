@@ -1,11 +1,11 @@
 -- Numbers of IDs that are told by where they lie in the heap.
-use Rattle.std.proofs.Common.{◌≡◌, ◌≢◌, ◌∙◌, ◌⊎◌, inl, inr, ℕ, ◌+◌, ◌-◌, ◌*◌, ◌/◌, ◌%◌, ◌<◌, ◌≤◌, ◌^◌, ◌==◌, ◌&&◌, not, Bool, true, false, cond, eqb, nat_lt, nat_eq, List, ◌++◌, length, replicate, get_or, slice_set, slice_index, position, Option, Some, None, refl, sym, ap, subst, arith, eq-eqb, length-append, get_or-set_same, get_or-set_other}
+use Rattle.std.proofs.Common.{◌≡◌, ◌≢◌, ◌∙◌, ◌⊎◌, inl, inr, ℕ, ◌+◌, ◌-◌, ◌*◌, ◌/◌, ◌%◌, ◌<◌, ◌≤◌, ◌^◌, ◌==◌, ◌&&◌, not, Bool, true, false, cond, eqb, nat_lt, nat_eq, List, ◌++◌, length, get_or, slice_set, slice_index, position, Option, Some, None, refl, sym, ap, subst, arith, eq-eqb, length-append, get_or-set_same, get_or-set_other}
 use Rattle.std.specs.Prelude.{count_ones, IfSome}
 use Rattle.std.specs.Borrow.{Bor}
 use Rattle.std.specs.Option.{option_copied}
 use Rattle.std.specs.Int.{bit_at}
 use Rattle.std.specs.List.{IsDistinct}
-use Rattle.std.proofs.lemmas.Bool.{cases_Bool, eqb-true, le-ltb, ltb-false}
+use Rattle.std.proofs.lemmas.Bool.{eqb-true, le-ltb, ltb-false}
 use Rattle.std.proofs.lemmas.Bool.Decides.{eqb_tells}
 use Rattle.std.proofs.lemmas.List.{get_or_append_left, get_or-append_right}
 use Rattle.hd_ids.specs.declared.block.Block.{Block}

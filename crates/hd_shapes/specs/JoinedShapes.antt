@@ -1,6 +1,6 @@
 -- The shapes of four parts of the objects.
 -- Source: this project.
-use Rattle.std.specs.Prelude.{◌≡◌, ℕ, ◌+◌, ◌<◌, ◌^◌, List, length}
+use Rattle.std.specs.Prelude.{◌≡◌, ℕ, ◌+◌, ◌<◌, ◌≤◌, ◌^◌, List, length, slice_get}
 use Rattle.hd_shapes.specs.Shapes.{ObjectShape}
 use Rattle.hd_shapes.specs.PackedShapes.{ShapeLists}
 
@@ -14,3 +14,8 @@ pub record AreJoined (first second third fourth : ShapeLists) (first_end second_
   pub second_is : second_end ≡ first_end + length second.objects
   pub third_is : third_end ≡ second_end + length third.objects
   pub few : third_end + length fourth.objects < 2 ^ 64
+
+-- the objects of a part stand among all from a number on
+pub record StandAt (part all : List ObjectShape) (first : ℕ) : Type 0 where
+  pub within : first + length part ≤ length all
+  pub at : (i : ℕ) → i < length part → slice_get all (first + i) ≡ slice_get part i

@@ -1,8 +1,10 @@
 //! The shapes of the objects of four parts.
-ghost use Rattle.std.specs.Prelude.{◌≡◌, ◌<◌, ◌++◌, length, slice_get, Some};
+ghost use Rattle.std.specs.Prelude.{◌≡◌, ◌+◌, ◌<◌, ◌≤◌, ◌++◌, length, slice_get, Some};
+ghost use Rattle.hd_shapes.specs.JoinedShapes.{StandAt};
 ghost use Rattle.hd_shapes.specs.PackedShapes.{shape_view};
 
 use crate::shape::{Shape, Shapes};
+use crate::shape_list::ShapeList;
 use std::marker::Model;
 
 /// The shapes of objects in four parts: the objects of each part are numbered behind those of the one before.
@@ -59,24 +61,24 @@ impl JoinedShapes {
         self.third_end + self.fourth.len()
     }
 
-    /// The part that has the object of a number, and the number of the object there.
+    /// The part that has the object of a number, and the number of its first object.
     #[inline(always)]
-    fn place(&self, o: u32) -> (&Shapes, u32)
+    pub(crate) fn part_of(&self, o: u32) -> (&Shapes, u32)
         requires { o < length self.now.objects }
-        ensures within { result.1 < length result.0.now.objects }
-        ensures same { slice_get result.0.now.objects result.1 ≡ slice_get self.now.objects o }
+        ensures stand { StandAt result.0.now.objects self.now.objects result.1 }
+        ensures within { (result.1 ≤ o) × (o < result.1 + length result.0.now.objects) }
     {
         let number = o as usize;
         if number < self.second_end {
             if number < self.first_end {
-                return (&self.first, o);
+                return (&self.first, 0);
             }
-            return (&self.second, (number - self.first_end) as u32);
+            return (&self.second, self.first_end as u32);
         }
         if number < self.third_end {
-            return (&self.third, (number - self.second_end) as u32);
+            return (&self.third, self.second_end as u32);
         }
-        (&self.fourth, (number - self.third_end) as u32)
+        (&self.fourth, self.third_end as u32)
     }
 
     /// The shape of the object of a number.
@@ -85,7 +87,18 @@ impl JoinedShapes {
         requires { o < length self.now.objects }
         ensures { slice_get self.now.objects o ≡ Some (shape_view result) }
     {
-        let (part, o) = self.place(o);
-        part.get(o)
+        let (part, first) = self.part_of(o);
+        part.get(o - first)
+    }
+
+    /// The shapes, for a pass that goes over them.
+    pub fn as_list(&self) -> ShapeList<'_>
+        ensures { result ≡ self.now }
+    {
+        ShapeList {
+            shapes: self,
+            part: &self.first,
+            first: 0,
+        }
     }
 }

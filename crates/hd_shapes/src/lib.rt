@@ -5,6 +5,8 @@ mod joined_shapes;
 mod packed_shape;
 mod packed_shapes;
 mod shape;
+mod shape_list;
 
 pub use joined_shapes::JoinedShapes;
 pub use shape::{ClassShape, LayoutShape, Shape, Shapes};
+pub use shape_list::ShapeList;

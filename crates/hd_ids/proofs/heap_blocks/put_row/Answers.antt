@@ -1,7 +1,7 @@
-use Rattle.std.proofs.Common.{◌≡◌, ℕ, ◌+◌, ◌*◌, ◌<◌, ◌≤◌, ◌^◌, All, List, inl, inr, sym, subst, arith}
+use Rattle.std.proofs.Common.{◌+◌, ◌<◌, ◌≤◌, ◌^◌, All, List, inl, inr, sym, subst, arith}
 use Rattle.std.proofs.lemmas.List.Elements.{All-set}
 use Rattle.hd_ids.specs.declared.block.Block.{Block}
-use Rattle.hd_ids.specs.Heap.{Tells, IsRowOf}
+use Rattle.hd_ids.specs.Heap.{Tells}
 use Rattle.hd_ids.proofs.BlockLemmas.{some-follows}
 use Rattle.hd_ids.proofs.HeapLemmas.{block-put}
 use Rattle.hd_ids.proofs.heap_blocks.put_row.Goals as goal

@@ -1,5 +1,3 @@
-use Rattle.std.proofs.Common.{ℕ, List, subst}
-use Rattle.std.specs.Prelude.{IfSome}
 use Rattle.hd_ids.specs.Joined.{joined}
 use Rattle.hd_ids.proofs.HeapLemmas.{told-by-reference}
 use Rattle.hd_ids.proofs.joined.JoinedIds.finder.Goals as goal
