@@ -1,5 +1,5 @@
 //! Looking up the graph: objects by number or ID, their slots, their sizes, and the roots.
-ghost use Rattle.std.specs.Prelude.{◌≡◌, ◌<◌, ◌^◌, ℕ, length, map, position, slice_get, None, Some, true, ◌≤◌, All, MatchOption, slice_index, sum_by};
+ghost use Rattle.std.specs.Prelude.{◌≡◌, ◌<◌, ◌^◌, ℕ, length, map, position, slice_get, None, Some, true, ◌≤◌, All, MatchOption, sum_by};
 ghost use Rattle.std.specs.List.{slice_index_or};
 ghost use Rattle.hd_terms.specs.Counts.{unresolved_of};
 ghost use Rattle.hd_terms.specs.Edges.{index_of};
@@ -13,7 +13,6 @@ ghost use Rattle.hd_graph.specs.Counting.{edges_of};
 ghost use Rattle.hd_graph.specs.Shapes.{slot_name, slot_kind, shape_index, shape_referent, IsNamedAt, HasFewNames};
 
 use crate::kinds::KindLists;
-use crate::object_bytes::ObjectBytes;
 use hd_classes::ClassNames;
 use hd_shapes::{JoinedShapes, Shape};
 use hd_slots::{IdCounts, SlotTable, Targets};
@@ -145,7 +144,7 @@ pub(crate) fn index_in(shape: Shape<'_>, len: u32, slot: Slot) -> Option<u32>
 }
 
 /// The recorded bytes of an object of a shape.
-pub(crate) fn recorded_bytes(shape: Shape<'_>) -> u32
+fn recorded_bytes(shape: Shape<'_>) -> u32
     ensures { result ≡ shape_bytes (shape_view shape.entry) }
 {
     match shape {
@@ -303,17 +302,6 @@ impl Graph {
         ensures small { result ≤ 2147483647 }
     {
         u64::from(recorded_bytes(self.shapes.get(o)))
-    }
-
-    /// The recorded bytes of all objects, for a pass that goes over them.
-    pub fn bytes(&self) -> ObjectBytes<'_>
-        ensures len { length result ≡ length self.now.objects }
-        ensures bytes { (o : ℕ) → o < length self.now.objects → slice_index result o ≡ (object_at self.now o).bytes }
-        ensures small { (o : ℕ) → o < length self.now.objects → (object_at self.now o).bytes ≤ 2147483647 }
-    {
-        ObjectBytes {
-            shapes: self.shapes.as_list(),
-        }
     }
 
     /// How many slots an object has.

@@ -13,11 +13,9 @@ mod kinds;
 mod layouts;
 mod number;
 mod numbering;
-mod object_bytes;
 mod opening;
 mod sharing;
 mod stretch;
 
 pub use graph::{Graph, RootRead, SlotName, SlotRead};
-pub use object_bytes::ObjectBytes;
 pub use opening::open_dump;

@@ -65,9 +65,9 @@ module _ (all numbers : List ℕ) (row page base first start : ℕ) (even : page
           is id old.0 page_is (ap (slice_index numbers) slot ∙ stands (id / 8 % 32) (omega arith) ∙ old.1) ∙ ap Some (sym old.2)
       by (inr (_, other)) =
           h id n (
-            told-here (record { first = first; blocks = blocks }) id some.0 some.1
-            ∙ ap (λ (b : Block). number_by b (id / 8 % 32)) (sym (get_or-set_other blocks (start + i) (id / 256 - first) moved no_numbers other))
-            ∙ some.2
+          told-here (record { first = first; blocks = blocks }) id some.0 some.1
+          ∙ ap (λ (b : Block). number_by b (id / 8 % 32)) (sym (get_or-set_other blocks (start + i) (id / 256 - first) moved no_numbers other))
+          ∙ some.2
           )
 
 -- a row of a part
@@ -102,35 +102,35 @@ module _ (first second third fourth : List ℕ) (first_end second_end third_end 
   stands-first = record {
     within = omega (arith, four, are.found.first_is, are.found.second_is, are.found.third_is);
     at = λ i lt.
-      ap (λ (k : ℕ). get_or all k 0) (omega arith)
-      ∙ in-two i (omega (arith, lt, are.found.first_is, are.found.second_is))
-      ∙ get_or_append_left first second 0 i lt;
+        ap (λ (k : ℕ). get_or all k 0) (omega arith)
+        ∙ in-two i (omega (arith, lt, are.found.first_is, are.found.second_is))
+        ∙ get_or_append_left first second 0 i lt;
   }
 
   pub stands-second : StandAt second all first_end
   stands-second = record {
     within = omega (arith, four, are.found.second_is, are.found.third_is);
     at = λ i lt.
-      in-two (first_end + i) (omega (arith, lt, are.found.second_is))
-      ∙ get_or-append_right first second first_end (first_end + i) 0 (sym are.found.first_is) (omega arith)
-      ∙ ap (λ (k : ℕ). get_or second k 0) (omega arith);
+        in-two (first_end + i) (omega (arith, lt, are.found.second_is))
+        ∙ get_or-append_right first second first_end (first_end + i) 0 (sym are.found.first_is) (omega arith)
+        ∙ ap (λ (k : ℕ). get_or second k 0) (omega arith);
   }
 
   pub stands-third : StandAt third all second_end
   stands-third = record {
     within = omega (arith, four, are.found.third_is);
     at = λ i lt.
-      in-three (second_end + i) (omega (arith, lt, are.found.third_is))
-      ∙ get_or-append_right (first ++ second) third second_end (second_end + i) 0 two (omega arith)
-      ∙ ap (λ (k : ℕ). get_or third k 0) (omega arith);
+        in-three (second_end + i) (omega (arith, lt, are.found.third_is))
+        ∙ get_or-append_right (first ++ second) third second_end (second_end + i) 0 two (omega arith)
+        ∙ ap (λ (k : ℕ). get_or third k 0) (omega arith);
   }
 
   pub stands-fourth : StandAt fourth all third_end
   stands-fourth = record {
     within = omega (arith, four);
     at = λ i lt.
-      get_or-append_right ((first ++ second) ++ third) fourth third_end (third_end + i) 0 three (omega arith)
-      ∙ ap (λ (k : ℕ). get_or fourth k 0) (omega arith);
+        get_or-append_right ((first ++ second) ++ third) fourth third_end (third_end + i) 0 three (omega arith)
+        ∙ ap (λ (k : ℕ). get_or fourth k 0) (omega arith);
   }
 
 -- nothing is told that is wrong where nothing is told

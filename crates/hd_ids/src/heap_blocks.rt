@@ -77,7 +77,12 @@ fn put_row(blocks: &mut Vec<Block>, start: usize, numbers: &Numbers, row: usize,
     ensures tells { (all : List ℕ) (first page : ℕ) → page % 8 ≡ 0 → page / 8 * 16 ≡ start + first → IsRowOf all numbers.now row page base → Tells all (record { first = first; blocks = blocks.old.items }) → Tells all (record { first = first; blocks = blocks.new.items }) }
 {
     for i in 0..BLOCKS as usize {
-        put_block(blocks, start + i, numbers.block(row * BLOCKS as usize + i), base);
+        put_block(
+            blocks,
+            start + i,
+            numbers.block(row * BLOCKS as usize + i),
+            base,
+        );
     }
 }
 

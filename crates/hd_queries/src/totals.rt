@@ -30,9 +30,8 @@ fn count_part(graph: &Graph, strengths: &[Strength], start: u32, end: u32) -> St
     ensures { AreCounted graph.now (map only_strength strengths.now) start end result }
 {
     let mut totals = StrengthTotals::none();
-    let mut bytes = graph.bytes();
     for o in start..end {
-        totals.add(strengths[o as usize], bytes.get(o));
+        totals.add(strengths[o as usize], graph.bytes_of(o));
     }
     totals
 }

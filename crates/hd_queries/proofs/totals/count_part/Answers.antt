@@ -1,5 +1,6 @@
-use Rattle.std.proofs.Common.{◌≡◌, ◌∙◌, ℕ, ◌+◌, ◌<◌, length, map, get_or, List, ap, subst, sym, arith}
+use Rattle.std.proofs.Common.{◌≡◌, ◌∙◌, ℕ, ◌+◌, ◌<◌, ◌≤◌, length, map, ap, subst, sym, arith}
 use Rattle.hd_terms.specs.declared.Strength.{Strength}
+use Rattle.hd_terms.specs.Records.{largest_file}
 use Rattle.hd_terms.specs.Dump.{object_at}
 use Rattle.hd_terms.specs.Settled.{reached_at}
 use Rattle.hd_totals.specs.declared.total.StrengthTotals.{StrengthTotals}
@@ -16,10 +17,7 @@ loop-o-preserved c =
     let ks = map only_strength ss in
     let old = c.loop-o.totals in
     let within : c.loop-o.o < length dump.objects = omega arith in
-    let bytes = c.get.ensures.bytes ∙ c.loop-o.invariant.2 c.loop-o.o within in
+    let small = subst (λ (n : ℕ). n ≤ largest_file) c.bytes_of.ensures.bytes c.bytes_of.ensures.small in
     let is : c.add.new.self ≡ plus_one old (reached_at ks c.loop-o.o).strength (object_at dump c.loop-o.o).bytes =
-    c.add.ensures ∙ ap (λ (s : Strength). plus_one old s c.get.result) (sym (only-at ss c.loop-o.o _ (omega (arith, c.requires.count)))) ∙ ap (λ (n : ℕ). plus_one old (reached_at ks c.loop-o.o).strength n) bytes in (
-      subst (λ (totals : StrengthTotals). AreCounted dump ks c.args.start (c.loop-o.o + 1) totals) (sym is) (one-more-counted dump ks c.args.start c.loop-o.o old c.loop-o.invariant.0 within (c.bytes-bytes.ensures.small c.loop-o.o within)),
-      ap (λ (bs : List ℕ). length bs) c.get.ensures.same ∙ c.loop-o.invariant.1,
-      λ o lt. ap (λ (bs : List ℕ). get_or bs o 0) c.get.ensures.same ∙ c.loop-o.invariant.2 o lt,
-    )
+    c.add.ensures ∙ ap (λ (s : Strength). plus_one old s c.bytes_of.result) (sym (only-at ss c.loop-o.o _ (omega (arith, c.requires.count)))) ∙ ap (λ (n : ℕ). plus_one old (reached_at ks c.loop-o.o).strength n) c.bytes_of.ensures.bytes in
+    subst (λ (totals : StrengthTotals). AreCounted dump ks c.args.start (c.loop-o.o + 1) totals) (sym is) (one-more-counted dump ks c.args.start c.loop-o.o old c.loop-o.invariant within small)

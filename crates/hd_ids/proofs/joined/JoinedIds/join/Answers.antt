@@ -19,6 +19,6 @@ invariant_of-result c =
     let fourth = c.len-fourth_len.ensures in
     record {
       are_joined = parts-joined c.args.first c.args.second c.args.third c.args.fourth _ _ _ _ first.len second.len third.len fourth.len first.few second.few third.few fourth.few
-      first.distinct second.distinct third.distinct fourth.distinct (sym c.are_all_apart.ensures ∙ c.if-not-are_all_apart.false);
+          first.distinct second.distinct third.distinct fourth.distinct (sym c.are_all_apart.ensures ∙ c.if-not-are_all_apart.false);
       told_is = c.heap_of-heap.ensures;
     }
