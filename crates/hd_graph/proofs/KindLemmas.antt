@@ -436,11 +436,11 @@ module _ (objects : List Object) where
         few = λ (k : RefKind). omega (arith, ap (λ (ks : List KeptEdge). length ks) (joined k), length-append (kept_of one k) (kept_of other k), h.few k, more.few k);
       }
 
-  pub kinds-all : (n : ℕ) (lists : KindLists) → n ≡ length objects → AreKindsBetween objects 0 n lists → AreKinds objects lists
-  kinds-all n lists is h = record {
+  pub kinds-all : (n : ℕ) (lists : KindLists) → n ≡ length objects → n < 2 ^ 31 → AreKindsBetween objects 0 n lists → AreKinds objects lists
+  kinds-all n lists is small h = record {
     edges = λ (k : RefKind).
         h.edges k ∙ ap (λ (ps : List (ℕ × Object)). map (λ (e : Edge). Some e) (of_kind k (flat_map (edges_from objects) ps))) (take_all (n - 0) (enumerate_from 0 objects) (omega (arith, is, length-enumerate_from 0 objects)));
-    few = λ (k : RefKind). omega (arith, h.few k, is);
+    few = λ (k : RefKind). omega (arith, h.few k, small);
   }
 
   module _ {E : Type 0} where
@@ -482,11 +482,11 @@ module _ (objects : List Object) where
           kinds = kinds-join 0 (part_start (length objects) h.joined) (part_start (length objects) (h.joined + 1)) old part new h.kinds left.0 joined;
         }
 
-    pub all-joined : (rest : List (Result KindLists E)) (lists : KindLists) → AreJoined rest lists → length rest ≡ 0 → AreKinds objects lists
-    all-joined rest lists h none =
+    pub all-joined : (rest : List (Result KindLists E)) (lists : KindLists) → length objects < 2 ^ 31 → AreJoined rest lists → length rest ≡ 0 → AreKinds objects lists
+    all-joined rest lists few h none =
         let four : h.joined ≡ 4 = omega (arith, h.four, none) in
         let all : part_start (length objects) h.joined ≡ length objects = ap (part_start (length objects)) four ∙ omega arith in
-        kinds-all (part_start (length objects) h.joined) lists all h.kinds
+        kinds-all (part_start (length objects) h.joined) lists all (omega (arith, all, few)) h.kinds
 
   -- as many are kept as there are edges
   pub as-many-kept : (kept : List KeptEdge) (es : List Edge) → AreKept objects kept es → length kept ≡ length es

@@ -5,7 +5,6 @@ use Rattle.hd_graph.specs.declared.graph.Graph.TheInside.{Inside}
 use Rattle.hd_graph.specs.declared.graph.StoredRoot.{StoredRoot}
 use Rattle.hd_graph.specs.declared.graph.Repeats.{Repeats}
 use Rattle.hd_graph.specs.Shapes.{IsSmall, row_objects, AreColumns}
-use Rattle.hd_graph.specs.Kinds.{AreKinds}
 
 -- a root as it is kept
 abbrev pub root_of_row : StoredRoot → Root
@@ -27,11 +26,10 @@ dump_of_graph a = record {
   names = a.names;
 }
 
--- what holds of what is kept: a row and a shape for each object, no more recorded bytes than a file has, numbers of four
--- bytes suffice, and of each kind the edges through referents are known
+-- what holds of what is kept: a row and a shape for each object, no more recorded bytes than a file has, and numbers of four
+-- bytes suffice
 pub record IsGraph (a : Inside) : Type 0 where
   pub columns : AreColumns a.shapes.objects a.slot_table.ids a.slot_table.rows
   pub small : All IsSmall a.shapes.objects
   pub few : length a.slot_table.ids < 2 ^ 31
   pub few_roots : length a.roots.items < 2 ^ 32
-  pub kinds : AreKinds (row_objects a.shapes.objects a.slot_table.ids a.slot_table.rows) a.kinds

@@ -1,5 +1,5 @@
 -- The edges that go through referents, as they are kept: a list for each kind of reference objects.
-use Rattle.std.specs.Prelude.{◌≡◌, ◌≤◌, ℕ, ◌+◌, ◌*◌, ◌/◌, List, [], ◌∷◌, ◌++◌, length, map, slice_range, Option, Some, None}
+use Rattle.std.specs.Prelude.{◌≡◌, ◌≤◌, ◌<◌, ℕ, ◌+◌, ◌*◌, ◌/◌, ◌^◌, List, [], ◌∷◌, ◌++◌, length, map, slice_range, Option, Some, None}
 use Rattle.std.specs.Option.{option_and_then}
 use Rattle.std.specs.List.{flat_map, filter, slice_get, slice_index_or, enumerate_from}
 use Rattle.hd_terms.specs.declared.EdgeKind.{EdgeKind}
@@ -75,7 +75,7 @@ part_start n part = n * part / 4
 abbrev pub AreKindsOfPart : List Object → ℕ → KindLists → Type 0
 AreKindsOfPart objects part lists = AreKindsBetween objects (part_start (length objects) part) (part_start (length objects) (part + 1)) lists
 
--- of each kind the edges of all objects are kept
+-- of each kind the edges of all objects are kept, and numbers of four bytes suffice to count them
 pub record AreKinds (objects : List Object) (lists : KindLists) : Type 0 where
   pub edges : (k : RefKind) → AreKept objects (kept_of lists k) (of_kind k (flat_map (edges_from objects) (enumerate_from 0 objects)))
-  pub few : (k : RefKind) → length (kept_of lists k) ≤ length objects
+  pub few : (k : RefKind) → length (kept_of lists k) < 2 ^ 31

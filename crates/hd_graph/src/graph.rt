@@ -1,5 +1,5 @@
 //! Looking up the graph: objects by number or ID, their slots, their sizes, and the roots.
-ghost use Rattle.std.specs.Prelude.{◌≡◌, ◌<◌, ◌^◌, ℕ, length, map, position, slice_get, None, Some, true, ◌≤◌, All, MatchOption, sum_by};
+ghost use Rattle.std.specs.Prelude.{◌≡◌, ◌<◌, ◌^◌, ℕ, length, map, position, slice_get, None, Some, true, ◌≤◌, All, IfOk, MatchOption, sum_by};
 ghost use Rattle.std.specs.List.{slice_index_or};
 ghost use Rattle.hd_terms.specs.Counts.{unresolved_of};
 ghost use Rattle.hd_terms.specs.Edges.{index_of};
@@ -12,12 +12,14 @@ ghost use Rattle.hd_graph.specs.Arrays.{row_index};
 ghost use Rattle.hd_graph.specs.Counting.{edges_of};
 ghost use Rattle.hd_graph.specs.Shapes.{slot_name, slot_kind, shape_index, shape_referent, IsNamedAt, HasFewNames};
 
-use crate::kinds::KindLists;
+use crate::kinds::{KindLists, kinds_of};
 use hd_classes::ClassNames;
 use hd_shapes::{JoinedShapes, Shape};
 use hd_slots::{IdCounts, SlotTable, Targets};
 use hd_terms::{EdgeKind, Group, Mode, RootKind, Slot};
+use std::alloc::{AllocError, Global};
 use std::marker::Model;
+use std::thread::Threads;
 
 /// The objects, references and roots of a dump. Objects are numbered from 0 in file order.
 pub struct Graph {
@@ -28,7 +30,6 @@ pub struct Graph {
     opaque: u64,
     mode: Mode,
     names: ClassNames,
-    kinds: KindLists,
 }
 
 impl Drop for Graph {
@@ -42,7 +43,6 @@ impl Drop for Graph {
             opaque: _,
             mode: _,
             names,
-            kinds,
         } = self;
     }
 }
@@ -196,7 +196,7 @@ impl Graph {
     ghost use Rattle.hd_graph.specs.Kinds.{AreKinds};
 
     /// The graph of references and shapes, a row and a shape for each object, and roots, what was repeated, how many
-    /// instances are opaque, how phantom references are followed, the names of classes, and the references of each kind.
+    /// instances are opaque, how phantom references are followed, and the names of classes.
     pub(crate) fn new(
         slot_table: SlotTable,
         shapes: JoinedShapes,
@@ -205,13 +205,11 @@ impl Graph {
         opaque: u64,
         mode: Mode,
         names: ClassNames,
-        kinds: KindLists,
     ) -> Graph
         requires columns { AreColumns shapes.objects slot_table.ids slot_table.rows }
         requires small { All IsSmall shapes.objects }
         requires few { length slot_table.ids < 2 ^ 31 }
         requires few_roots { length roots.items < 2 ^ 32 }
-        requires kinds { AreKinds (row_objects shapes.objects slot_table.ids slot_table.rows) kinds }
         ensures { result ≡ record { mode = mode; objects = row_objects shapes.objects slot_table.ids slot_table.rows; roots = map root_of_row roots.items; repeated = repeated_in repeats; opaque = opaque; names = names } }
     {
         Graph {
@@ -222,7 +220,6 @@ impl Graph {
             opaque,
             mode,
             names,
-            kinds,
         }
     }
 
@@ -240,12 +237,20 @@ impl Graph {
         self.opaque
     }
 
-    /// The references that go through referents, by their kinds.
-    pub(crate) fn kinds(&self) -> &KindLists
-        ensures kinds { AreKinds self.now.objects result.now }
-        ensures few { length self.now.objects < 2 ^ 31 }
+    /// The references that go through referents, by their kinds. All objects are gone through, by four threads; only edits ask for
+    /// these references.
+    ///
+    /// # Errors
+    ///
+    /// Out of memory.
+    pub fn kind_lists<R: Threads + Sync>(
+        &self,
+        rt: &R,
+        alloc: Global,
+    ) -> Result<KindLists, AllocError>
+        ensures { IfOk result (AreKinds self.now.objects) }
     {
-        &self.kinds
+        kinds_of(rt, alloc, &self.slot_table, &self.shapes)
     }
 
     /// How phantom references are followed in this dump.

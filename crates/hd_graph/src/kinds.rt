@@ -24,8 +24,8 @@ pub(crate) struct KeptEdge {
 
 const _: () = prove!(size_of::<KeptEdge>() <= 8);
 
-/// The references that go through referents, a list for each kind, in the order of their sources.
-pub(crate) struct KindLists {
+/// The references that go through referents, a list for each kind, in the order of their sources. It takes 8 bytes a reference.
+pub struct KindLists {
     soft: Vec<KeptEdge>,
     weak: Vec<KeptEdge>,
     finals: Vec<KeptEdge>,
@@ -182,19 +182,23 @@ pub(crate) fn kinds_of<R: Threads + Sync>(
 }
 
 impl Graph {
-    /// How many references of the dump go through the referents of reference objects of a kind, to objects.
-    pub fn kind_len(&self, kind: RefKind) -> u32
+    /// How many references of the dump go through the referents of reference objects of a kind, to objects. The lists are the
+    /// graph's own.
+    pub fn kind_len(&self, kinds: &KindLists, kind: RefKind) -> u32
+        requires { AreKinds self.now.objects kinds.now }
         ensures { result ≡ length (kind_edges self.now kind) }
     {
-        self.kinds().of(kind).len() as u32
+        kinds.of(kind).len() as u32
     }
 
-    /// One of these references, in the order of the objects' numbers: the number of the reference object, and its referent.
-    pub fn kind_edge(&self, kind: RefKind, i: u32) -> (u32, Slot)
-        requires { i < length (kind_edges self.now kind) }
+    /// One of these references, in the order of the objects' numbers: the number of the reference object, and its referent. The
+    /// lists are the graph's own.
+    pub fn kind_edge(&self, kinds: &KindLists, kind: RefKind, i: u32) -> (u32, Slot)
+        requires kinds { AreKinds self.now.objects kinds.now }
+        requires index { i < length (kind_edges self.now kind) }
         ensures { (e : Edge) × (slice_get (kind_edges self.now kind) i ≡ Some e) × (result ≡ (e.source, e.slot)) }
     {
-        let kept = self.kinds().of(kind)[i as usize];
+        let kept = kinds.of(kind)[i as usize];
         (kept.source, self.slots(kept.source, kept.index).slot)
     }
 }

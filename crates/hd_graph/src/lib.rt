@@ -18,4 +18,5 @@ mod sharing;
 mod stretch;
 
 pub use graph::{Graph, RootRead, SlotName, SlotRead};
+pub use kinds::KindLists;
 pub use opening::open_dump;

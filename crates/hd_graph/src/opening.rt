@@ -13,7 +13,6 @@ ghost use Rattle.hd_graph.specs.Building.{IsReadFaultOrMemory};
 
 use crate::filling::{Rows, rows_of};
 use crate::graph::{Graph, Repeats};
-use crate::kinds::kinds_of;
 use crate::numbering::Numbered;
 use crate::sharing::numbers_and_rows;
 use hd_classes::{Classes, FirstTexts, RepeatedRecords, names_of};
@@ -65,7 +64,6 @@ impl Graph {
         )?;
         drop(list);
         let slot_table = slot_table.resolve(rt, alloc)?;
-        let kinds = kinds_of(rt, alloc, &slot_table, &shapes)?;
         let repeats = Repeats {
             objects: tally.repeated,
             strings: texts,
@@ -79,7 +77,6 @@ impl Graph {
             tally.opaque,
             mode,
             names,
-            kinds,
         ))
     }
 }

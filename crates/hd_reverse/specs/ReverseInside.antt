@@ -6,7 +6,7 @@ use Rattle.hd_reverse.specs.Reverse.{Reverse}
 
 -- the rows as they are kept
 abbrev pub reverse_of : Inside → Reverse
-reverse_of a = record { starts = a.starts.items; referrers = a.referrers.items; roots = a.roots }
+reverse_of a = record { starts = a.starts.items; referrers = a.referrers.items; roots = a.roots; kinds = a.kinds }
 
 -- what holds of them: no row ends before it starts or past the last one
 pub record IsReverse (a : Inside) : Type 0 where

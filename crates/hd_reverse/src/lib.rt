@@ -1,4 +1,5 @@
-//! Where the objects of a graph are referred to: slots and roots, by the objects that they lead to.
+//! Where the objects of a graph are referred to: slots and roots, by the objects that they lead to, and references through
+//! referents, by their kinds.
 #![tactic(auto)]
 
 mod numbers;

@@ -1,4 +1,4 @@
-//! Of each object the slots that refer to it, and the roots on it.
+//! Of each object the slots that refer to it, and the roots on it; and the references through referents.
 ghost use Rattle.std.specs.Prelude.{◌≡◌, ◌+◌, ◌<◌, ◌^◌, length, slice_get, Some, IfOk};
 ghost use Rattle.std.specs.List.{filter_map, enumerate_from};
 ghost use Rattle.hd_reverse.specs.Numbers.{root_number};
@@ -7,17 +7,20 @@ ghost use Rattle.hd_reverse.specs.Reverse.{referrers_in, roots_in, IsReverseOf};
 use crate::numbers::{NumberOn, NumbersByObject};
 use crate::passes::filled_rows;
 use crate::referrer::Referrer;
-use hd_graph::Graph;
+use hd_graph::{Graph, KindLists};
 use hd_terms::NoMemory;
 use std::alloc::Global;
 use std::marker::Model;
+use std::thread::Threads;
 
-/// Of each object of a graph the slots that refer to it, in the order of their objects and indexes, and the roots of the
-/// dump on it, in their order. It takes 8 bytes a reference, 4 an object, and 8 a root.
+/// What a graph has to be asked for once it is edited: of each object the slots that refer to it, in the order of their objects and
+/// indexes, and the roots of the dump on it, in their order; and of each kind the references through referents. It takes 8 bytes a
+/// reference, 4 an object, 8 a root, and 8 a reference object.
 pub struct ReverseRows {
     starts: Vec<u32>,
     referrers: Vec<Referrer>,
     roots: NumbersByObject,
+    kinds: KindLists,
 }
 
 impl Drop for ReverseRows {
@@ -27,6 +30,7 @@ impl Drop for ReverseRows {
             starts,
             referrers,
             roots,
+            kinds,
         } = self;
     }
 }
@@ -58,21 +62,34 @@ fn root_numbers(alloc: Global, graph: &Graph) -> Result<Vec<NumberOn>, NoMemory>
 }
 
 impl ReverseRows {
-    /// The slots and roots of a graph by the objects that they refer to.
+    /// The slots and roots of a graph by the objects that they refer to, and its references through referents by their kinds.
     ///
     /// # Errors
     ///
     /// Memory ran out, or there are 2^32 references or more, which no file has.
-    pub fn of(alloc: Global, graph: &Graph) -> Result<ReverseRows, NoMemory>
+    pub fn of<R: Threads + Sync>(
+        rt: &R,
+        alloc: Global,
+        graph: &Graph,
+    ) -> Result<ReverseRows, NoMemory>
         ensures { IfOk result (λ r. IsReverseOf graph.now r) }
     {
         let (starts, referrers) = filled_rows(alloc, graph)?;
         let roots = NumbersByObject::of(root_numbers(alloc, graph)?)?;
+        let kinds = graph.kind_lists(rt, alloc)?;
         Ok(ReverseRows {
             starts,
             referrers,
             roots,
+            kinds,
         })
+    }
+
+    /// The graph's references through referents, by their kinds.
+    pub fn kinds(&self) -> &KindLists
+        ensures { result.now ≡ self.now.kinds }
+    {
+        &self.kinds
     }
 
     /// How many slots refer to an object.

@@ -96,7 +96,7 @@ pub(crate) fn kept_and_reverse<R: Threads + Sync>(
         rt,
         || -> Result<ReverseRows, NoMemory>
             ensures { IfOk result (λ rows. IsReverseOf graph.entry.now rows) }
-        { ReverseRows::of(alloc, graph) },
+        { ReverseRows::of(rt, alloc, graph) },
         || -> Result<KeptParts, NoMemory>
             requires empty { log.now.front ≡ [] }
             requires removed { IsRemovedBy graph.now log.now.front (arc_value log.now.removed) }

@@ -57,8 +57,8 @@ pub fn repaired(
         → r.looks ≤ 2 * sum_by (degree (rows_of after.entry.graph.now after.entry.front.now)) region) }
     ensures stamps { IfOk result (λ r. (m : ℕ) → ((o : ℕ) → (reached_at supports.now o).stamp ≤ m) → (o : ℕ) → (reached_at r.supports o).stamp ≤ m + length after.entry.graph.now.objects) }
 {
-    let lost = lost_between(alloc, before, after)?;
-    let gained = lost_between(alloc, after, before)?;
+    let lost = lost_between(alloc, reverse.kinds(), before, after)?;
+    let gained = lost_between(alloc, reverse.kinds(), after, before)?;
     let mut supports = supports.share(alloc)?;
     let mut view = View::new(after.graph, reverse, after.front, after.removed, added);
     if gained.is_empty() {

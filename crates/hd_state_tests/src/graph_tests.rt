@@ -114,12 +114,15 @@ fn referent(rt: HostRuntime) {
 fn edges_of_kinds(rt: HostRuntime) {
     let graph = graph_of(&rt, rt.alloc(), WEAK_AND_FINAL).expect(&rt, "the dump opens");
     assert_eq!(rt; graph.objects(), 10);
-    assert_eq!(rt; graph.kind_len(RefKind::Soft), 0);
-    assert_eq!(rt; graph.kind_len(RefKind::Phantom), 0);
-    assert_eq!(rt; graph.kind_len(RefKind::Weak), 1);
-    assert!(rt; graph.kind_edge(RefKind::Weak, 0) == (7, Slot::Field(0)));
-    assert_eq!(rt; graph.kind_len(RefKind::Final), 1);
-    assert!(rt; graph.kind_edge(RefKind::Final, 0) == (8, Slot::Field(0)));
+    let kinds = graph
+        .kind_lists(&rt, rt.alloc())
+        .expect(&rt, "there is memory");
+    assert_eq!(rt; graph.kind_len(&kinds, RefKind::Soft), 0);
+    assert_eq!(rt; graph.kind_len(&kinds, RefKind::Phantom), 0);
+    assert_eq!(rt; graph.kind_len(&kinds, RefKind::Weak), 1);
+    assert!(rt; graph.kind_edge(&kinds, RefKind::Weak, 0) == (7, Slot::Field(0)));
+    assert_eq!(rt; graph.kind_len(&kinds, RefKind::Final), 1);
+    assert!(rt; graph.kind_edge(&kinds, RefKind::Final, 0) == (8, Slot::Field(0)));
 }
 
 /// The supports of five arrays in a row, of which the third leads to the fourth by its element 1.

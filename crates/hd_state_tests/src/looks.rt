@@ -26,7 +26,7 @@ fn looks_over<R: Threads + Sync>(
     requires before { IsRemovedBy before.graph.now before.front.now before.removed.now }
     requires after { IsRemovedBy after.graph.now after.front.now after.removed.now }
 {
-    let reverse = ReverseRows::of(alloc, after.graph)?;
+    let reverse = ReverseRows::of(rt, alloc, after.graph)?;
     let strengths = from_scratch(rt, alloc, before.graph, before.front)?;
     let supports = Supports::of(alloc, strengths)?;
     supports.are_few();

@@ -3,6 +3,7 @@ ghost use Rattle.std.specs.Prelude.{◌≡◌, ℕ, ◌+◌, ◌<◌, ◌==◌, 
 ghost use Rattle.std.specs.Option.{option_map, option_map_or};
 ghost use Rattle.hd_terms.specs.Log.{live_flags};
 ghost use Rattle.hd_terms.specs.Paths.{RootEntry};
+ghost use Rattle.hd_graph.specs.Kinds.{AreKinds};
 ghost use Rattle.hd_strength.specs.Removed.{has_root, IsRemovedBy};
 ghost use Rattle.hd_strength.specs.Rows.{root_at};
 ghost use Rattle.hd_view.specs.Losing.{AddsLost, HasIndexed, HasKind, HasKinds, HasNamed, HasNumber, HasSlots};
@@ -10,6 +11,7 @@ ghost use Rattle.hd_terms.specs.Lost.{AreLost};
 
 use crate::edited::Edited;
 use hd_edges::Held;
+use hd_graph::KindLists;
 use hd_strength::root_target;
 use hd_terms::{NoMemory, RefKind, Slot, Support};
 use std::alloc::Global;
@@ -93,10 +95,12 @@ fn push_slots(items: &mut Vec<Held>, more: Edited<'_>, less: Edited<'_>) -> Resu
 /// Adds the lost edges of a kind, if the log with less clears the kind and the other doesn't.
 fn push_kind(
     items: &mut Vec<Held>,
+    kinds: &KindLists,
     more: Edited<'_>,
     less: Edited<'_>,
     kind: RefKind,
 ) -> Result<(), NoMemory>
+    requires kinds { AreKinds more.graph.now.objects kinds.now }
     requires same { less.graph.now ≡ more.graph.now }
     requires more { IsRemovedBy more.graph.now more.front.now more.removed.now }
     requires less { IsRemovedBy less.graph.now less.front.now less.removed.now }
@@ -109,25 +113,31 @@ fn push_kind(
     if more.removed.clears(kind.edge_kind()) {
         return Ok(());
     }
-    for j in 0..more.graph.kind_len(kind) {
-        let (o, slot) = more.graph.kind_edge(kind, j);
+    for j in 0..more.graph.kind_len(kinds, kind) {
+        let (o, slot) = more.graph.kind_edge(kinds, kind, j);
         push_edge(items, more, less, o, slot)?;
     }
     Ok(())
 }
 
 /// Adds the lost edges of the kinds that the log with less clears and the other doesn't.
-fn push_kinds(items: &mut Vec<Held>, more: Edited<'_>, less: Edited<'_>) -> Result<(), NoMemory>
+fn push_kinds(
+    items: &mut Vec<Held>,
+    kinds: &KindLists,
+    more: Edited<'_>,
+    less: Edited<'_>,
+) -> Result<(), NoMemory>
+    requires kinds { AreKinds more.graph.now.objects kinds.now }
     requires same { less.graph.now ≡ more.graph.now }
     requires more { IsRemovedBy more.graph.now more.front.now more.removed.now }
     requires less { IsRemovedBy less.graph.now less.front.now less.removed.now }
     ensures adds { OnOk result (AddsLost more.entry.graph.now more.entry.front.now less.entry.front.now items.old.items items.new.items) }
     ensures all { OnOk result (HasKinds more.entry.graph.now more.entry.front.now less.entry.front.now less.entry.removed.now items.new.items) }
 {
-    push_kind(items, more, less, RefKind::Soft)?;
-    push_kind(items, more, less, RefKind::Weak)?;
-    push_kind(items, more, less, RefKind::Final)?;
-    push_kind(items, more, less, RefKind::Phantom)?;
+    push_kind(items, kinds, more, less, RefKind::Soft)?;
+    push_kind(items, kinds, more, less, RefKind::Weak)?;
+    push_kind(items, kinds, more, less, RefKind::Final)?;
+    push_kind(items, kinds, more, less, RefKind::Phantom)?;
     Ok(())
 }
 
@@ -233,16 +243,19 @@ fn push_added(
     Ok(())
 }
 
-/// The edges and roots that stand under one log of a graph and not under another, by what they hold.
+/// The edges and roots that stand under one log of a graph and not under another, by what they hold. The lists are those of the
+/// graph's references through referents.
 ///
 /// # Errors
 ///
 /// Memory ran out.
 pub fn lost_between(
     alloc: Global,
+    kinds: &KindLists,
     more: Edited<'_>,
     less: Edited<'_>,
 ) -> Result<Vec<Held>, NoMemory>
+    requires kinds { AreKinds more.graph.now.objects kinds.now }
     requires same { less.graph.now ≡ more.graph.now }
     requires more { IsRemovedBy more.graph.now more.front.now more.removed.now }
     requires less { IsRemovedBy less.graph.now less.front.now less.removed.now }
@@ -250,7 +263,7 @@ pub fn lost_between(
 {
     let mut items = Vec::new(alloc);
     push_slots(&mut items, more, less)?;
-    push_kinds(&mut items, more, less)?;
+    push_kinds(&mut items, kinds, more, less)?;
     let more_live = more.front.live(alloc)?;
     let less_live = less.front.live(alloc)?;
     push_dropped(&mut items, more, &more_live, less, &less_live)?;

@@ -1,5 +1,6 @@
-use Rattle.std.proofs.Common.{◌∙◌, ◌∷◌, Ok, ap, arith}
+use Rattle.std.proofs.Common.{◌∙◌, ◌<◌, ◌^◌, ◌∷◌, length, Ok, ap, arith}
 use Rattle.hd_graph.specs.Shapes.{row_objects}
+use Rattle.hd_graph.proofs.ArrayLemmas.{length-row_objects}
 use Rattle.hd_graph.proofs.KindLemmas.{none-joined, next-joined, all-joined}
 use Rattle.hd_graph.proofs.kinds.kinds_of.Goals as goal
 
@@ -19,4 +20,5 @@ pub returns : goal.returns
 returns g c =
     let objects = row_objects c.args.shapes.now.objects c.args.slot_table.now.ids c.args.slot_table.now.rows in
     let rest = c.loop-part.part-iterator.rest in
-    all-joined objects rest.items c.loop-part.lists c.loop-part.invariant (omega (arith, c.in-None.ensures.steps.0, rest.ok.0))
+    let few : length objects < 2 ^ 31 = omega (arith, length-row_objects c.args.shapes.now.objects c.args.slot_table.now.ids c.args.slot_table.now.rows c.requires.columns, c.requires.few) in
+    all-joined objects rest.items c.loop-part.lists few c.loop-part.invariant (omega (arith, c.in-None.ensures.steps.0, rest.ok.0))

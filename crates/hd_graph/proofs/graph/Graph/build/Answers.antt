@@ -32,14 +32,6 @@ rows_of-requires-clause-classes g c =
     let k = few-and-short c.args.bytes.now c.args.records.id_size _ _ c.args.records.segments c.requires.records c.args.list c.requires.list c.args.classes c.requires.classes c.requires.no_cycle in
     rw c.without_names-classes.ensures (record { few = k.few; short = k.short })
 
-pub kinds_of-requires-clause-columns : goal.kinds_of-requires-clause-columns
-kinds_of-requires-clause-columns g c κs within = rw c.in_ok-slot_table-2.ensures (whole-columns c.args.bytes.now c.args.records.id_size _ _ c.args.records.segments c.requires.records c.args.list c.requires.list c.args.classes c.requires.classes c.requires.no_cycle _ _ _ (rw c.without_names-classes.ensures at c.in_ok-numbered.ensures.numbers) (columns c.in_ok-slot_table.field-0.slot_table c.in_ok-slot_table.field-0.shapes.objects) (rw c.without_names-classes.ensures at c.in_ok-slot_table.ensures))
-
-pub returns-in_err-kinds-clause-err : goal.returns-in_err-kinds-clause-err
-returns-in_err-kinds-clause-err g c =
-    let p = err_from_is_err_and c.from_residual-in_err-kinds.result c.from_residual-in_err-kinds.ensures.1 in
-    rw (p.1, p.2) (inl refl)
-
 pub new-requires-clause-columns : goal.new-requires-clause-columns
 new-requires-clause-columns g c = rw c.in_ok-slot_table-2.ensures (whole-columns c.args.bytes.now c.args.records.id_size _ _ c.args.records.segments c.requires.records c.args.list c.requires.list c.args.classes c.requires.classes c.requires.no_cycle _ _ _ (rw c.without_names-classes.ensures at c.in_ok-numbered.ensures.numbers) (columns c.in_ok-slot_table.field-0.slot_table c.in_ok-slot_table.field-0.shapes.objects) (rw c.without_names-classes.ensures at c.in_ok-slot_table.ensures))
 

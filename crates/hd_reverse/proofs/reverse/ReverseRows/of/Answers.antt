@@ -7,7 +7,7 @@ use Rattle.hd_reverse.proofs.NumberLemmas.{numbers_of_roots}
 use Rattle.hd_reverse.proofs.reverse.ReverseRows.of.Goals as goal
 
 pub invariant_of-result : goal.invariant_of-result
-invariant_of-result c =
+invariant_of-result g c =
     let cells = c.in_ok-starts.starts.items in
     let places = c.in_ok-starts.referrers.items in
     record {
@@ -16,7 +16,7 @@ invariant_of-result c =
     }
 
 pub returns : goal.returns
-returns c =
+returns g c =
     let dump = c.args.graph.now in
     record {
       objects = c.in_ok-starts.ensures.len;
@@ -26,4 +26,5 @@ returns c =
           c.in_ok-roots.ensures o
           ∙ ap (λ (ns : List NumberOn). numbers_on ns o) c.in_ok-root_numbers.ensures.numbers
           ∙ numbers_of_roots dump o (enumerate_from 0 dump.roots);
+      kinds = c.in_ok-kinds.ensures;
     }
