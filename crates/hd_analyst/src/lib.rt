@@ -1,4 +1,16 @@
-//! An analyst at work: what a command does at the analyst's desk, and the reply to it, which may have many lines.
+//! What a command does at an analyst's desk, and the reply to it.
+//!
+//! `answer` (`answering.rt`) runs what a line spells. A line that spells no command is refused, and `quit` is answered,
+//! both without a look at the log. Before any other command the desk is refreshed; where that fails, the command isn't
+//! run. A short reply is put into a `FixedBuffer` (`fixed_buffer.rt`), so it takes no memory; a long one is given back
+//! as a text.
+//!
+//! - `analyst.rt`: `Analyst`, with the desk, up to 16 marks, and an open private part: a board of its own
+//!   (`Board::fork`) and the desk to which the analyst goes back. Mark 0 is the state as the session began.
+//! - `edit.rt`: edits and undos. `query.rt`: queries, which need only a state and the marks.
+//! - `reply.rt`: short replies of at most 256 bytes, and the names of refusals and faults.
+//! - `texts.rt`: replies of many lines, and `log_text`, the lines of a log alone, for the server to print.
+//! - `class_lines.rt`, `link_lines.rt`: the two line formats that need the graph, for names and IDs.
 #![tactic(auto)]
 
 mod analyst;

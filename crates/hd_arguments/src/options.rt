@@ -1,5 +1,5 @@
 //! The words that the program takes, as `clap` is told them.
-use crate::limits::MOST_ANALYSTS;
+use crate::limits::{MOST_ANALYSTS, VERSION};
 use clap::{Arg, Command, value_parser};
 use hd_terms::MOST_WORKERS;
 use std::alloc::{AllocError, Global};
@@ -91,6 +91,8 @@ pub(crate) fn all_words<'a>(alloc: Global) -> Result<Command<'a>, AllocError> {
         "Serve one analyst's lines over a dump: example, hdesk run heap.hprof",
     )?;
     let command = Command::new(alloc, "hdesk")
+        .bin_name("hdesk")?
+        .version(VERSION)
         .about("A verified workbench for questions of reachability on Java heap dumps")
         .after_help(EXAMPLES)
         .no_binary_name(true)

@@ -3,7 +3,7 @@ ghost use Rattle.std.specs.Prelude.{IfOk};
 ghost use Rattle.hd_terms.specs.Workers.{IsWorkers};
 ghost use Rattle.hd_arguments.specs.Tasks.{HasWorkers, IsAnalysts, TaskWorkers};
 
-use crate::limits::{MOST_ANALYSTS, WORKERS};
+use crate::limits::{MOST_ANALYSTS, VERSION, WORKERS};
 use crate::options::all_words;
 use crate::task::{Opening, Serving, Task};
 use clap::error::ErrorKind;
@@ -117,6 +117,9 @@ pub fn read_arguments<'a>(
 {
     match read_task(alloc, words) {
         Ok(task) => Ok(task),
-        Err(error) => Err(fault_of(alloc, &error)),
+        Err(error) => match error.kind() {
+            ErrorKind::DisplayVersion => Ok(Some(Task::Version(VERSION))),
+            _ => Err(fault_of(alloc, &error)),
+        },
     }
 }

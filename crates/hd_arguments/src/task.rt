@@ -30,4 +30,6 @@ pub enum Task<'a> {
     Stat(Opening<'a>),
     /// Several analysts' lines are served over a file, each over a connection.
     Serve(Serving<'a>),
+    /// This version of the program is printed.
+    Version(&'a str),
 }

@@ -1,4 +1,14 @@
-//! Edges and roots that are looked at one by one: all that a repair sees of a graph.
+//! The edges and roots of a graph, read one at a time: all that a repair sees of a graph.
+//!
+//! The trait `Edges` gives, for each object, its edges out, the edges into it, and the roots on it, each by an index.
+//! They are there whether they stand or not; each comes with a flag that says which (`EdgeMark`, `RootMark`). Reading
+//! one edge or root is a look, and `looks` counts them. Reading a length is no look. The law `AreRows` (`hd_terms`)
+//! ties these rows to what stands, so a proof over any implementation can count on it.
+//!
+//! A `Held` names an edge or a root by the object that it leads to and the support that it is for that object. Lists of
+//! losses and gains are lists of these.
+//!
+//! The trait keeps `hd_repair` apart from graphs and logs. `View` of `hd_view` is the implementation that states use.
 #![tactic(auto)]
 
 ghost use Rattle.std.specs.Prelude.{◌≡◌, ◌+◌, ◌-◌, ◌^◌, ◌<◌, ℕ, Some, min, length, slice_get};

@@ -18,8 +18,8 @@ enum Index {
 
 /// IDs of objects, each once, in the order in which they were first noted. The number of an object is the index of its ID.
 ///
-/// IDs of objects that lie close are found by pages of the heap. Where the pages have few objects, or there are 2^31 IDs,
-/// all go over to one index. No answer shows by which they are found, nor the secret of the hashes.
+/// IDs of objects that lie close are found by pages of the heap. Where the pages have few objects, or there are 2^31 IDs or
+/// 2^32 places in the rows, all go over to one index. No answer shows by which they are found, nor the secret of the hashes.
 pub struct ObjectIds {
     index: Index,
 }

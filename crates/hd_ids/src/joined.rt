@@ -15,7 +15,8 @@ use std::marker::Model;
 /// IDs of objects, each once, in four parts: those of each part are numbered behind those of the one before.
 ///
 /// Four threads number a part of the objects each, and nothing has to be copied where the parts are put together. Few pages of the
-/// heap have IDs of two. An ID is looked for in one part after another.
+/// heap have IDs of two. A `JoinedFinder` asks the heap blocks for an ID first, then the directory, then one part after the other;
+/// `index_of` asks one part after the other.
 pub struct JoinedIds {
     first: ObjectIds,
     second: ObjectIds,
@@ -325,8 +326,8 @@ impl JoinedIds {
     }
 }
 
-/// Finds the numbers of IDs of four parts, one after another. An ID that lies near one that was asked for is found quicker; no
-/// answer depends on that.
+/// Finds the numbers of IDs of four parts, one after another. It asks the heap blocks first, then the directory, then one part
+/// after the other; no answer depends on that.
 #[derive(Drop)]
 pub struct JoinedFinder<'a> {
     first: Finder<'a>,

@@ -1,5 +1,13 @@
-//! Laws over the definitions: what `stat` writes is a function of the dump's bytes, and what a session writes is one of these
-//! and of its input, but for what the definitions leave open.
+//! Laws over the definitions: what they fix, and what they leave open.
+//!
+//! Each law is the contract of a function that does nothing (`laws.rt`):
+//!
+//! - `one_stat`: the bytes of a dump and the mode have one text of `stat`.
+//! - `one_run`: an analyst who is alone, opens no private part and is told of neither `OutOfMemory` nor a foreign log
+//!   gets replies that are a function of the bytes, the mode and the input, except for the replies to `chain`.
+//! - `plain_session`: such a session exists, so `one_run` says something.
+//!
+//! Nothing calls these functions. They stand on `hd_terms` alone, so they don't depend on how the program works.
 #![tactic(auto)]
 
 mod laws;

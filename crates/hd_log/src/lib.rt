@@ -1,4 +1,12 @@
-//! The log of edits as a value: lawful logs, the events that are live, and why a log doesn't take an event.
+//! The log of edits as a value: a lawful list of at most 4,096 events.
+//!
+//! Callers see a `Front`: a list of events in which each undo takes back an earlier live edit of the same analyst. They
+//! ask whether the log takes an event and why not (`next_fault`, `append_refusal`), extend it, and find out which
+//! events are live. They also ask whether one log begins with another, and whether two have the same events of one
+//! analyst. No method changes a `Front`: `extend` makes a longer one and leaves the old one as it is.
+//!
+//! `front.rt` has the type, a shared `Vec` of events: `share` adds an owner, and `extend` copies the list, which is
+//! short. `events.rt` has the functions over slices of events that it is made of.
 #![tactic(auto)]
 
 mod events;

@@ -1,8 +1,9 @@
 -- What the program does with what the words ask for, and the exit status that it ends with.
 -- Source: this project.
-use Rattle.std.specs.Prelude.{◌≡◌, ◌≢◌, ◌⊎◌, ℕ, List, Option, Result, Ok, Err}
-use Rattle.std.specs.Io.KnownBytes.{Keeps}
+use Rattle.std.specs.Prelude.{◌≡◌, ◌≢◌, ◌⊎◌, ◌++◌, ℕ, List, Option, Result, Ok, Err, OnOk, codes}
+use Rattle.std.specs.Io.KnownBytes.{Keeps, Appends}
 use Rattle.hd_terms.specs.declared.Mode.{Mode}
+use Rattle.hd_terms.specs.Replies.{with_newline}
 use Rattle.hd_protocol.specs.declared.run.RunFault.{RunFault}
 use Rattle.hd_protocol.specs.declared.run.RunFault.TheVariants as faults
 use Rattle.hd_protocol.specs.Running.{RunsDump}
@@ -67,13 +68,30 @@ pub record FailsFirst (input rest before after : Option (List ℕ)) (exit : ℕ)
   pub unwritten : Keeps before after
   pub failed : exit ≢ 0
 
--- what is asked for is done over the bytes that are read from the file, or they can't be read
+-- the line that tells a version
+abbrev pub version_text : List ℕ → List ℕ
+version_text version = with_newline (codes "hdesk " ++ version)
+
+-- the line of a version was written, where the run ended well, and no line was read
+pub record TellsVersion (version : List ℕ) (input rest before after : Option (List ℕ)) (exit : ℕ) : Type 0 where
+  pub ended : Result (Unit {0}) RunFault
+  pub tells : OnOk ended (Appends before after (version_text version))
+  pub unread : Keeps input rest
+  pub exit_is : exit ≡ status ended
+
+-- what is asked for is done: a version is told, or a task over the bytes that are read from the file, or these can't be read
 abbrev pub Performs : Task → (input rest before after : Option (List ℕ)) → (exit : ℕ) → Type 0
 Performs (tasks.Run opening) input rest before after exit = RunsFile opening.mode input rest before after exit ⊎ FailsFirst input rest before after exit
 Performs (tasks.Stat opening) input rest before after exit = StatsFile opening.mode input rest before after exit ⊎ FailsFirst input rest before after exit
 Performs (tasks.Serve serving) input rest before after exit = ServesFile serving.opening.mode input rest before after exit
+Performs (tasks.Version version) input rest before after exit = TellsVersion version.now input rest before after exit
 
--- a run with words: one of the three tasks is done over the bytes that are read from a file, in some mode, or nothing
-abbrev pub RunsWords : (input rest before after : Option (List ℕ)) → (exit : ℕ) → Type 0
-RunsWords input rest before after exit =
+-- one of the three tasks over a file is done over the bytes that are read from it, in some mode, or nothing
+abbrev pub RunsOnFile : (input rest before after : Option (List ℕ)) → (exit : ℕ) → Type 0
+RunsOnFile input rest before after exit =
     (mode : Mode) × (RunsFile mode input rest before after exit ⊎ (StatsFile mode input rest before after exit ⊎ (ServesFile mode input rest before after exit ⊎ FailsFirst input rest before after exit)))
+
+-- a run with words: a version is told; or one of the three tasks over a file is done over the bytes that are read from it, in
+-- some mode; or nothing
+abbrev pub RunsWords : (input rest before after : Option (List ℕ)) → (exit : ℕ) → Type 0
+RunsWords input rest before after exit = ((version : List ℕ) × TellsVersion version input rest before after exit) ⊎ RunsOnFile input rest before after exit

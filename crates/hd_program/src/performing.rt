@@ -1,12 +1,12 @@
 //! The whole program, over given streams.
-ghost use Rattle.std.specs.Prelude.{◌≡◌, ◌≢◌, ◌⊎◌, [], Result, Err};
+ghost use Rattle.std.specs.Prelude.{◌≡◌, ◌≢◌, ◌⊎◌, [], Result, Err, IfOk, OnOk, string_bytes};
 ghost use Rattle.std.specs.Arc.{arc_value};
-ghost use Rattle.std.specs.Io.KnownBytes.{Keeps};
+ghost use Rattle.std.specs.Io.KnownBytes.{Appends, Keeps};
 ghost use Rattle.hd_terms.specs.Workers.{IsWorkers};
 ghost use Rattle.hd_terms.specs.declared.Mode.TheVariants.{Direct};
 ghost use Rattle.hd_protocol.specs.declared.run.RunFault.{RunFault};
 ghost use Rattle.hd_protocol.specs.Running.{RunsDump, RunsOver};
-ghost use Rattle.hd_program.specs.Performing.{server_status, status, Performs, RunsFile, RunsWords, FailsFirst, ServesOrFails};
+ghost use Rattle.hd_program.specs.Performing.{server_status, status, version_text, Performs, RunsFile, RunsWords, FailsFirst, ServesOrFails};
 ghost use Rattle.hd_arguments.specs.Tasks.{IsAnalysts, TaskWorkers};
 
 use crate::counts::{end_status, shown_counts};
@@ -15,11 +15,14 @@ use crate::server::{ServerFault, serve_bytes};
 use hd_arguments::{Opening, Serving, Task, WORKERS, WordsFault, read_arguments};
 use hd_buffer::Buffer;
 use hd_graph::Graph;
-use hd_protocol::{RunFault, SAMPLE, open_alone, open_bytes, run_bytes, serve_alone, stat_bytes};
+use hd_protocol::{
+    RunFault, SAMPLE, ServeFault, open_alone, open_bytes, run_bytes, serve_alone, stat_bytes,
+};
 use hd_terminal::StatusLine;
 use hd_terms::Mode;
-use std::alloc::Global;
+use std::alloc::{AllocError, Global};
 use std::convert::AsSlice;
+use std::fmt::Write as _;
 use std::fs::File;
 use std::io::{BufRead, Write};
 use std::net::{Net, TcpListener, TcpStream};
@@ -106,6 +109,32 @@ fn report_usage<E: Write>(fault: &WordsFault, faults: &mut E) -> u8
             USAGE
         }
     }
+}
+
+/// The line that tells a version.
+fn version_line(alloc: Global, version: &str) -> Result<String, AllocError>
+    ensures { IfOk result (λ text. string_bytes text ≡ version_text version.now) }
+{
+    let mut text = String::new(alloc);
+    writeln!(text, "hdesk {version}")?;
+    Ok(text)
+}
+
+/// Writes the line that tells a version, and hands it on.
+///
+/// # Errors
+///
+/// Memory ran out, or the writer fails or takes no byte.
+fn tell_version<W: Write>(alloc: Global, version: &str, output: &mut W) -> Result<(), RunFault>
+    ensures { OnOk result (Appends (W.contents output.old) (W.contents output.new) (version_text version.now)) }
+{
+    let Ok(line) = version_line(alloc, version) else {
+        return Err(RunFault::Memory);
+    };
+    if output.write_all(line.as_bytes()).is_err() || output.flush().is_err() {
+        return Err(RunFault::Serve(ServeFault::Write));
+    }
+    Ok(())
 }
 
 /// Serves one analyst's lines over an open graph. What is being done is shown until the first line.
@@ -255,11 +284,13 @@ where
             }
         }
         Task::Serve(serving) => serve_file(rt, serving, &mut status, output, faults),
+        Task::Version(version) => report(tell_version(rt.alloc(), version, output), faults),
     }
 }
 
 /// Runs the program with these words after its name, and answers its exit status. Without words the built-in sample is
-/// served on input and output; with words a file is served, there or over connections, or its counts and totals are printed.
+/// served on input and output; with words a file is served, there or over connections, or its counts and totals are printed, or
+/// the program's version is.
 /// Faults are reported on `faults`: a usage fault, or an asked help, with the text that belongs to it, any other in one line. At
 /// a usage fault, or where the file can't be read, no line is read and nothing is written on `output`. At a terminal one line on
 /// `faults` says how far the opening of the file is.

@@ -1,5 +1,16 @@
-//! What analysts say and hear: lines become commands, commands run at an analyst's desk, and each is replied to; and a dump's
-//! counts.
+//! The protocol over streams: lines are read from any reader and replies are written to any writer.
+//!
+//! - `serving.rt`: `serve`, a session of a desk at a board. It takes bytes in chunks of 65,536, runs each line at its
+//!   newline, and writes the reply. Of a line it keeps one byte more than a line may have, so it tells one that is too
+//!   long and takes no more memory for it. It flushes the writer before it asks for more input. What a command does is
+//!   for `hd_analyst`.
+//! - `run.rt`: that over the bytes of a dump: it opens them, makes a board of one desk, serves it, and closes the
+//!   board.
+//! - `stat.rt`: the counts and totals of a dump, as `stat` prints them. Slots are counted while the strengths are
+//!   computed.
+//! - `sample.rt`: the built-in dump.
+//!
+//! The crate knows no files, no words of a command line and no connections.
 #![tactic(auto)]
 
 mod run;

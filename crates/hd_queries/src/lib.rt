@@ -1,5 +1,15 @@
-//! What a graph shows under a log: slots, references to an object, roots, chains, and objects by what became of them; and why
-//! a dump refuses an edit.
+//! What a graph shows under a log, and why a dump refuses an edit. Each file is one query.
+//!
+//! - `rows.rt`: the slots of an object. `roots.rt`: all roots.
+//! - `into.rt`: the references to an object, by its reverse rows.
+//! - `chain.rt`: a root path of an object, which follows the supports back to the root. It shows no object twice.
+//! - `listing.rt`: the IDs of the objects of a group and strength (`members`), and of those that became unreachable
+//!   since a mark (`fell`). It goes over the objects, for `fell` only over the pages of 1,024 that changed since the
+//!   mark where the log begins with the mark's.
+//! - `refusing.rt`: why the dump refuses an edit. Whether a root can be dropped is for the log to say.
+//! - `totals.rt`: the totals of `stat`. It computes the strengths alone, and counts the objects in up to sixteen shares
+//!   side by side.
+//! - `solved.rt`: the graph, the log and the supports that a query reads.
 #![tactic(auto)]
 
 mod chain;

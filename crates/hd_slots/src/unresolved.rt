@@ -1,4 +1,4 @@
-//! The references of all objects as the file has them: the offset of each ID, row by row.
+//! The references of the objects of one part as the file has them: the offset of each ID, row by row.
 ghost use Rattle.std.specs.Prelude.{◌≡◌, ◌+◌, ◌<◌, ◌-◌, ◌^◌, [], ◌∷◌, ◌++◌, length, map, All, IfOk, OnOk, IsTrue, ◌↔◌, Some, slice_get};
 ghost use Rattle.std.specs.Arc.{arc_value};
 ghost use Rattle.hd_terms.specs.Records.{id_len};

@@ -1,4 +1,38 @@
 //! What one log makes of a dump: a graph that never changes, a log, and the strengths that the two give.
+//!
+//! Callers see a `State`: the dump, the log, and what is kept of each object. A state never changes. `step` makes the
+//! state after one more event, and the old one stays, so an edit that runs out of memory leaves it whole. Which chain
+//! is shown goes by the supports that are kept; the other answers to queries go by the dump, the log and the log of a
+//! mark.
+//!
+//! `State` (`state.rt`) holds its parts by `Arc`: the graph, its reverse rows, what the log's live edits take away
+//! (`Removed`), the roots that events add, the supports, the pages' last changes (`LastChanges`), and the totals of
+//! groups; and the log itself. All states of a dump share the first two. Supports, last changes and totals are in
+//! pages, and a new version copies only the pages that it changes. `share` and `mark` copy none of them.
+//!
+//! How a state comes to be:
+//!
+//! 1. `open` makes the state of the empty log. The supports come from a search (`hd_strength`), the totals and last
+//!    changes from these. The reverse rows (`hd_reverse`) are made by another thread beside that, since neither needs
+//!    the other (`parts.rt`).
+//! 2. `step` extends the log, and computes what it takes away and the roots that it adds (`LogParts`).
+//! 3. `repaired` (`repairing.rt`) shares the supports and finds what the event took away and what it gave
+//!    (`lost_between` of `hd_view`, both ways). An event does one or the other, never both, so the first goes to `lose`
+//!    of `hd_repair` and the second to `gain`.
+//! 4. The changes that the repair returns move the totals, mark their pages as changed, and tell how many objects
+//!    became unreachable and how many came back (`Done`).
+//!
+//! So a step costs by what its event affects and by the length of the log. It doesn't compute the strengths again. By
+//! the size of the dump it only adds an owner to each group of pages.
+//!
+//! Queries are those of `hd_queries`; the methods of `State` hand them its parts. `view` gives the edges as a repair
+//! sees them, for measurements and tests.
+//!
+//! A `Mark` (`mark.rt`) is a log, the strengths under it and the graph, owned together with the state that it is of.
+//! `fell` compares a state with it.
+//!
+//! `parts.rt` has `LogParts` and `KeptParts`, the steps of `open` and `step` as functions of their own. One function
+//! with all of them would be slow to prove.
 #![tactic(auto)]
 
 mod mark;

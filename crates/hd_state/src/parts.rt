@@ -90,8 +90,8 @@ pub(crate) fn kept_and_reverse<R: Threads + Sync>(
     ensures kept { IfOk result (λ r. IsKeptOf graph.now log.now.front r.0) }
     ensures reverse { IfOk result (λ r. IsReverseOf graph.now r.1) }
 {
-    // What is kept is made by this thread: it goes into many small pages, and in a profile memory for these took the first
-    // thread of a program half as long as another.
+    // What is kept is made by this thread: it goes into many small pages, and the first thread of a program gets memory for
+    // these quicker than another.
     let (reverse, kept) = join(
         rt,
         || -> Result<ReverseRows, NoMemory>

@@ -129,8 +129,8 @@ pub fn from_scratch<R: Threads + Sync>(
 }
 
 /// The strengths of the objects of a graph under a log, in the order of their numbers, with no supports and no stamps. It
-/// takes two bytes for each object, and where there are several parts a further one in each; beside these, what waits and what
-/// is offered.
+/// takes two bytes for each object, and where there are several parts 128 KiB for each of them; beside these, what waits and
+/// what is offered.
 ///
 /// # Errors
 ///

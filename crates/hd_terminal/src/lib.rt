@@ -1,4 +1,9 @@
-//! What a person at a terminal is shown on standard error: one line while a file is opened, and a prompt.
+//! What a person at a terminal is shown on standard error: a status line while a file is opened, and a prompt.
+//!
+//! `StatusLine` writes one line over itself: how much of a file is read (at most ten times a second), then what is
+//! being done, then how many objects and references there are. `Prompting` is a reader that writes a prompt before it
+//! asks for more. Neither writes anything without a terminal, and a failed write is ignored: nothing depends on it. The
+//! crate stands on no other.
 #![tactic(auto)]
 
 ghost use Rattle.std.specs.Prelude.{Some, length};

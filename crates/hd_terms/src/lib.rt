@@ -1,8 +1,29 @@
-//! The plain types that every crate of the workbench speaks of, and, in `specs/`, the definitions that their
-//! contracts cite.
+//! The plain types and the definitions that all crates of the workbench share.
 //!
-//! Sources: the HPROF binary format of the JDK's heap dumper, format name `JAVA PROFILE 1.0.2`, and the section
-//! "Reachability" of the package specification of `java.lang.ref`, Java SE 17.
+//! Contracts of other crates use the types of `src/` and cite the definitions of `specs/`. The crate hides nothing.
+//!
+//! The definitions have two halves, which meet at one record, the dump (`specs/Dump.antt`):
+//!
+//! - The file half says what the bytes of a file mean: its records (`Records`), sub-records (`SubRecords`, `Types`),
+//!   roots (`Roots`), classes (`FirstRecords`, `Classes`), objects (`Objects`, `Slots`, `Groups`) and faults
+//!   (`HeapFaults`, `ReadFaults`). None of it names a strength.
+//! - The heap half says what stands under a log, which strength each object has, and how lines are answered. None of
+//!   it names a byte of a file.
+//!
+//! Definitions are relations, filters and whole lists, so that they are short to read. How to find an answer fast is
+//! left to the crates that stand on this one.
+//!
+//! - `lib.rt`: strengths, kinds of references, slots, roots, edits, events, and the rows that replies show.
+//! - `commands.rt`: what a line asks for. `errors.rt`: read faults, refusals, and running out of memory.
+//! - `slots.rt`: a slot as its kind and its number. `types.rt`: the basic types of HPROF and the bytes of their
+//!   values.
+//! - `laws.rt`: laws over the definitions. They are proved once, so that no other crate argues about paths, endless
+//!   chains or two readings of one file.
+//! - `examples.rt`: what the definitions make of the worked examples of `docs/DEFINITIONS.md`. Laws and examples are
+//!   the contracts of functions with empty bodies.
+//!
+//! Sources: the HPROF binary format of the JDK's heap dumper, format names `JAVA PROFILE 1.0.2` and `JAVA PROFILE
+//! 1.0.1`, and the section "Reachability" of the package specification of `java.lang.ref`, Java SE 17.
 #![tactic(auto)]
 
 mod commands;

@@ -1,4 +1,27 @@
-//! Running totals of groups and strengths, and when the strengths of each page of objects last changed.
+//! Totals of objects by group and strength, and the pages of objects whose strengths changed last.
+//!
+//! Callers see, for each group and strength, the number of objects and their recorded bytes (`GroupTotals`). They ask
+//! for one total (`total`) or for all groups of a strength (`classes`). States keep the totals up to date by the
+//! changes of each repair, so `classes` never goes over the objects.
+//!
+//! Layout of `GroupTotals` (`group_totals.rt`): a set of the keys of groups, in the order in which the groups were met,
+//! and a row of six totals for each (`StrengthTotals` of `total.rt`). The keys never change and all versions share
+//! them. The rows are in pages that versions share (`hd_pages`), so a further version costs the pages that it changes.
+//!
+//! - `keys.rt` gives each group a number that sorts as lines are sorted: classes by their IDs, then primitive arrays by
+//!   their type, then class objects. `GroupKeys` is a hash set in insertion order, so the index of a key is the index
+//!   of its row.
+//! - `counting.rt` makes the first totals in one pass over the objects. They are cut into four shares, each counted by
+//!   a thread with keys and rows of its own; then the rows of each group are added up. Where the system refuses a
+//!   thread, the shares are counted one after another.
+//! - `group_totals.rt` moves each changed object from the total of its strength before to that of its strength after
+//!   (`apply`), one move for each `Change` of `hd_repair`. Where memory runs out, some moves may be missing, so the
+//!   version must not be used further.
+//! - `classes.rt` gathers the rows that have objects of a strength and sorts them by their keys.
+//! - `fallen.rt` counts the objects that a list of changes makes unreachable, and those that it makes reachable again.
+//! - `last_changes.rt` has, of each page of 1,024 objects, the number of events that the log had when a strength in the
+//!   page last changed (`LastChanges`), 0 where none has since the opening. The query that compares two logs skips the
+//!   pages that didn't change in between.
 #![tactic(auto)]
 
 mod classes;

@@ -1,4 +1,8 @@
-//! The workbench: a dump is opened, and an analyst's lines are read, run over it, and answered, or those of several.
+//! The workbench `hdesk`: binds `hd_program` to the words, streams and memory of the process.
+//!
+//! `main` reads the words of the command line, wraps standard input in a prompt and standard output in a buffer, and
+//! runs `program`. A word that isn't UTF-8 is a usage fault. `program_tests.rt` runs the program over given words and
+//! files, `terminal_tests.rt` checks what a terminal is shown.
 #![tactic(auto)]
 
 #[cfg(test)]

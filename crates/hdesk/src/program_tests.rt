@@ -176,6 +176,18 @@ fn usage_faults(rt: HostRuntime) {
     }
     let help = usage_of(&rt, &["--help"]);
     assert!(rt; help.as_slice().starts_with(b"A verified workbench"));
+    let help = usage_of(&rt, &["stat"]);
+    assert!(rt;
+        help.as_slice().ends_with(
+            b"\n\nUsage: hdesk stat <FILE>\n\nFor more information, try '--help'.\n"
+        )
+    );
+}
+
+#[test]
+fn version(rt: HostRuntime) {
+    assert!(rt; ends(&rt, &["--version"], DONE, b"hdesk 1.0.0\n", b""));
+    assert!(rt; !usage_of(&rt, &["stat", "--version"]).is_empty());
 }
 
 #[test]
