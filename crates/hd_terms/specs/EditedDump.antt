@@ -92,7 +92,7 @@ adds_root (Some (edits.ClearAll kind)) = false
 abbrev pub live_edit_at : List Event → ℕ → Option Edit
 live_edit_at log k = option_and_then (λ (e : Event). live_edit log (k, e)) (slice_get log k)
 
--- a root has this number: one of the dump's, of which there are so many, or that of a live event that adds a root
+-- a root has this number: one of the dump's `roots` roots, or that of a live event that adds a root
 abbrev pub is_root : (roots : ℕ) → List Event → ℕ → Bool
 is_root roots log r = nat_lt r roots || adds_root (live_edit_at log (r - roots))
 

@@ -1,5 +1,6 @@
 -- The objects of a dump and their numbers, and the dump of a file.
--- Source: HPROF binary format, CLASS DUMP, INSTANCE DUMP, OBJECT ARRAY DUMP and PRIMITIVE ARRAY DUMP.
+-- Source: HPROF binary format, CLASS DUMP, INSTANCE DUMP, OBJECT ARRAY DUMP and PRIMITIVE ARRAY DUMP. That the first of an ID
+-- counts, and that numbers go by file order, is this project's choice.
 use Rattle.std.specs.Prelude.{◌≡◌, ℕ, Bool, false, List, [], count_by, is_none, Option, Some, None}
 use Rattle.std.specs.Option.{option_map, option_and_then}
 use Rattle.std.specs.List.{flat_map, filter_map}

@@ -1,4 +1,5 @@
--- The reply to a line: bytes that are a function of the dump, of logs and of the line, but for which chain is shown.
+-- The reply to a line: bytes that are a function of the dump, of logs and of the line, but for which chain is shown, and for
+-- replies that say that memory ran out or that a log is foreign.
 -- Source: this project's protocol (docs/PROTOCOL.md).
 use Rattle.std.specs.Prelude.{◌≡◌, ◌⊎◌, ◌≤◌, ℕ, false, Bool, not, if◌then◌else◌, List, [], ◌∷◌, ◌++◌, length, map, slice_get, codes, decimal, Option, Some, None, Result, Ok, Err}
 use Rattle.std.specs.Option.{option_map}

@@ -50,7 +50,7 @@ pub record IsCounted {A : Type 0} (Is : A → Type 0) (c : Counted A) : Type 0 w
   pub many : length c.items ≡ big_number 2 c.count
   pub each : AllByRecursion Is c.items
 
--- the first items of such a list, of which there are more
+-- the first items of such a list, which has more
 pub record IsBegun {A : Type 0} (Is : A → Type 0) (c : Counted A) : Type 0 where
   pub count : length c.count ≡ 2
   pub more : length c.items < big_number 2 c.count

@@ -274,7 +274,7 @@ pub enum RootMode {
 /// A root as it is shown under a log: one of the dump's, or one that a live edit adds.
 #[derive(Clone, Copy, PartialEq, Eq)]
 pub struct RootRow {
-    /// The dump's roots have the numbers from 0, in file order; behind these, event k adds the root k.
+    /// The dump's n roots have the numbers from 0, in file order; the root that event k adds has the number n + k.
     pub number: u64,
     /// What the root is, none where an edit added it.
     pub kind: Option<RootKind>,
@@ -378,6 +378,6 @@ pub struct Counts {
     pub repeated_strings: u64,
     /// LOAD CLASS records with the class of an earlier one.
     pub repeated_loads: u64,
-    /// Instances whose class chain isn't whole.
+    /// Instances of a class that isn't known: its ID is 0 or no class's, or its chain isn't whole.
     pub opaque: u64,
 }
