@@ -18,7 +18,9 @@ fail() {
 }
 
 [[ -x $program ]] || fail "there is no program $program; rt ci builds it"
-newer=$(find "$top"/crates/*/src "$top/crates.txt" -newer "$program" -print -quit)
+shopt -s nullglob
+newer=$(find "$top"/crates/*/{src,specs,proofs} "$top/crates.txt" -newer "$program" -print -quit)
+shopt -u nullglob
 [[ -z $newer ]] || fail "${newer#"$top"/} is newer than the program; run rt ci first"
 version=$("$program" --version </dev/null)
 [[ $version =~ ^hdesk\ [0-9]+\.[0-9]+\.[0-9]+$ ]] || fail "the program doesn't tell its version: $version"
