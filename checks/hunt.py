@@ -1,8 +1,6 @@
 #!/usr/bin/env python3
 """Hunts for the planted objects and the planted leak in a dump of `tools/real_dump.sh`, by the commands of hdesk alone.
 
-    checks/hunt.py FILE
-
 It checks that
 
 - `classes` at each strength adds up to what `stat` prints of it;
@@ -12,141 +10,117 @@ It checks that
 - a cut of the one reference to the leaked session lets fall that session and what it alone holds, and nothing else,
   and an undo brings all of it back.
 
-The program is the one that the variable HDESK names, or else the script `hdesk` at the top of the repository. Prints a
-line for each check, and ends with status 1 at the first that doesn't hold. Needed is Python 3.8 or later.
+It ends at the first check that doesn't hold.
 """
-import os
-import subprocess
+from __future__ import annotations
+
+import argparse
 import sys
+
+sys.dont_write_bytecode = True  # the checkout stays as it is
+
+from report import Report, perform, readable, words_of
+from session import Program, Session, Wrong
 
 STRENGTHS = ["STRONG", "SOFT", "WEAK", "FINAL", "PHANTOM", "UNREACHABLE"]
 PLANTED = dict(zip(["PlantedStrong", "PlantedSoft", "PlantedWeak", "PlantedFinal", "PlantedPhantom", "PlantedLost"], STRENGTHS))
 
 
-def fail(text):
-    sys.exit(f"hunt: {text}")
+def ids(analyst: Session, line: str) -> list[str]:
+    return [words[0] for words in analyst.rows(line)]
 
 
-def check(holds, text):
-    if not holds:
-        fail(f"wrong: {text}")
-    print(f"right: {text}")
+def group_of(analyst: Session, name: str, strength: str) -> str | None:
+    """The group of the only class of a name that has objects of a strength, if there is one."""
+    groups = [group for group, _, _, named in analyst.rows(f"classes {strength}") if named == name]
+    if len(groups) > 1:
+        raise Wrong(f"{len(groups)} classes are called {name}")
+    return groups[0] if groups else None
 
 
-class Analyst:
-    """A session of hdesk."""
-
-    def __init__(self, program, dump):
-        self.process = subprocess.Popen([program, "run", dump], stdin=subprocess.PIPE, stdout=subprocess.PIPE)
-
-    def ask(self, line):
-        """The lines of the reply to a line, each split into words."""
-        self.process.stdin.write(line.encode() + b"\n")
-        self.process.stdin.flush()
-        head = self.process.stdout.readline().split()
-        if not head or head[0] != b"ok":
-            fail(f"{line}: {b' '.join(head).decode()}")
-        return [self.process.stdout.readline().decode().split() for _ in range(int(head[1]))]
-
-    def ids(self, line):
-        return [words[0] for words in self.ask(line)]
-
-    def group_of(self, name, strength):
-        """The group of the only class of a name that has objects of a strength, if there is one."""
-        groups = [group for group, _, _, named in self.ask(f"classes {strength}") if named == name]
-        if len(groups) > 1:
-            fail(f"{len(groups)} classes are called {name}")
-        return groups[0] if groups else None
-
-    def only_member(self, name, strength):
-        group = self.group_of(name, strength)
-        ids = self.ids(f"members {group} {strength}") if group else []
-        if len(ids) != 1:
-            fail(f"{name} has {len(ids)} objects at {strength}")
-        return ids[0]
-
-    def quit(self):
-        self.ask("quit")
-        if self.process.wait() != 0:
-            fail(f"hdesk ended with status {self.process.returncode}")
+def only_member(analyst: Session, name: str, strength: str) -> str:
+    group = group_of(analyst, name, strength)
+    members = ids(analyst, f"members {group} {strength}") if group else []
+    if len(members) != 1:
+        raise Wrong(f"{name} has {len(members)} objects at {strength}")
+    return members[0]
 
 
-def check_totals(analyst, stat):
-    for line in stat.splitlines():
-        words = line.split()
-        if words[0] in STRENGTHS:
-            rows = analyst.ask(f"classes {words[0]}")
-            sums = [sum(int(row[column]) for row in rows) for column in (1, 2)]
-            check(sums == [int(words[1]), int(words[2])], f"classes {words[0]} adds up to {words[1]} objects of {words[2]} bytes")
+def check_totals(analyst: Session, report: Report, stat: str) -> None:
+    totals = [line.split() for line in stat.splitlines() if line.split()[0] in STRENGTHS]
+    report.check([words[0] for words in totals] == STRENGTHS, "stat has a line for each strength")
+    for strength, objects, size in totals:
+        rows = analyst.rows(f"classes {strength}")
+        sums = [sum(int(row[column]) for row in rows) for column in (1, 2)]
+        report.check(sums == [int(objects), int(size)], f"classes {strength} adds up to {objects} objects of {size} bytes")
 
 
-def check_chain(analyst, roots, name, target, strength):
-    lines = analyst.ask(f"chain {target}")
+def check_chain(analyst: Session, report: Report, name: str, target: str, strength: str) -> None:
+    lines = analyst.rows(f"chain {target}")
     if strength == "UNREACHABLE":
-        check(not lines, f"{name} {target} has no chain")
+        report.check(not lines, f"{name} {target} has no chain")
         return
     word, number, kind, at = lines[0]
-    holds = word == "root" and roots[int(number)] == [number, kind, at, "stands"]
+    holds = word == "root" and analyst.rows("roots")[int(number)] == [number, kind, at, "stands"]
     seen, kinds = [at], ["STRONG"]
     for slot, kind, to in lines[1:]:
-        holds = holds and [slot, kind, to, "stands"] in analyst.ask(f"slots {at}")
+        holds = holds and [slot, kind, to, "stands"] in analyst.rows(f"slots {at}")
         seen.append(to)
         kinds.append(kind.upper())
         at = to
     weakest = max(kinds, key=STRENGTHS.index)
     holds = holds and at == target and len(set(seen)) == len(seen) and weakest == strength
     holds = holds and "PHANTOM" not in kinds[:-1]
-    check(holds, f"{name} {target} has a chain of strength {strength} with {len(lines) - 1} links")
+    report.check(holds, f"{name} {target} has a chain of strength {strength} with {len(lines) - 1} links")
 
 
-def check_planted(analyst):
-    roots = analyst.ask("roots")
+def check_planted(analyst: Session, report: Report) -> None:
     for name, strength in PLANTED.items():
-        others = [s for s in STRENGTHS if s != strength and analyst.group_of(name, s)]
-        check(not others, f"{name} has objects at {strength} alone")
-        target = analyst.only_member(name, strength)
-        check(analyst.ask(f"strength {target}") == [[strength]], f"{name} {target} is {strength}")
-        check_chain(analyst, roots, name, target, strength)
+        others = [s for s in STRENGTHS if s != strength and group_of(analyst, name, s)]
+        report.check(not others, f"{name} has objects at {strength} alone")
+        target = only_member(analyst, name, strength)
+        report.check(analyst.rows(f"strength {target}") == [[strength]], f"{name} {target} is {strength}")
+        check_chain(analyst, report, name, target, strength)
 
 
-def held_by(analyst, session):
+def held_by(analyst: Session, session: str) -> list[str]:
     """The session, and what its fields and theirs refer to, but for classes."""
     held, ahead = {session}, [session]
     while ahead:
-        for slot, _, to, mode in analyst.ask(f"slots {ahead.pop()}"):
+        for slot, _, to, mode in analyst.rows(f"slots {ahead.pop()}"):
             if slot != "class" and mode == "stands" and to not in held:
                 held.add(to)
                 ahead.append(to)
     return sorted(held, key=lambda text: int(text, 16))
 
 
-def check_leak(analyst):
-    session = analyst.only_member("Session", "STRONG")
-    holders = analyst.ask(f"into {session}")
-    check(len(holders) == 1 and holders[0][3] == "stands", f"one reference leads to the session {session}")
+def check_leak(analyst: Session, report: Report) -> None:
+    session = only_member(analyst, "Session", "STRONG")
+    holders = analyst.rows(f"into {session}")
+    report.check(len(holders) == 1 and holders[0][3] == "stands", f"one reference leads to the session {session}")
     source, slot = holders[0][:2]
-    link = analyst.ask(f"chain {session}")[-1]
-    check(link[0] == slot and link[2] == session, "its chain ends with that reference")
+    link = analyst.rows(f"chain {session}")[-1]
+    report.check(link[0] == slot and link[2] == session, "its chain ends with that reference")
     held = held_by(analyst, session)
-    done = analyst.ask(f"cut {source} {slot}")[0]
-    check(done == ["event", "0", "fell", str(len(held)), "back", "0"], f"without it {len(held)} objects fall")
-    check(analyst.ids("fell 0") == held, "they are the session and what it alone holds")
-    done = analyst.ask("undo")[0]
-    check(done == ["event", "1", "fell", "0", "back", str(len(held))], "an undo brings them back")
-    check(analyst.ids("fell 0") == [], "nothing has fallen then")
+    done = analyst.rows(f"cut {source} {slot}")
+    report.check(done == [["event", "0", "fell", str(len(held)), "back", "0"]], f"without it {len(held)} objects fall")
+    report.check(ids(analyst, "fell 0") == held, "they are the session and what it alone holds")
+    done = analyst.rows("undo")
+    report.check(done == [["event", "1", "fell", "0", "back", str(len(held))]], "an undo brings them back")
+    report.check(ids(analyst, "fell 0") == [], "nothing has fallen then")
 
 
-def main():
-    if len(sys.argv) != 2:
-        sys.exit("usage: checks/hunt.py FILE")
-    here = os.path.dirname(os.path.realpath(__file__))
-    program = os.environ.get("HDESK", os.path.join(here, "..", "hdesk"))
-    stat = subprocess.run([program, "stat", sys.argv[1]], stdout=subprocess.PIPE, check=True).stdout.decode()
-    analyst = Analyst(program, sys.argv[1])
-    check_totals(analyst, stat)
-    check_planted(analyst)
-    check_leak(analyst)
-    analyst.quit()
+def hunt(given: argparse.Namespace, report: Report) -> None:
+    with Program(given.program, given.seconds) as program:
+        stat = program.stat(given.dump)
+        analyst = program.run(given.dump)
+        check_totals(analyst, report, stat)
+        check_planted(analyst, report)
+        check_leak(analyst, report)
+        analyst.quit()
 
 
-main()
+if __name__ == "__main__":
+    taken = words_of(__doc__, seconds=120)
+    taken.add_argument("dump", metavar="DUMP", type=readable, help="a dump that tools/real_dump.sh made")
+    perform(taken, hunt)

@@ -1,161 +1,155 @@
 #!/usr/bin/env python3
 """Random edits on random dumps: each answer of hdesk is compared with one computed from scratch.
 
-    checks/random_edits.py [DUMPS [EDITS [SEED]]]
-
 A dump has arrays that refer to each other at random, with cycles, doubly linked lists and a dense part, and reference
-objects of all kinds. Edits of all kinds and undos follow. After each, what the event made unreachable and brought back,
-the strength of each object, and the totals of groups at each strength, have to be those of the definition. The definition
-is computed here, by paths and by nothing else. Ends with status 1 at the first answer that isn't right. HDESK names another program than ./hdesk.
+objects of all kinds; IDs of 4 or 8 bytes, and roots of all kinds. Edits of all kinds and undos follow. After each, what the
+event made unreachable and brought back, the strength of each object, and the totals of groups at each strength have to be
+those of the definition. The definition is computed here, by paths and by nothing else. The script ends at the first answer
+that isn't right, and keeps the dump and the lines.
 """
-import os
+from __future__ import annotations
+
+import argparse
 import random
-import struct
-import subprocess
 import sys
+import tempfile
+from pathlib import Path
+from typing import Dict, Iterator, Tuple, Union
+
+sys.dont_write_bytecode = True  # the checkout stays as it is
+
+from dumps import REFERENCE_KINDS, ROOTS, Format, ReferenceClasses
+from report import Report, perform, positive, words_of
+from session import Program, Wrong, native
 
 NAMES = ["UNREACHABLE", "PHANTOM", "FINAL", "WEAK", "SOFT", "STRONG"]
 RANK = {"soft": 4, "weak": 3, "final": 2, "phantom": 1, "strong": 5}
-REFERENCE = 0x11
-CLASSES = {"soft": 0x12, "weak": 0x13, "final": 0x14, "phantom": 0x15}
-TEXTS = {
-    0x101: "referent", 0x102: "java/lang/ref/Reference", 0x103: "java/lang/ref/SoftReference",
-    0x104: "java/lang/ref/WeakReference", 0x105: "java/lang/ref/FinalReference", 0x106: "java/lang/ref/PhantomReference",
-}
+MODES = ["direct", "closure"]
 
-
-def u4(*numbers):
-    return b"".join(struct.pack(">I", n) for n in numbers)
-
-
-def record(tag, body):
-    return bytes([tag]) + u4(0, len(body)) + body
+Edit = Tuple[Union[str, int], ...]  # the edit's name and its words
+Live = Dict[int, Edit]  # the live edits by their events
 
 
 class Heap:
-    """A heap: roots, and for each object its slots as (name, kind, target)."""
+    """A heap: roots, and for each object its slots."""
 
-    def __init__(self, rng):
-        count = rng.randint(3, 24)
-        self.arrays = [0x1000 + i for i in range(count)]
-        self.references = {0x2000 + i: rng.choice(list(CLASSES)) for i in range(rng.randint(0, 8))}
+    def __init__(self, draw: random.Random) -> None:
+        self.spelled = Format(draw.choice([4, 8]), draw.choice(["1.0.1", "1.0.2"]))
+        self.classes = ReferenceClasses(self.spelled, 0x11, 0x101)
+        self.arrays = [0x1000 + i for i in range(draw.randint(3, 24))]
+        self.references = {0x2000 + i: draw.choice(REFERENCE_KINDS) for i in range(draw.randint(0, 8))}
         everything = self.arrays + list(self.references)
-        self.elements = {a: [] for a in self.arrays}
-        for a in self.arrays:
-            self.elements[a] = [rng.choice(everything) for _ in range(rng.choice([0, 1, 1, 2, 2, 3]))]
+        self.elements = {a: [draw.choice(everything) for _ in range(draw.choice([0, 1, 1, 2, 2, 3]))] for a in self.arrays}
+        self.tangle(draw)
+        self.referents = {r: draw.choice(everything) for r in self.references}
+        self.roots = [(draw.choice(everything), draw.choice(list(ROOTS))) for _ in range(draw.randint(1, 3))]
+        self.objects = list(self.classes.names) + everything
+
+    def tangle(self, draw: random.Random) -> None:
+        """Adds doubly linked lists, a dense part, nulls and an ID that no object has."""
         for a, b in zip(self.arrays, self.arrays[1:]):
-            if rng.random() < 0.3:
+            if draw.random() < 0.3:
                 self.elements[a].append(b)
                 self.elements[b].append(a)
-        if rng.random() < 0.3:
-            dense = rng.sample(self.arrays, min(5, count))
+        if draw.random() < 0.3:
+            dense = draw.sample(self.arrays, min(5, len(self.arrays)))
             for a in dense:
                 self.elements[a] += dense
-        for a in self.arrays:
-            for _ in range(rng.choice([0, 0, 1])):
-                self.elements[a].insert(rng.randint(0, len(self.elements[a])), rng.choice([0, 0x9999]))
-        self.referents = {r: rng.choice(everything) for r in self.references}
-        self.roots = [rng.choice(everything) for _ in range(rng.randint(1, 3))]
-        self.objects = [REFERENCE] + list(CLASSES.values()) + everything
+        for held in self.elements.values():
+            if draw.random() < 0.33:
+                held.insert(draw.randint(0, len(held)), draw.choice([0, 0x9999]))
 
-    def bytes(self):
-        out = b"JAVA PROFILE 1.0.2\0" + u4(4, 0, 0)
-        for number, text in TEXTS.items():
-            out += record(0x01, u4(number) + text.encode())
-        for i, c in enumerate([REFERENCE] + list(CLASSES.values())):
-            out += record(0x02, u4(i + 1, c, 0, 0x102 + i))
-        body = b""
-        for c in [REFERENCE] + list(CLASSES.values()):
-            above = 0 if c == REFERENCE else REFERENCE
-            body += b"\x20" + u4(c, 0, above, 0, 0, 0, 0, 0, 4) + b"\0\0\0\0"
-            body += b"\0\1" + u4(0x101) + b"\x02" if c == REFERENCE else b"\0\0"
-        for r in self.roots:
-            body += b"\xff" + u4(r)
+    def bytes(self) -> bytes:
+        return self.spelled.dump(*self.classes.records(), self.spelled.segment(*self.subs()), self.spelled.end())
+
+    def subs(self) -> Iterator[bytes]:
+        yield from self.classes.class_dumps()
+        for target, kind in self.roots:
+            yield self.spelled.root(target, kind)
         for a in self.arrays:
-            body += b"\x22" + u4(a, 0, len(self.elements[a]), 0, *self.elements[a])
+            yield self.spelled.array(a, self.elements[a])
         for r, kind in self.references.items():
-            body += b"\x21" + u4(r, 0, CLASSES[kind], 4, self.referents[r])
-        return out + record(0x1C, body) + record(0x2C, b"")
+            yield self.classes.instance(r, self.classes.of_kind[kind], self.referents[r])
 
-    def group(self, o):
+    def group(self, o: int) -> tuple[int, str, str]:
         """The group of an object: where it stands among groups, its line's first word, and its name."""
         if o in self.elements:
             return 0, "0x0", "?"
         if o in self.references:
-            c = CLASSES[self.references[o]]
-            return c, f"{c:#x}", TEXTS[0x102 + c - REFERENCE]
+            class_id = self.classes.of_kind[self.references[o]]
+            return class_id, f"{class_id:#x}", self.classes.names[class_id]
         return 1 << 65, "c", "classes"
 
-    def size(self, o):
+    def size(self, o: int) -> int:
         """The recorded bytes of an object."""
-        return 4 * len(self.elements[o]) if o in self.elements else 4 if o in self.references else 0
+        return self.spelled.id_size * (len(self.elements[o]) if o in self.elements else int(o in self.references))
 
-    def edges(self):
-        """All edges: (source, slot, kind, target)."""
+    def edges(self) -> Iterator[tuple[int, str, str, int]]:
+        """All edges: source, slot, kind, target."""
         known = set(self.objects)
-        for c in CLASSES.values():
-            yield c, "super", "strong", REFERENCE
+        for class_id in self.classes.of_kind.values():
+            yield class_id, "super", "strong", self.classes.reference
         for a in self.arrays:
             for i, target in enumerate(self.elements[a]):
                 if target in known:
                     yield a, f"e{i}", "strong", target
         for r, kind in self.references.items():
             yield r, "f0", kind, self.referents[r]
-            yield r, "class", "strong", CLASSES[kind]
+            yield r, "class", "strong", self.classes.of_kind[kind]
 
 
-def strengths(heap, mode, live, count):
+def strengths(heap: Heap, mode: str, live: Live) -> dict[int, int]:
     """The rank of each object under live edits, by the best of all root paths: the widest are followed first."""
-    cut = {(e[1], e[2]) for e in live if e[0] == "cut"} | {(e[1], "f0") for e in live if e[0] == "clear"}
-    kinds = {e[1] for e in live if e[0] == "clearall"}
-    dropped = {e[1] for e in live if e[0] == "drop"}
-    out = {}
+    edits = set(live.values())
+    dropped = {edit[1] for edit in edits if edit[0] == "drop"}
+    out: dict[int, list[tuple[int, int]]] = {}
     for source, slot, kind, target in heap.edges():
-        if (source, slot) not in cut and kind not in kinds:
+        is_cleared = slot == "f0" and (("clear", source) in edits or ("clearall", kind) in edits)
+        if not is_cleared and ("cut", source, slot) not in edits:
             out.setdefault(source, []).append((RANK[kind], target))
-    rank = {o: 0 for o in heap.objects}
-    roots = [(i, o) for i, o in enumerate(heap.roots)]
-    roots += [(count + e[2], e[1]) for e in live if e[0] == "add"]
+    roots = dict(enumerate(target for target, _ in heap.roots))
+    roots.update({len(heap.roots) + event: edit[1] for event, edit in live.items() if edit[0] == "add"})
     least = 2 if mode == "direct" else 1
-    todo = [(5, o) for i, o in roots if i not in dropped]
+    rank = {o: 0 for o in heap.objects}
+    todo = [(5, o) for number, o in roots.items() if number not in dropped]
     while todo:
-        best = max(todo)
-        todo.remove(best)
-        if best[0] <= rank[best[1]]:
+        best, at = max(todo)
+        todo.remove((best, at))
+        if best <= rank[at]:
             continue
-        rank[best[1]] = best[0]
-        if best[0] >= least:
-            todo += [(min(best[0], k), t) for k, t in out.get(best[1], []) if min(best[0], k) > rank[t]]
+        rank[at] = best
+        if best >= least:
+            todo += [(min(best, kind), to) for kind, to in out.get(at, []) if min(best, kind) > rank[to]]
     return rank
 
 
-def random_edit(rng, heap, events):
-    """An edit line, and what it is in the log; an undo names a live event."""
-    live = [k for k, e in enumerate(events) if e and e[0] != "undo"]
-    if live and rng.random() < 0.35:
-        k = rng.choice(live)
-        return f"undo {k}", ("undo", k)
-    what = rng.random()
-    edges = [e for e in heap.edges() if e[1][0] in "ef"]
+def random_edit(draw: random.Random, heap: Heap, live: Live) -> Edit:
+    """An edit that isn't refused, or an undo of a live event."""
+    if live and draw.random() < 0.35:
+        return "undo", draw.choice(list(live))
+    what = draw.random()
+    edges = [(source, slot) for source, slot, _, _ in heap.edges() if slot[0] in "ef"]
     if what < 0.6 and edges:
-        source, slot, _, _ = rng.choice(edges)
-        return f"cut {source:#x} {slot}", ("cut", source, slot)
+        return ("cut", *draw.choice(edges))
     if what < 0.7 and heap.references:
-        source = rng.choice(list(heap.references))
-        return f"clear {source:#x}", ("clear", source)
+        return "clear", draw.choice(list(heap.references))
     if what < 0.78:
-        kind = rng.choice(list(CLASSES))
-        return f"clearall {kind}", ("clearall", kind)
+        return "clearall", draw.choice(REFERENCE_KINDS)
     if what < 0.9:
-        r = rng.choice([i for i in range(len(heap.roots))] + [len(heap.roots) + k for k in live if events[k][0] == "add"])
-        return f"drop {r}", ("drop", r)
-    o = rng.choice(heap.objects)
-    return f"add {o:#x}", ("add", o)
+        count = len(heap.roots)
+        return "drop", draw.choice([*range(count), *(count + event for event, edit in live.items() if edit[0] == "add")])
+    return "add", draw.choice(heap.objects)
 
 
-def totals(heap, rank, strength):
+def line_of(edit: Edit) -> str:
+    """An edit as a line spells it: IDs, and no other numbers, are hexadecimal."""
+    is_id = edit[0] in ("cut", "clear", "add")
+    return " ".join(f"{word:#x}" if is_id and isinstance(word, int) else str(word) for word in edit)
+
+
+def totals(heap: Heap, rank: dict[int, int], strength: int) -> list[str]:
     """The lines of the groups that have objects of a rank."""
-    rows = {}
+    rows: dict[tuple[int, str, str], tuple[int, int]] = {}
     for o in heap.objects:
         if rank[o] == strength:
             count, size = rows.get(heap.group(o), (0, 0))
@@ -164,66 +158,84 @@ def totals(heap, rank, strength):
     return [f"ok {len(lines)}"] + lines
 
 
-def check_dump(rng, hdesk, edits, path):
-    heap = Heap(rng)
-    mode = rng.choice(["direct", "closure"])
-    with open(path, "wb") as file:
-        file.write(heap.bytes())
-    events, lines, wanted = [], [], []
-    live = []
-    before = strengths(heap, mode, live, len(heap.roots))
-    for _ in range(edits):
-        line, event = random_edit(rng, heap, events)
-        number = len(events)
-        if event[0] == "undo":
-            live = [e for e in live if e[-1] != event[1]]
-            events[event[1]] = None
-            events.append(None)
+def asked(draw: random.Random, heap: Heap, mode: str, edits: int) -> tuple[list[str], list[str]]:
+    """Lines of random edits with questions behind each, and the lines that have to be answered."""
+    lines: list[str] = []
+    wanted: list[str] = []
+    live: Live = {}
+    before = strengths(heap, mode, live)
+    for event in range(edits):
+        edit = random_edit(draw, heap, live)
+        if edit[0] == "undo":
+            del live[int(edit[1])]
         else:
-            live = live + [event + (number,)]
-            events.append(event)
-        after = strengths(heap, mode, live_of(live), len(heap.roots))
+            live[event] = edit
+        after = strengths(heap, mode, live)
         fell = sum(1 for o in heap.objects if before[o] and not after[o])
         back = sum(1 for o in heap.objects if after[o] and not before[o])
-        lines.append(line)
-        wanted += ["ok 1", f"event {number} fell {fell} back {back}"]
+        lines += [line_of(edit)] + [f"strength {o:#x}" for o in heap.objects] + [f"classes {name}" for name in NAMES]
+        wanted += ["ok 1", f"event {event} fell {fell} back {back}"]
         for o in heap.objects:
-            lines.append(f"strength {o:#x}")
             wanted += ["ok 1", NAMES[after[o]]]
-        for rank, name in enumerate(NAMES):
-            lines.append(f"classes {name}")
+        for rank in range(len(NAMES)):
             wanted += totals(heap, after, rank)
         before = after
-    said = subprocess.run(
-        [hdesk, "run", path, "--phantom", mode], input="\n".join(lines) + "\n", capture_output=True, text=True
-    )
-    told = said.stdout.splitlines()
-    for i, (a, b) in enumerate(zip(told, wanted)):
-        if a != b:
-            print(f"wrong: reply line {i} is '{a}' and not '{b}' ({mode}, {path})")
-            print("\n".join(lines))
-            sys.exit(1)
-    if len(told) != len(wanted) or said.returncode:
-        print(f"wrong: {len(told)} lines and not {len(wanted)}: {said.stderr}")
-        sys.exit(1)
+    return lines, wanted
+
+
+class Differs(Wrong):
+    """An answer that isn't right, with the dump and the lines to it."""
+
+    def __init__(self, text: str, dump: bytes, lines: str) -> None:
+        super().__init__(text)
+        self.dump, self.lines = dump, lines
+
+    def keep(self) -> str:
+        """Keeps the dump and the lines in a folder."""
+        folder = Path(tempfile.mkdtemp(prefix="random_edits-"))
+        (folder / "dump.hprof").write_bytes(self.dump)
+        (folder / "lines").write_text(self.lines)
+        return str(folder)
+
+
+def check_dump(program: Program, room: str, draw: random.Random, mode: str, edits: int) -> int:
+    """Compares all replies over one dump. How many lines there were."""
+    heap = Heap(draw)
+    lines, wanted = asked(draw, heap, mode, edits)
+    text = "\n".join(lines) + "\n"
+    with tempfile.NamedTemporaryFile(dir=room) as file:
+        file.write(heap.bytes())
+        file.flush()
+        ended = program.finish([program.path, "run", file.name, "--phantom", mode], text)
+    told = ended.output.splitlines()
+    if told != wanted:
+        place = next((i for i, (a, b) in enumerate(zip(told, wanted)) if a != b), min(len(told), len(wanted)))
+        at = [repr(these[place]) if place < len(these) else "missing" for these in (told, wanted)]
+        raise Differs(f"reply line {place} is {at[0]} and not {at[1]}", heap.bytes(), text)
+    if ended.status != 0 or ended.faults:
+        raise Differs(f"status {ended.status}, {ended.faults!r}", heap.bytes(), text)
     return len(lines)
 
 
-def live_of(live):
-    """Live events as the strengths want them: an added root with the number of its event last."""
-    return [e if e[0] != "add" else ("add", e[1], e[2]) for e in live]
+def check_dumps(given: argparse.Namespace, report: Report) -> None:
+    path = native(given.program, given.seconds)
+    with Program(path, given.seconds) as program, tempfile.TemporaryDirectory() as room:
+        def check(number: int) -> int:
+            draw = random.Random(f"{given.seed} {number}")
+            return check_dump(program, room, draw, MODES[number % 2], given.edits)
 
-
-def main():
-    numbers = [int(word) for word in sys.argv[1:]]
-    dumps, edits, seed = (numbers + [200, 30, 1][len(numbers):])[:3]
-    rng = random.Random(seed)
-    hdesk = os.environ.get("HDESK", "./hdesk")
-    path = os.path.join(os.environ.get("TMPDIR", "/tmp"), f"random-{os.getpid()}.hprof")
-    asked = sum(check_dump(rng, hdesk, edits, path) for _ in range(dumps))
-    os.remove(path)
-    print(f"right: {asked} lines on {dumps} dumps, {edits} edits each")
+        for first, mode in enumerate(MODES):
+            try:
+                counts = program.side_by_side(check, range(first, given.dumps, 2))
+            except Differs as wrong:
+                raise Wrong(f"{wrong}, in mode {mode}; {wrong.keep()} has the dump and the lines") from None
+            if counts:
+                report.note(True, f"{sum(counts)} lines on {len(counts)} dumps in mode {mode}, {given.edits} edits each")
 
 
 if __name__ == "__main__":
-    main()
+    taken = words_of(__doc__, seconds=180)
+    taken.add_argument("--dumps", metavar="N", type=positive, default=200, help="how many dumps; 200 if not given")
+    taken.add_argument("--edits", metavar="N", type=positive, default=30, help="how many edits each; 30 if not given")
+    taken.add_argument("--seed", metavar="N", default="1", help="another number draws other dumps and edits")
+    perform(taken, check_dumps)

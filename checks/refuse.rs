@@ -1,17 +1,15 @@
 //! Refuses one allocation of a program, to see what it does then. A library for LD_PRELOAD, for the GNU C library.
 //!
 //! Build:  rustc --edition 2021 -O --crate-type cdylib -C panic=abort checks/refuse.rs -o refuse.so
-//! Run:    LD_PRELOAD=./refuse.so REFUSE=N PROGRAM 3>MARK
+//! Run:    LD_PRELOAD=./refuse.so REFUSE=N MARK=3 PROGRAM 3>FILE
 //!
 //! The calls of `malloc`, `calloc` and `realloc` are counted together, from 1. The N-th returns null, as where memory
-//! ran out, and all others go to the C library. When it refuses, it writes one byte to descriptor 3, so that a run
-//! in which nothing was refused can be told from one that came to its end in spite of it. Nothing here allocates.
+//! ran out, and all others go to the C library. When it refuses, it writes one byte to the descriptor that MARK names, so
+//! that a run in which nothing was refused can be told from one that came to its end in spite of it. Nothing here allocates.
 
-use std::ffi::{c_char, c_int, c_void};
+use std::ffi::{c_char, c_int, c_void, CStr};
 use std::ptr::null_mut;
 use std::sync::atomic::{AtomicUsize, Ordering};
-
-const MARK: c_int = 3;
 
 /// What the C library says of a refused allocation; parts of it that allocate for themselves, as where a thread is made,
 /// expect it.
@@ -28,11 +26,11 @@ extern "C" {
     fn __errno_location() -> *mut c_int;
 }
 
-/// The number in the environment variable `REFUSE`, 0 where there is none or it isn't a number.
-fn wanted() -> usize {
+/// The number in an environment variable, 0 where there is none or it isn't a number.
+fn number_in(variable: &CStr) -> usize {
     // SAFETY: the name ends with a zero byte, and so does the text that `getenv` returns.
     unsafe {
-        let mut at = getenv(b"REFUSE\0".as_ptr().cast());
+        let mut at = getenv(variable.as_ptr());
         let mut number = 0usize;
         while !at.is_null() && *at != 0 {
             let digit = (*at as u8).wrapping_sub(b'0');
@@ -49,11 +47,12 @@ fn wanted() -> usize {
 /// Counts a call, and tells whether it is the one to refuse.
 fn is_refused() -> bool {
     let call = CALLS.fetch_add(1, Ordering::Relaxed) + 1;
-    let refused = call == wanted();
+    let refused = call == number_in(c"REFUSE");
     if refused {
+        let mark = number_in(c"MARK") as c_int;
         // SAFETY: one byte is there to be written, and each thread has a place for its error's number.
         unsafe {
-            write(MARK, b"x".as_ptr().cast(), 1);
+            write(mark, b"x".as_ptr().cast(), 1);
             *__errno_location() = ENOMEM;
         }
     }
