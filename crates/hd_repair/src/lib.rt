@@ -5,11 +5,15 @@
 mod best;
 mod change;
 mod gaining;
+mod hanging;
+mod lifting;
 mod losing;
-mod marking;
 mod offers;
+mod rehanging;
+mod sources;
 mod spreading;
 mod targets;
+mod waiting;
 
 pub use change::Change;
 pub use gaining::gain;
