@@ -41,7 +41,10 @@ module _ (less more : Standing) (lost : List Holding) (n : ℕ) (ks0 ks : List R
   ]
 
   waits_more : (x : ℕ) → Contains waiting x → Contains a.more x
-  waits_more x c = rw a.pushed at c
+  waits_more x c = elim (a.waits x c) [
+    | inl none_yet ↦ absurd (in_none x none_yet)
+    | inr new ↦ new
+  ]
 
   -- an object that doesn't wait keeps its support, which stands
   stands_still : (o : ℕ) → reached_at ks o ≡ reached_at ks0 o → (by : Support) → (reached_at ks0 o).support ≡ by → IsSupported more ks0 o by
@@ -76,7 +79,7 @@ module _ (less more : Standing) (lost : List Holding) (n : ℕ) (ks0 ks : List R
     count = a.count ∙ count;
     room = λ x. omega (arith, same_stamp x, small x);
     backed = λ x. elim (changed x) [
-      | inl c ↦ inl (rw a.pushed c)
+      | inl c ↦ inl (a.too x c)
       | inr same ↦ inr (rw same (backed_same less ks0 ks x (reached_at ks0 x).strength (reached_at ks0 x).support (λ source slot is. same_strength source)
           (stands_still x same (reached_at ks0 x).support refl (h.supported x))))
     ];
@@ -99,7 +102,7 @@ module _ (less more : Standing) (lost : List Holding) (n : ℕ) (ks0 ks : List R
     rehung = λ x c. absurd (in_none x c);
     lifted = λ x c. absurd (in_none x c);
     distinct = record {
-      waiting = rw a.pushed a.once;
+      waiting = a.apart tt (λ x c new. in_none x c);
       rehung = tt;
       lifted = tt;
       gone = tt;

@@ -49,7 +49,8 @@ use Rattle.hd_repair.specs.Spreading.{AreRises, IsRise, rank_at}
 use Rattle.hd_repair.proofs.HungLemmas.{loose_not_hung}
 use Rattle.hd_repair.proofs.UnderwayLemmas.{NoneTwice-append}
 use Rattle.hd_repair.proofs.MarkLemmas.{in_or_not}
-use Rattle.hd_repair.proofs.DistinctLemmas.{sum_by-part, sum_by-both, length-different}
+use Rattle.hd_repair.proofs.DistinctLemmas.{sum_by-part, sum_by-both}
+pub use Rattle.hd_repair.proofs.DistinctLemmas.{length-different}
 use Rattle.hd_repair.proofs.QueueLemmas.{cons_cases}
 
 abbrev no_change : StrengthChange

@@ -1,7 +1,7 @@
 use Rattle.std.proofs.Common.{◌≡◌, ◌≢◌, ◌∙◌, ℕ, ◌+◌, ◌<◌, ◌≤◌, ◌⊎◌, inl, inr, List, [], ◌∷◌, ◌++◌, Contains, length, refl, sym, ap, subst, arith}
 use Rattle.std.proofs.lemmas.Bool.{cases_lt}
 use Rattle.std.proofs.lemmas.List.{get_or_past, length-append, length_push}
-use Rattle.std.proofs.lemmas.List.Elements.{Contains-append_cases, Contains-append_left, Contains-append_right, Contains-push_cases}
+use Rattle.std.proofs.lemmas.List.Elements.{Contains-append_cases, Contains-push_cases}
 use Rattle.hd_terms.specs.declared.Slot.{Slot}
 use Rattle.hd_terms.specs.declared.Strength.{Strength}
 use Rattle.hd_terms.specs.declared.Support.{Support}
@@ -109,7 +109,7 @@ module _ (g : Standing) (n : ℕ) (ks ks' : List Reached) (o : ℕ) (p : Progres
   pub waits_now : (x : ℕ) → Contains (o ∷ waiting') x → Contains (o ∷ p.waiting) x ⊎ Contains a.more x
   waits_now x c = elim (cons_cases o waiting' x c) [
     | inl same ↦ inl (subst (λ (z : ℕ). Contains (o ∷ p.waiting) z) (sym same) (Contains-first o p.waiting))
-    | inr later ↦ elim (Contains-append_cases p.waiting a.more x (rw (← a.pushed) later)) [
+    | inr later ↦ elim (a.waits x later) [
       | inl old ↦ inl (Contains-later o x p.waiting old)
       | inr new ↦ inr new
     ]
@@ -118,11 +118,11 @@ module _ (g : Standing) (n : ℕ) (ks ks' : List Reached) (o : ℕ) (p : Progres
   waits_still : (x : ℕ) → Contains (o ∷ p.waiting) x → Contains (o ∷ waiting') x
   waits_still x c = elim (cons_cases o p.waiting x c) [
     | inl same ↦ subst (λ (z : ℕ). Contains (o ∷ waiting') z) (sym same) (Contains-first o waiting')
-    | inr later ↦ Contains-later o x waiting' (rw a.pushed (Contains-append_left p.waiting a.more x later))
+    | inr later ↦ Contains-later o x waiting' (a.still x later)
   ]
 
   waits_too : (x : ℕ) → Contains a.more x → Contains (o ∷ waiting') x
-  waits_too x c = Contains-later o x waiting' (rw a.pushed (Contains-append_right p.waiting a.more x c))
+  waits_too x c = Contains-later o x waiting' (a.too x c)
 
   in_order : AreInOrder ks' NoneLate
   in_order x s sl is = elim (changed x) [
@@ -137,11 +137,11 @@ module _ (g : Standing) (n : ℕ) (ks ks' : List Reached) (o : ℕ) (p : Progres
   distinct : AreDistinct n (before_all o (with_waiting waiting' p))
   distinct = record {
     waiting = (
-      λ c. elim (Contains-append_cases p.waiting a.more o (rw (← a.pushed) c)) [
+      λ c. elim (a.waits o c) [
         | inl old ↦ h.distinct.waiting.0 old
         | inr new ↦ a.some o new loose_first.0
       ],
-      rw a.pushed (NoneTwice-append p.waiting a.more h.distinct.waiting.1 a.once (λ x c d. a.some x d (h.waiting x (Contains-later o x p.waiting c)).0)),
+      a.apart h.distinct.waiting.1 (λ x c d. a.some x d (h.waiting x (Contains-later o x p.waiting c)).0),
     );
     rehung = h.distinct.rehung;
     lifted = h.distinct.lifted;

@@ -1,4 +1,4 @@
-use Rattle.std.proofs.Common.{◌≡◌, ◌≢◌, ◌∙◌, ℕ, ◌⊎◌, inl, inr, List, [], ◌∷◌, ◌++◌, Contains, refl, sym, ap, arith, append_assoc, append-nil}
+use Rattle.std.proofs.Common.{◌≡◌, ◌≢◌, ◌∙◌, ℕ, ◌⊎◌, inl, inr, List, [], ◌∷◌, ◌++◌, Contains, refl, sym, ap, arith}
 use Rattle.std.proofs.lemmas.Bool.{cases_eq}
 use Rattle.std.proofs.lemmas.List.Elements.{Contains-push, Contains-push_cases, Contains-append_left}
 use Rattle.hd_terms.specs.declared.Support.{Support}
@@ -6,14 +6,42 @@ use Rattle.hd_terms.specs.declared.Support.TheVariants as supports
 use Rattle.hd_terms.specs.Regions.{Holding}
 use Rattle.hd_terms.specs.Settled.{Reached, reached_at}
 use Rattle.hd_terms.specs.EdgeRows.{MarkedEdge}
-use Rattle.hd_terms.proofs.Lower.{NoneTwice-push}
-use Rattle.hd_repair.specs.Losing.{loosened, AreLoosened, HoldNone, IsLeft, IsLoosened, SupportNone}
+use Rattle.hd_terms.specs.Chains.{NoneTwice}
+use Rattle.hd_terms.proofs.Lower.{Contains-first, Contains-later, NoneTwice-push}
+use Rattle.hd_repair.specs.Losing.{loosened, Joins, AreLoosened, HoldNone, IsLeft, IsLoosened, SupportNone}
+use Rattle.hd_repair.proofs.QueueLemmas.{cons_cases}
+
+-- who waits, once an object has joined
+joins_cases : (waiting waiting' : List ℕ) (o : ℕ) → Joins waiting waiting' o → (x : ℕ) → Contains waiting' x → Contains waiting x ⊎ (x ≡ o)
+joins_cases waiting waiting' o (inl behind) x c = elim (Contains-push_cases waiting o x (rw behind at c)) [
+  | inl old ↦ inl old
+  | inr same ↦ inr (sym same)
+]
+joins_cases waiting waiting' o (inr before) x c = elim (cons_cases o waiting x (rw before at c)) [
+  | inl same ↦ inr same
+  | inr old ↦ inl old
+]
+
+joins_still : (waiting waiting' : List ℕ) (o : ℕ) → Joins waiting waiting' o → (x : ℕ) → Contains waiting x → Contains waiting' x
+joins_still waiting waiting' o (inl behind) x c = rw behind (Contains-append_left waiting (o ∷ []) x c)
+joins_still waiting waiting' o (inr before) x c = rw before (Contains-later o x waiting c)
+
+joins_here : (waiting waiting' : List ℕ) (o : ℕ) → Joins waiting waiting' o → Contains waiting' o
+joins_here waiting waiting' o (inl behind) = rw behind (Contains-push waiting o)
+joins_here waiting waiting' o (inr before) = rw before (Contains-first o waiting)
+
+joins_once : (waiting waiting' : List ℕ) (o : ℕ) → Joins waiting waiting' o → NoneTwice waiting → (Contains waiting o → ⊥) → NoneTwice waiting'
+joins_once waiting waiting' o (inl behind) once fresh = rw behind (NoneTwice-push o waiting once fresh)
+joins_once waiting waiting' o (inr before) once fresh = rw before (fresh, once)
 
 -- nothing is loosened yet
 pub none_loosened : (ks : List Reached) (waiting : List ℕ) (IsHolder : ℕ → Support → Type 0) → AreLoosened ks ks waiting waiting IsHolder
 none_loosened ks waiting IsHolder = record {
   more = [];
-  pushed = sym (append-nil waiting);
+  waits = λ x c. inl c;
+  still = λ x c. c;
+  too = λ x (k, lt, is). absurd (omega arith);
+  apart = λ once disjoint. once;
   count = refl;
   once = tt;
   some = λ o (k, lt, is). absurd (omega arith);
@@ -33,7 +61,24 @@ module _ (ks0 ks ks' : List Reached) (waiting0 waiting waiting' : List ℕ) (IsH
       let held : (reached_at ks0 o).support ≡ holder = ap (λ (k : Reached). k.support) (sym was) ∙ d.held in
       record {
         more = h.more ++ o ∷ [];
-        pushed = d.pushed ∙ ap (λ (xs : List ℕ). xs ++ o ∷ []) h.pushed ∙ append_assoc waiting0 h.more (o ∷ []);
+        waits = λ x c. elim (joins_cases waiting waiting' o d.joined x c) [
+          | inl old ↦ elim (h.waits x old) [
+            | inl first ↦ inl first
+            | inr before ↦ inr (Contains-append_left h.more (o ∷ []) x before)
+          ]
+          | inr same ↦ inr (rw same (Contains-push h.more o))
+        ];
+        still = λ x c. joins_still waiting waiting' o d.joined x (h.still x c);
+        too = λ x c. elim (Contains-push_cases h.more o x c) [
+          | inl before ↦ joins_still waiting waiting' o d.joined x (h.too x before)
+          | inr same ↦ rw (← same) (joins_here waiting waiting' o d.joined)
+        ];
+        apart = λ once disjoint. joins_once waiting waiting' o d.joined
+            (h.apart once (λ x c before. disjoint x c (Contains-append_left h.more (o ∷ []) x before)))
+            (λ c. elim (h.waits o c) [
+              | inl first ↦ disjoint o first (Contains-push h.more o)
+              | inr before ↦ fresh before
+            ]);
         count = d.count ∙ h.count;
         once = NoneTwice-push o h.more h.once fresh;
         some = λ x c. elim (Contains-push_cases h.more o x c) [

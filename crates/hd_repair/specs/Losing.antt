@@ -31,13 +31,17 @@ loosened k = record { strength = k.strength; support = supports.Nothing; stamp =
 abbrev pub without_support : Reached → Reached
 without_support k = record { strength = strengths.Unreachable; support = supports.Nothing; stamp = k.stamp }
 
+-- an object joins those that wait, before or behind them
+abbrev pub Joins : (waiting waiting' : List ℕ) → ℕ → Type 0
+Joins waiting waiting' o = (waiting' ≡ waiting ++ o ∷ []) ⊎ (waiting' ≡ o ∷ waiting)
+
 -- o was held up by holder, and waits
 pub record IsLoosened (ks ks' : List Reached) (waiting waiting' : List ℕ) (o : ℕ) (holder : Support) : Type 0 where
   pub held : (reached_at ks o).support ≡ holder
   pub here : reached_at ks' o ≡ loosened (reached_at ks o)
   pub others : (x : ℕ) → x ≢ o → reached_at ks' x ≡ reached_at ks x
   pub count : length ks' ≡ length ks
-  pub pushed : waiting' ≡ waiting ++ o ∷ []
+  pub joined : Joins waiting waiting' o
 
 -- o isn't held up by holder, and nothing changes
 pub record IsLeft (ks ks' : List Reached) (waiting waiting' : List ℕ) (o : ℕ) (holder : Support) : Type 0 where
@@ -48,7 +52,10 @@ pub record IsLeft (ks ks' : List Reached) (waiting waiting' : List ℕ) (o : ℕ
 -- more objects wait, each of which a holder of some kind held up; nothing else changes
 pub record AreLoosened (ks ks' : List Reached) (waiting waiting' : List ℕ) (IsHolder : ℕ → Support → Type 0) : Type 0 where
   pub more : List ℕ
-  pub pushed : waiting' ≡ waiting ++ more
+  pub waits : (x : ℕ) → Contains waiting' x → Contains waiting x ⊎ Contains more x
+  pub still : (x : ℕ) → Contains waiting x → Contains waiting' x
+  pub too : (x : ℕ) → Contains more x → Contains waiting' x
+  pub apart : NoneTwice waiting → ((x : ℕ) → Contains waiting x → Contains more x → ⊥) → NoneTwice waiting'
   pub count : length ks' ≡ length ks
   pub once : NoneTwice more
   pub some : (o : ℕ) → Contains more o → (reached_at ks o).support ≢ supports.Nothing

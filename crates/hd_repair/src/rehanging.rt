@@ -119,7 +119,7 @@ pub(crate) fn rehang_or_detach<E: Edges>(
     ensures underway { IfOk result (λ losing. IsUnderway (E.rows edges.old).standing (E.rows edges.old).objects kept.new (progress_of losing) NoneLate) }
     ensures since { IfOk result (λ losing. IsSince kept.old lost.now kept.new (progress_of losing)) }
 {
-    let waiting = loosen_lost(alloc, kept, lost)?;
+    let waiting = loosen_lost(alloc, edges, kept, lost)?;
     let mut losing = Losing {
         waiting,
         rehung: Vec::new(alloc),

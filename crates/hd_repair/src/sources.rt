@@ -104,14 +104,14 @@ fn is_enough(kept: &Supports, support: Option<Support>, o: u32, compared: u32) -
 }
 
 /// Whether no root is on an object, and only one edge leads to it. If it lost its support, that was this edge.
-fn has_one_source<E: Edges>(edges: &E, o: u32) -> bool
+pub(crate) fn has_one_source<E: Edges>(edges: &E, o: u32) -> bool
     requires { o < (E.rows edges.now).objects }
 {
     edges.root_len(o) == 0 && edges.into_len(o) == 1
 }
 
 /// How many steps over stored chains are allowed for each edge that is looked at.
-const STEPS: u64 = 32;
+const STEPS: u64 = 8;
 
 /// Another root on an object that lost its support, or an edge to it, that gives it what it has and hangs on a root; of
 /// edges one whose source comes early. Each root and each edge is looked at once at most.

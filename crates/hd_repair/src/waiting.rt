@@ -6,6 +6,7 @@ ghost use Rattle.hd_terms.specs.Settled.{reached_at, Reached};
 ghost use Rattle.hd_repair.specs.Hanging.{NoneLate};
 ghost use Rattle.hd_repair.specs.Losing.{before_all, looks_due, progress_of, sources_of, targets_of, AreLoosened, HoldNone, IsFrom, IsLeft, IsLoosened, IsLost, IsSince, IsUnderway, SupportNone};
 
+use crate::sources::has_one_source;
 use hd_edges::{Edges, Held};
 use hd_supports::Supports;
 use hd_terms::{NoMemory, Strength, Support};
@@ -49,14 +50,17 @@ impl Drop for Losing {
     }
 }
 
-/// Lets an object wait, if this is what holds it.
-fn loosen_if_held(
+/// Lets an object wait, if this is what holds it. One that nothing else leads to comes before the others: it needs no search,
+/// and chains that hang below it end the sooner.
+fn loosen_if_held<E: Edges>(
+    edges: &E,
     kept: &mut Supports,
     waiting: &mut VecDeque<u32>,
     o: u32,
     holder: Support,
 ) -> Result<(), NoMemory>
-    requires { o < length kept.old }
+    requires object { o < (E.rows edges.now).objects }
+    requires count { length kept.old ≡ (E.rows edges.now).objects }
     ensures count { length kept.new ≡ length kept.old }
     ensures ok { OnOk result (
         IsLoosened kept.old kept.new waiting.old.items waiting.new.items o holder
@@ -69,17 +73,23 @@ fn loosen_if_held(
     let strength = kept.strength(o);
     let stamp = kept.stamp(o);
     kept.put(o, strength, Support::Nothing, stamp)?;
+    if has_one_source(edges, o) {
+        waiting.push_front(o)?;
+        return Ok(());
+    }
     waiting.push_back(o)?;
     Ok(())
 }
 
 /// Lets the objects wait that what is lost itself holds.
-pub(crate) fn loosen_lost(
+pub(crate) fn loosen_lost<E: Edges>(
     alloc: Global,
+    edges: &E,
     kept: &mut Supports,
     lost: &[Held],
 ) -> Result<VecDeque<u32>, NoMemory>
-    requires targets { All (λ (h : Holding). h.target < length kept.old) lost.now }
+    requires count { length kept.old ≡ (E.rows edges.now).objects }
+    requires targets { All (λ (h : Holding). h.target < (E.rows edges.now).objects) lost.now }
     requires holders { All (λ (h : Holding). h.holder ≢ supports.Nothing) lost.now }
     ensures count { length kept.new ≡ length kept.old }
     ensures loosened { IfOk result (λ waiting. AreLoosened kept.old kept.new [] waiting.items (IsLost lost.now)) }
@@ -87,7 +97,7 @@ pub(crate) fn loosen_lost(
 {
     let mut waiting = VecDeque::new(alloc);
     for held in lost {
-        loosen_if_held(kept, &mut waiting, held.target(), held.holder())?;
+        loosen_if_held(edges, kept, &mut waiting, held.target(), held.holder())?;
     }
     Ok(waiting)
 }
@@ -113,7 +123,7 @@ fn loosen_below<E: Edges>(
             source: o,
             slot: edge.slot,
         };
-        loosen_if_held(kept, waiting, edge.target, holder)?;
+        loosen_if_held(edges, kept, waiting, edge.target, holder)?;
     }
     Ok(())
 }

@@ -27,7 +27,8 @@ loosen_if_held-requires g c =
     let value = rw same at c.out-edge.ensures.value in
     let within = laws.out_target c.args.o (marked_edge c.out-edge.result)
     (Contains-slice_get (r.out c.args.o) c.loop-i.i (marked_edge c.out-edge.result) lt value) in
-    omega (arith, within, c.loop-i.invariant.count, c.requires.count)
+    let now : rows c.out-edge.new.self ≡ r = c.out-edge.ensures.same ∙ same in
+    record { object = rw now within; count = rw now (c.loop-i.invariant.count ∙ c.requires.count) }
 
 pub loop-i-preserved : goal.loop-i-preserved
 loop-i-preserved g c =

@@ -9,14 +9,14 @@ use Rattle.hd_repair.proofs.WaitLemmas.{none_loosened, loosen_step, hold_more}
 use Rattle.hd_repair.proofs.waiting.loosen_lost.Goals as goal
 
 pub loop-held-init : goal.loop-held-init
-loop-held-init c = record {
+loop-held-init g c = record {
   count = refl;
   loosened = rw c.new-waiting.ensures.items (none_loosened c.args.kept.now [] (IsLost c.args.lost.now));
   none = λ h (k, lt, is). absurd (omega arith);
 }
 
 pub loop-held-preserved : goal.loop-held-preserved
-loop-held-preserved c =
+loop-held-preserved g c =
     let lost = c.args.lost.now in
     let i = c.loop-held.held-index in
     let none : Holding = record { target = 0; holder = supports.Nothing } in
@@ -39,5 +39,5 @@ loop-held-preserved c =
     }
 
 pub returns-clause-none : goal.returns-clause-none
-returns-clause-none c = subst (λ (items : List Holding). HoldNone c.loop-held.kept items)
+returns-clause-none g c = subst (λ (items : List Holding). HoldNone c.loop-held.kept items)
     (take_all c.loop-held.held-index c.args.lost.now c.loop-held-test.false) c.loop-held.invariant.none
