@@ -22,10 +22,12 @@ use Rattle.hd_terms.specs.Regions.{IsWithout, InGainRegion, AreChanges, by_chang
 use Rattle.hd_repair.specs.Spreading.{IsSpreading, IsBacked, RootOn, EdgeTo, AreRises, rank_at}
 use Rattle.hd_repair.proofs.SettledLemmas.{exact_support, order_of}
 use Rattle.hd_repair.proofs.MarkLemmas.{in_or_not}
-use Rattle.hd_repair.proofs.LossLemmas.{changed_from, sum_by-part, sum_by-both, length-different}
+use Rattle.hd_repair.proofs.DistinctLemmas.{sum_by-part, sum_by-both, length-different}
+use Rattle.hd_repair.proofs.LossLemmas.{changed_from}
 
 -- what was settled is spreading, but for what leads to the targets of what is gained
-module _ (less more : Standing) (gained : List Holding) (ks : List Reached) (targets : List ℕ) (w : IsWithout less more gained) (h : Settled less ks) (all : (x : Holding) → Contains gained x → Contains targets x.target) where
+module _ (less more : Standing) (gained : List Holding) (ks : List Reached) (targets : List ℕ) (w : IsWithout less more gained) (h : Settled less ks)
+    (all : (x : Holding) → Contains gained x → Contains targets x.target) where
   more_backed : (o : ℕ) (s : Strength) (by : Support) → IsBacked less ks o s by → IsBacked more ks o s by
   more_backed o s supports.Nothing b = b
   more_backed o s (supports.Root n) b = (w.roots_within (record { number = n; target = o }) b.0, b.1)
@@ -68,16 +70,31 @@ module _ (ks ks' : List Reached) (changes : List StrengthChange) (changed : AreR
   within : (n : ℕ) → length ks' ≡ n → (o : ℕ) → Contains (changed_objects changes) o → o < n
   within n count o c = elim (cases_lt o n) [
     | inl lt ↦ lt
-    | inr past ↦ let z : rank_at ks' o ≡ 0 = ap (λ (k : Reached). rank k.strength) (get_or_past ks' o unreached (omega arith)) in absurd (omega (arith, rises o c))
+    | inr past ↦ let z : rank_at ks' o ≡ 0 = ap (λ (k : Reached). rank k.strength) (get_or_past ks' o unreached (omega arith)) in absurd
+        (omega (arith, rises o c))
   ]
 
   pub stamps_up : (n : ℕ) → length ks' ≡ n → (top : ℕ) → ((o : ℕ) → (reached_at ks o).stamp ≤ top) → (o : ℕ) → (reached_at ks' o).stamp ≤ top + n
-  stamps_up n count top small o = omega (arith, changed.stamps top small o, length-map changes (λ (d : StrengthChange). d.object), length-different n (changed_objects changes) changed.once (within n count))
+  stamps_up n count top small o = omega (
+    arith,
+    changed.stamps top small o,
+    length-map changes (λ (d : StrengthChange). d.object),
+    length-different n
+        (changed_objects changes) changed.once (within n count),
+  )
 
-  pub looks_up : (targets : List ℕ) → NoneTwice targets → (out others : ℕ → ℕ) (looks0 looks1 looks2 : ℕ) → looks1 ≤ looks0 + sum_by others targets → looks2 ≤ looks1 + sum_by out (changed_objects changes)
-      → (region : List ℕ) → ((o : ℕ) → Contains targets o → Contains region o) → ((o : ℕ) → rank_at ks o < rank_at ks' o → Contains region o) → looks2 ≤ looks0 + sum_by (λ o. out o + others o) region
+  pub looks_up : (targets : List ℕ) → NoneTwice targets → (out others : ℕ → ℕ) (looks0 looks1 looks2 : ℕ) → looks1 ≤ looks0 + sum_by others targets
+      → looks2 ≤ looks1 + sum_by out (changed_objects changes)
+      → (region : List ℕ) → ((o : ℕ) → Contains targets o → Contains region o) → ((o : ℕ) → rank_at ks o < rank_at ks' o → Contains region o)
+      → looks2 ≤ looks0 + sum_by (λ o. out o + others o) region
   looks_up targets once out others looks0 looks1 looks2 a b region first rising =
-      omega (arith, sum_by-both out others region, sum_by-part others targets region once first, sum_by-part out (changed_objects changes) region changed.once (λ o c. rising o (rises o c)))
+      omega (
+        arith,
+        sum_by-both out others region,
+        sum_by-part others targets region once first,
+        sum_by-part out (changed_objects changes) region
+            changed.once (λ o c. rising o (rises o c)),
+      )
 
 -- what was gained and rises is the region
 module _ (ks ks' : List Reached) (changes : List StrengthChange) (changed : AreRises ks ks' changes) where
@@ -94,13 +111,21 @@ module _ (ks ks' : List Reached) (changes : List StrengthChange) (changed : AreR
 
   -- outside the region nothing has changed
   pub outside_gain : (gained : List Holding) (o : ℕ) → (InGainRegion ks ks' gained o → ⊥) → reached_at ks' o ≡ reached_at ks o
-  outside_gain gained o out = changed.others o (λ c. out (by_change (λ same. let one : rank_at ks o ≡ rank_at ks' o = ap rank same in omega (arith, rises ks ks' changes changed o c))))
+  outside_gain gained o out = changed.others o (λ c. out (by_change
+      (λ same. let one : rank_at ks o ≡ rank_at ks' o = ap rank same in omega (arith, rises ks ks' changes changed o c))))
 
 -- a set of numbers after an insert: a number that was there leaves them as they are, and another goes last
-pub inserted : (k : ℕ) (ks ks' : List ℕ) (is_new : Bool) → is_new ≡ not (list_any (nat_eq k) ks) → ks' ≡ (if list_any (nat_eq k) ks then ks else ks ++ k ∷ []) → ((is_new ≡ true) × (Contains ks k → ⊥) × (ks' ≡ ks ++ k ∷ [])) ⊎ ((is_new ≡ false) × Contains ks k × (ks' ≡ ks))
+pub inserted : (k : ℕ) (ks ks' : List ℕ) (is_new : Bool) → is_new ≡ not (list_any (nat_eq k) ks)
+    → ks' ≡ (if list_any (nat_eq k) ks then ks else ks ++ k ∷ [])
+    → ((is_new ≡ true) × (Contains ks k → ⊥) × (ks' ≡ ks ++ k ∷ [])) ⊎ ((is_new ≡ false) × Contains ks k × (ks' ≡ ks))
 inserted k ks ks' is_new added keys = elim (cases_Bool (list_any (nat_eq k) ks)) [
   | inl there ↦ inr (added ∙ ap not there, Contains-from_any eqb-true k ks there, keys ∙ cond-true (list_any (nat_eq k) ks) ks (ks ++ k ∷ []) there)
-  | inr fresh ↦ inl (added ∙ ap not fresh, (λ c. true≢false (sym (list_any-from_Contains nat_eq_equiv k ks c) ∙ fresh)), keys ∙ cond-false (list_any (nat_eq k) ks) ks (ks ++ k ∷ []) fresh)
+  | inr fresh ↦ inl (
+    added ∙ ap not fresh,
+    (λ c. true≢false (sym (list_any-from_Contains nat_eq_equiv k ks c) ∙ fresh)),
+    keys ∙ cond-false
+        (list_any (nat_eq k) ks) ks (ks ++ k ∷ []) fresh,
+  )
 ]
 
 -- the targets so far
@@ -109,7 +134,8 @@ pub record AreTargets (items seen : List Holding) (ts : List ℕ) : Type 0 where
   pub all : (h : Holding) → Contains seen h → Contains ts h.target
   pub only : (o : ℕ) → Contains ts o → (h : Holding) × Contains items h × (h.target ≡ o)
 
-pub add_target : (items seen : List Holding) (ts : List ℕ) (x : Holding) → AreTargets items seen ts → Contains items x → (Contains ts x.target → ⊥) → AreTargets items (seen ++ x ∷ []) (ts ++ x.target ∷ [])
+pub add_target : (items seen : List Holding) (ts : List ℕ) (x : Holding) → AreTargets items seen ts → Contains items x → (Contains ts x.target → ⊥)
+    → AreTargets items (seen ++ x ∷ []) (ts ++ x.target ∷ [])
 add_target items seen ts x h is fresh = record {
   once = NoneTwice-push x.target ts h.once fresh;
   all = λ y c. elim (Contains-push_cases seen x y c) [
@@ -119,7 +145,8 @@ add_target items seen ts x h is fresh = record {
   only = λ o c. elim (Contains-push_cases ts x.target o c) [ inl before ↦ h.only o before | inr same ↦ (x, is, same) ];
 }
 
-pub keep_targets : (items seen : List Holding) (ts : List ℕ) (x : Holding) → AreTargets items seen ts → Contains ts x.target → AreTargets items (seen ++ x ∷ []) ts
+pub keep_targets : (items seen : List Holding) (ts : List ℕ) (x : Holding) → AreTargets items seen ts → Contains ts x.target
+    → AreTargets items (seen ++ x ∷ []) ts
 keep_targets items seen ts x h there = record {
   once = h.once;
   all = λ y c. elim (Contains-push_cases seen x y c) [ inl before ↦ h.all y before | inr same ↦ rw (← same) there ];

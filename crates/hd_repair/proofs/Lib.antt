@@ -6,5 +6,14 @@ pub mod SpreadLemmas
 pub mod BestLemmas
 pub mod EachLemmas
 pub mod MarkLemmas
+pub mod DistinctLemmas
+pub mod HungLemmas
+pub mod SourceLemmas
+pub mod WaitLemmas
+pub mod LiftLemmas
+pub mod UnderwayLemmas
+pub mod DetachLemmas
+pub mod RehangLemmas
+pub mod BeginLemmas
 pub mod LossLemmas
 pub mod GainLemmas

@@ -1,4 +1,33 @@
-use Rattle.std.proofs.Common.{◌≡◌, ◌≢◌, ◌∙◌, ℕ, ◌+◌, ◌-◌, ◌*◌, ◌^◌, zero-add, ◌<◌, ◌≤◌, ◌⊎◌, inl, inr, List, [], ◌∷◌, ◌++◌, map, Contains, length, sum_by, refl, sym, ap, subst, arith, true}
+use Rattle.std.proofs.Common.{
+  ◌≡◌,
+  ◌≢◌,
+  ◌∙◌,
+  ℕ,
+  ◌+◌,
+  ◌-◌,
+  ◌*◌,
+  ◌^◌,
+  zero-add,
+  ◌<◌,
+  ◌≤◌,
+  ◌⊎◌,
+  inl,
+  inr,
+  List,
+  [],
+  ◌∷◌,
+  ◌++◌,
+  map,
+  Contains,
+  length,
+  sum_by,
+  refl,
+  sym,
+  ap,
+  subst,
+  arith,
+  true,
+}
 use Rattle.std.proofs.lemmas.Bool.{cases_eq, cases_lt}
 use Rattle.std.proofs.lemmas.List.{map-append, length_push, get_or-map, length-map}
 use Rattle.std.proofs.lemmas.List.Elements.{Contains-push, Contains-push_cases, Contains-append_left}
@@ -12,16 +41,32 @@ use Rattle.hd_terms.specs.EdgeRows.{Rows, AreRows}
 use Rattle.hd_repair.specs.declared.offers.Offer.{Offer}
 use Rattle.hd_terms.specs.Regions.{StrengthChange, changed_objects}
 use Rattle.hd_repair.specs.Offering.{TakesBest}
-use Rattle.hd_repair.specs.Spreading.{IsSpreading, IsOfferFrom, IsDone, NoRoot, NoEdge, AddsOffers, IsDeclined, IsAccepted, IsRise, AreRises, deficit_of, offered_strength, rank_at}
+use Rattle.hd_repair.specs.Spreading.{
+  IsSpreading,
+  IsOfferFrom,
+  IsDone,
+  NoRoot,
+  NoEdge,
+  AddsOffers,
+  IsDeclined,
+  IsAccepted,
+  IsRise,
+  AreRises,
+  deficit_of,
+  offered_strength,
+  rank_at,
+}
 use Rattle.hd_repair.proofs.SettledLemmas.{take, raises, settled_in_the_end}
 use Rattle.std.proofs.lemmas.List.Sums.{sum_by-append, sum_by-le}
 
 -- an offer of no use is left out
-module _ (g : Standing) (ks : List Reached) (offers rest : List Offer) (f : Offer) (h : IsSpreading g ks offers NoRoot NoEdge) (t : TakesBest offers rest f) (no_more : rank f.strength ≤ rank_at ks f.target) where
+module _ (g : Standing) (ks : List Reached) (offers rest : List Offer) (f : Offer) (h : IsSpreading g ks offers NoRoot NoEdge) (t : TakesBest offers rest f)
+    (no_more : rank f.strength ≤ rank_at ks f.target) where
   still_done : (o n : ℕ) → IsDone ks offers o n → IsDone ks rest o n
   still_done o n (inl le) = inl le
   still_done o n (inr x) = elim (t.left x.offer x.made) [
-    | inl same ↦ inl (let there : f.target ≡ o = rw (← same) x.to_object in let e : n ≤ rank f.strength = rw (← same) x.enough in let l : rank_at ks f.target ≡ rank_at ks o = ap (rank_at ks) there in omega arith)
+    | inl same ↦ inl (let there : f.target ≡ o = rw (← same) x.to_object in let e : n ≤ rank f.strength =
+        rw (← same) x.enough in let l : rank_at ks f.target ≡ rank_at ks o = ap (rank_at ks) there in omega arith)
     | inr still ↦ inr (record { offer = x.offer; made = still; to_object = x.to_object; enough = x.enough })
   ]
 
@@ -31,7 +76,11 @@ module _ (g : Standing) (ks : List Reached) (offers rest : List Offer) (f : Offe
     in_order = h.in_order;
     backed = λ x made. h.backed x (t.within x made);
     by_roots = λ r stands. elim (h.by_roots r stands) [ inl none ↦ absurd none | inr done ↦ inr (still_done r.target 5 done) ];
-    by_edges = λ e stands. elim (h.by_edges e stands) [ inl none ↦ absurd none | inr done ↦ inr (λ p. still_done e.target (rank (offered_strength ks e)) (done p)) ];
+    by_edges = λ e stands. elim (h.by_edges e stands) [
+      | inl none ↦ absurd none
+      | inr done ↦ inr
+          (λ p. still_done e.target (rank (offered_strength ks e)) (done p))
+    ];
   }
 
 -- the out-edges of an object that was raised are offered
@@ -104,7 +153,8 @@ declined r ks0 ks ks' offers rest offers' changes changes' f h t d = rw (d.same_
 
 -- an offer that is taken
 module _ (r : Rows) (laws : AreRows r) (ks0 ks ks' : List Reached) (offers rest offers' : List Offer) (changes changes' : List StrengthChange) (f : Offer)
-    (h : IsRepairing r ks0 ks offers changes) (t : TakesBest offers rest f) (d : IsAccepted r.standing (r.out f.target) ks ks' rest offers' changes changes' f) where
+    (h : IsRepairing r ks0 ks offers changes) (t : TakesBest offers rest f)
+    (d : IsAccepted r.standing (r.out f.target) ks ks' rest offers' changes changes' f) where
   abbrev new : Reached
   new = record { strength = f.strength; support = f.support; stamp = d.stamp }
 
@@ -143,26 +193,40 @@ module _ (r : Rows) (laws : AreRows r) (ks0 ks ks' : List Reached) (offers rest 
   fresh c = omega (arith, h.below f t.made f.target c, d.more)
 
   objects : changed_objects changes' ≡ changed_objects changes ++ f.target ∷ []
-  objects = ap changed_objects d.change ∙ map-append (λ (c : StrengthChange). c.object) changes (record { object = f.target; before = (reached_at ks f.target).strength; after = f.strength } ∷ [])
+  objects = ap changed_objects d.change ∙ map-append (λ (c : StrengthChange). c.object) changes
+      (record { object = f.target; before = (reached_at ks f.target).strength; after = f.strength } ∷ [])
 
   each : (c : StrengthChange) → Contains changes' c → IsRise ks0 ks' c
-  each c is = elim (Contains-push_cases changes (record { object = f.target; before = (reached_at ks f.target).strength; after = f.strength }) c (rw (← d.change) is)) [
-    | inl before ↦
-        let other : c.object ≢ f.target = λ same. fresh (rw (← same) (Contains-map (λ (c : StrengthChange). c.object) changes c before)) in
-        record { before = (h.changed.each c before).before; after = rw (d.others c.object other) (h.changed.each c before).after; rises = (h.changed.each c before).rises }
-    | inr same ↦ rw (← same) (record { before = ap (λ (k : Reached). k.strength) (sym (h.changed.others f.target fresh)); after = ap (λ (k : Reached). k.strength) d.here; rises = d.more })
-  ]
+  each c is = elim (Contains-push_cases changes (record { object = f.target; before = (reached_at ks f.target).strength; after = f.strength }) c
+      (rw (← d.change) is)) [
+        | inl before ↦
+            let other : c.object ≢ f.target = λ same. fresh (rw (← same) (Contains-map (λ (c : StrengthChange). c.object) changes c before)) in
+            record {
+              before = (h.changed.each c before).before;
+              after = rw (d.others c.object other) (h.changed.each c before).after;
+              rises =
+                  (h.changed.each c before).rises;
+            }
+        | inr same ↦ rw (← same) (record {
+          before = ap (λ (k : Reached). k.strength) (sym (h.changed.others f.target fresh));
+          after =
+              ap (λ (k : Reached). k.strength) d.here;
+          rises = d.more;
+        })
+      ]
 
   changed : AreRises ks0 ks' changes'
   changed = record {
     each = each;
     once = rw objects (NoneTwice-push f.target (changed_objects changes) h.changed.once fresh);
     others = λ o none.
-        let none_before : Contains (changed_objects changes) o → ⊥ = λ c. none (rw objects (Contains-append_left (changed_objects changes) (f.target ∷ []) o c)) in
+        let none_before : Contains (changed_objects changes) o → ⊥ =
+        λ c. none (rw objects (Contains-append_left (changed_objects changes) (f.target ∷ []) o c)) in
         let other : o ≢ f.target = λ same. none (rw (objects, same) (Contains-push (changed_objects changes) f.target)) in
         d.others o other ∙ h.changed.others o none_before;
     stamps = λ m small o.
-        let count : length changes' ≡ length changes + 1 = ap length d.change ∙ length_push changes (record { object = f.target; before = (reached_at ks f.target).strength; after = f.strength }) in
+        let count : length changes' ≡ length changes + 1 = ap length d.change ∙ length_push changes
+        (record { object = f.target; before = (reached_at ks f.target).strength; after = f.strength }) in
         elim (cases_eq o f.target) [
           | inl same ↦ rw (same, d.here) (omega (arith, d.bounded (m + length changes) (h.changed.stamps m small)))
           | inr other ↦ rw (d.others o other) (omega (arith, h.changed.stamps m small o))
@@ -182,7 +246,9 @@ module _ (r : Rows) (laws : AreRows r) (ks0 ks ks' : List Reached) (offers rest 
       | inr same ↦ rw (← same) (omega (arith, low_enough x c, here_rank))
     ];
     changed = changed;
-    deficit = let count : length changes' ≡ length changes + 1 = ap length d.change ∙ length_push changes (record { object = f.target; before = (reached_at ks f.target).strength; after = f.strength }) in omega (arith, d.deficit, h.deficit);
+    deficit = let count : length changes' ≡ length changes + 1 =
+        ap length d.change ∙ length_push changes (record { object = f.target; before = (reached_at ks f.target).strength; after = f.strength })
+        in omega (arith, d.deficit, h.deficit);
   }
 
 -- the end
@@ -199,7 +265,8 @@ nothing_changed ks = record {
   stamps = λ m small o. omega (arith, small o);
 }
 
-pub begins : (r : Rows) (ks : List Reached) (offers : List Offer) → IsSpreading r.standing ks offers NoRoot NoEdge → length ks ≡ r.objects → ((x : Offer) → Contains offers x → x.target < r.objects) → IsRepairing r ks ks offers []
+pub begins : (r : Rows) (ks : List Reached) (offers : List Offer) → IsSpreading r.standing ks offers NoRoot NoEdge → length ks ≡ r.objects
+    → ((x : Offer) → Contains offers x → x.target < r.objects) → IsRepairing r ks ks offers []
 begins r ks offers h count targets = record {
   spreading = h;
   count = count;
@@ -213,14 +280,17 @@ deficit-le : (ks : List Reached) → deficit_of ks ≤ length ks * 5
 deficit-le ks = sum_by-le (λ k. 5 - rank k.strength) 5 ks (λ k d lt. omega arith)
 
 -- a stamp is small
-pub stamp_room : (r : Rows) (ks0 ks : List Reached) (offers : List Offer) (changes : List StrengthChange) → IsRepairing r ks0 ks offers changes → length ks0 < 2 ^ 32 → ((o : ℕ) → (reached_at ks0 o).stamp ≤ 2 ^ 47) → (o : ℕ) → (reached_at ks o).stamp < 2 ^ 48 - 1
-stamp_room r ks0 ks offers changes h few small o = omega (arith, h.changed.stamps (2 ^ 47) small o, h.deficit, deficit-le ks0)
+pub stamp_room : (r : Rows) (ks0 ks : List Reached) (offers : List Offer) (changes : List StrengthChange) → IsRepairing r ks0 ks offers changes
+    → length ks0 < 2 ^ 32 → ((o : ℕ) → (reached_at ks0 o).stamp ≤ 2 ^ 47 + 2 ^ 32) → (o : ℕ) → (reached_at ks o).stamp < 2 ^ 48 - 1
+stamp_room r ks0 ks offers changes h few small o = omega (arith, h.changed.stamps (2 ^ 47 + 2 ^ 32) small o, h.deficit, deficit-le ks0)
 
 -- looks at the out-edges of one more object
-pub looks_more : (f : ℕ → ℕ) (changes changes' : List StrengthChange) (d : StrengthChange) (base before after : ℕ) → changes' ≡ changes ++ d ∷ [] → before ≤ base + sum_by f (changed_objects changes) → after ≤ before + f d.object → after ≤ base + sum_by f (changed_objects changes')
+pub looks_more : (f : ℕ → ℕ) (changes changes' : List StrengthChange) (d : StrengthChange) (base before after : ℕ) → changes' ≡ changes ++ d ∷ []
+    → before ≤ base + sum_by f (changed_objects changes) → after ≤ before + f d.object → after ≤ base + sum_by f (changed_objects changes')
 looks_more f changes changes' d base before after e h step =
     let one : sum_by f (d.object ∷ []) ≡ f d.object = zero-add (f d.object) in
     rw (e, map-append) (omega (arith, sum_by-append f (changed_objects changes) (d.object ∷ [])))
 
-pub looks_same : (f : ℕ → ℕ) (changes changes' : List StrengthChange) (base before after : ℕ) → changes' ≡ changes → before ≤ base + sum_by f (changed_objects changes) → after ≤ before → after ≤ base + sum_by f (changed_objects changes')
+pub looks_same : (f : ℕ → ℕ) (changes changes' : List StrengthChange) (base before after : ℕ) → changes' ≡ changes
+    → before ≤ base + sum_by f (changed_objects changes) → after ≤ before → after ≤ base + sum_by f (changed_objects changes')
 looks_same f changes changes' base before after e h step = rw e (omega arith)

@@ -1,4 +1,6 @@
 pub mod Offering
 pub mod OffersInside
 pub mod Spreading
-pub mod Marking
+pub mod Hanging
+pub mod Losing
+pub mod Changing

@@ -9,20 +9,24 @@
 //!
 //! Both work in passes.
 //!
-//! A loss (`losing.rt`):
+//! A loss (`losing.rt`) takes apart no more than it has to:
 //!
-//! 1. `mark_region` (`marking.rt`) marks the objects that what was lost supports, the objects that these support, and
-//!    so on. They form the region. A marked object loses its support and is unreachable for the time being. Each edge
-//!    from it is looked at once.
-//! 2. `offer_each` (`best.rt`) finds the best offer to each object of the region, over the roots on it and the edges to
-//!    it. Only objects that pass their strength on offer something, and the marked ones don't, so each offer comes from
-//!    outside.
-//! 3. `spread` (`spreading.rt`) accepts offers, the greatest first. An offer that gives more than its target has
+//! 1. `rehang_or_detach` (`rehanging.rt`) goes over the objects that lost their support. Such an object waits
+//!    (`waiting.rt`), without a support and with its strength. Where a root or an edge still gives it exactly that
+//!    strength, it is hung on that, and all that it supports stays (`find_support` of `sources.rt`). The source has to be
+//!    hung itself: its stored chain, followed without looks, ends at a root (`is_hung` of `hanging.rt`), so it doesn't
+//!    meet an object that waits. Where the new source comes later, stamps are lifted below the object (`lifting.rt`).
+//! 2. An object that finds no such source is detached: it is unreachable for the time being, and the objects that it
+//!    supports wait in its place. Walks along chains are bounded; an object beyond the bound is detached, which is right
+//!    too.
+//! 3. `offer_each` (`best.rt`) finds the best offer to each detached object, over the roots on it and the edges to it.
+//!    Detached objects offer nothing.
+//! 4. `spread` (`spreading.rt`) accepts offers, the greatest first. An offer that gives more than its target has
 //!    becomes the target's support. What the target then gives along its own edges is offered in turn.
-//! 4. `changes_of` compares the strengths of the region with those that the objects had.
+//! 5. `changes_of` compares the strengths of the detached objects with those that they had.
 //!
 //! A gain (`gaining.rt`) takes the targets of what was gained, each once (`targets.rt`), finds the best offer to each,
-//! and spreads them in the same way. Nothing is marked, since a gain weakens nothing.
+//! and spreads them in the same way. Nothing is detached, since a gain weakens nothing.
 //!
 //! Offers wait in `Offers` (`offers.rt`), which has one queue for each strength, so the greatest is found without a
 //! heap. An offer is checked when it is taken out, so an outdated one is dropped then. With no offer left the supports
@@ -40,11 +44,15 @@
 mod best;
 mod change;
 mod gaining;
+mod hanging;
+mod lifting;
 mod losing;
-mod marking;
 mod offers;
+mod rehanging;
+mod sources;
 mod spreading;
 mod targets;
+mod waiting;
 
 pub use change::Change;
 pub use gaining::gain;

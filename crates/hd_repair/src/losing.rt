@@ -5,12 +5,14 @@ ghost use Rattle.hd_terms.specs.EdgeRows.{degree};
 ghost use Rattle.hd_terms.specs.Regions.{AreChanges, Holding, InLossRegion, WasSettledWith};
 ghost use Rattle.hd_terms.specs.Settled.{reached_at, Reached, Settled};
 ghost use Rattle.hd_terms.specs.Chains.{NoneTwice};
-ghost use Rattle.hd_repair.specs.Marking.{strengths_of, AreChangesAmong};
+ghost use Rattle.hd_repair.specs.Changing.{AreChangesAmong};
+ghost use Rattle.hd_repair.specs.Losing.{strengths_of};
 
 use crate::best::offer_each;
 use crate::change::Change;
-use crate::marking::{Region, mark_region};
+use crate::rehanging::rehang_or_detach;
 use crate::spreading::spread;
+use crate::waiting::Region;
 use hd_edges::{Edges, Held};
 use hd_supports::Supports;
 use hd_terms::NoMemory;
@@ -64,9 +66,10 @@ pub fn lose<E: Edges>(
         ) }
     ensures stamps { OnOk result ((m : ℕ) → ((o : ℕ) → (reached_at kept.old o).stamp ≤ m) → (o : ℕ) → (reached_at kept.new o).stamp ≤ m + (E.rows edges.old).objects) }
 {
-    let region = mark_region(alloc, edges, kept, lost)?;
-    let offers = offer_each(alloc, edges, &region.objects, kept)?;
+    kept.are_few();
+    let losing = rehang_or_detach(alloc, edges, kept, lost)?;
+    let offers = offer_each(alloc, edges, &losing.gone.objects, kept)?;
     let _rises = spread(alloc, edges, kept, offers)?;
-    let changes = changes_of(alloc, &region, kept)?;
+    let changes = changes_of(alloc, &losing.gone, kept)?;
     Ok(changes)
 }

@@ -120,7 +120,7 @@ pub(crate) fn spread<E: Edges>(
     requires count { length kept.old ≡ (E.rows edges.old).objects }
     requires targets { (x : OneOffer) → Contains offers x → x.target < (E.rows edges.old).objects }
     requires spreading { IsSpreading (E.rows edges.old).standing kept.old offers NoRoot NoEdge }
-    requires room { (o : ℕ) → (reached_at kept.old o).stamp ≤ 2 ^ 47 }
+    requires room { (o : ℕ) → (reached_at kept.old o).stamp ≤ 2 ^ 47 + 2 ^ 32 }
     ensures same { E.rows edges.new ≡ E.rows edges.old }
     ensures count { length kept.new ≡ length kept.old }
     ensures settled { OnOk result (Settled (E.rows edges.old).standing kept.new) }

@@ -4,7 +4,7 @@ use Rattle.hd_terms.specs.declared.Strength.{Strength}
 use Rattle.hd_terms.specs.Ranks.{rank}
 use Rattle.hd_terms.specs.Regions.{StrengthChange}
 use Rattle.hd_terms.specs.Settled.{reached_at}
-use Rattle.hd_repair.specs.Marking.{AreChangesAmong}
+use Rattle.hd_repair.specs.Changing.{AreChangesAmong}
 use Rattle.hd_terms.proofs.RankLemmas.{same_rank}
 use Rattle.hd_repair.proofs.LossLemmas.{none_compared, differs, agrees}
 use Rattle.hd_repair.proofs.losing.changes_of.Goals as goal
@@ -22,12 +22,21 @@ loop-i-preserved c before same once =
     let h : AreChangesAmong before c.args.kept.now (take i xs) c.loop-i.changes.items = c.loop-i.invariant before same once in
     let o : d ≡ get_or xs i d = c.index-o.ensures in
     let was : (reached_at before (get_or xs i d)).strength ≡ c.index-before.result.now =
-    sym (c.index-before.ensures ∙ ap (λ (ys : List Strength). get_or ys i c.index-before.result.now) same ∙ get_or-map (λ (x : ℕ). (reached_at before x).strength) xs i d c.index-before.result.now lt) in
-    let now : (reached_at c.args.kept.now (get_or xs i d)).strength ≡ c.strength-after.result = sym (c.strength-after.ensures ∙ ap (λ (x : ℕ). (reached_at c.args.kept.now x).strength) o) in
+    sym (c.index-before.ensures ∙ ap (λ (ys : List Strength). get_or ys i c.index-before.result.now) same ∙
+    get_or-map (λ (x : ℕ). (reached_at before x).strength) xs i d c.index-before.result.now lt) in
+    let now : (reached_at c.args.kept.now (get_or xs i d)).strength ≡ c.strength-after.result =
+    sym (c.strength-after.ensures ∙ ap (λ (x : ℕ). (reached_at c.args.kept.now x).strength) o) in
     elim c.if-rank.branch [
-      | then-rank+in_ok-push w ↦ rw (w.changes-is, w.in_ok-push.ensures.items) (differs before c.args.kept.now xs i d c.loop-i.changes.items once lt h w.new.result
-          (ap (λ (x : StrengthChange). x.object) w.new.ensures ∙ o) (was ∙ ap (λ (x : StrengthChange). x.before) (sym w.new.ensures)) (now ∙ ap (λ (x : StrengthChange). x.after) (sym w.new.ensures)) (λ e. let one : rank c.index-before.result.now ≡ rank c.strength-after.result = ap rank (ap (λ (x : StrengthChange). x.before) (sym w.new.ensures) ∙ e ∙ ap (λ (x : StrengthChange). x.after) w.new.ensures) in omega (arith, w.if-rank.true, c.rank.ensures, c.rank-in-loop-i.ensures)))
-      | else-rank w ↦ rw w.changes-is (agrees before c.args.kept.now xs i d c.loop-i.changes.items once lt h (was ∙ same_rank c.index-before.result.now c.strength-after.result (omega (arith, w.if-rank.false, c.rank.ensures, c.rank-in-loop-i.ensures)) ∙ sym now))
+      | then-rank+in_ok-push w ↦ rw (w.changes-is, w.in_ok-push.ensures.items)
+          (differs before c.args.kept.now xs i d c.loop-i.changes.items once lt h w.new.result
+          (ap (λ (x : StrengthChange). x.object) w.new.ensures ∙ o) (was ∙ ap (λ (x : StrengthChange). x.before) (sym w.new.ensures))
+          (now ∙ ap (λ (x : StrengthChange). x.after) (sym w.new.ensures))
+          (λ e. let one : rank c.index-before.result.now ≡ rank c.strength-after.result =
+          ap rank (ap (λ (x : StrengthChange). x.before) (sym w.new.ensures) ∙ e ∙ ap (λ (x : StrengthChange). x.after) w.new.ensures)
+          in omega (arith, w.if-rank.true, c.rank.ensures, c.rank-in-loop-i.ensures)))
+      | else-rank w ↦ rw w.changes-is (agrees before c.args.kept.now xs i d c.loop-i.changes.items once lt h
+          (was ∙ same_rank c.index-before.result.now c.strength-after.result (omega (arith, w.if-rank.false, c.rank.ensures, c.rank-in-loop-i.ensures)) ∙
+          sym now))
     ]
 
 pub returns : goal.returns
