@@ -1,9 +1,9 @@
 #!/usr/bin/env python3
 """Starts copies of the repository for the first time, and looks at what `./hdesk` does with the release.
 
-A copy has `hdesk`, `tools/`, `release/` and the sources, and is given a PATH with neither `rt` nor Python. It has to answer at
-once. A damaged release has to be refused in one line, a changed source has to be named, two first starts at once have to answer,
-and so has a copy that can't be written.
+A copy has `hdesk`, `tools/`, `release/` and the sources, and is given a PATH with neither `rt` nor Python. It has to answer
+at once. A damaged release has to be refused in one line, a changed source has to be named, several first starts at once have to
+answer, and so has a copy that can't be written.
 """
 from __future__ import annotations
 
@@ -25,8 +25,9 @@ from session import TOP, Ended, Program
 
 # All that `hdesk` calls.
 TOOLS = (
-    "awk bash cat chmod cmp cp cut diff dirname env find gzip mkdir mktemp mv readlink rm sed sha256sum sort stat tac touch wc xargs".split()
-)
+    "awk bash cat chmod cmp cp cut diff dirname env find gzip mkdir mktemp mv readlink rm sed sha256sum sort stat tac touch wc "
+    "xargs"
+).split()
 LONGEST = 2.0  # seconds from the first start of a copy to its first reply
 NOBODY = 65534
 ANSWERED = Ended(0, "ok 1\nSTRONG\n", "")
@@ -133,7 +134,8 @@ def check_sources(copy: Copy, report: Report) -> None:
     source, added = "crates/hd_terms/src/lib.rt", copy.top / "crates/hd_terms/src/added.rt"
     with copy.changed(source, flipped(copy.bytes_of(source), 10)):
         ended = copy.start()
-        report.note(ended.status == 1 and not ended.output and f"{source} differs" in ended.faults, f"a changed source: {ended.faults.strip()}")
+        is_named = ended.status == 1 and not ended.output and f"{source} differs" in ended.faults
+        report.note(is_named, f"a changed source: {ended.faults.strip()}")
     added.write_text("// Nothing.\n")
     ended = copy.start()
     report.note(ended.status == 1 and "added.rt differs" in ended.faults, f"a new source: {ended.faults.strip()}")
