@@ -12,7 +12,8 @@ use Rattle.hd_terms.specs.Log.{own_live}
 abbrev pub last_of : List Event → ℕ → ℕ → Option ℕ
 last_of log who n = last_or None (filter_map (own_live log who) (enumerate_from 0 (take n log)))
 
-enumerate-push : {X : Type 0} (n : ℕ) (xs : List X) (x : X) → enumerate_from n (xs ++ x ∷ []) ≡ enumerate_from n xs ++ (n + length xs, x) ∷ []
+-- numbered elements with one more
+pub enumerate-push : {X : Type 0} (n : ℕ) (xs : List X) (x : X) → enumerate_from n (xs ++ x ∷ []) ≡ enumerate_from n xs ++ (n + length xs, x) ∷ []
 enumerate-push n [] x = let same : n ≡ n + 0 = omega arith in ap (λ (m : ℕ). (m, x) ∷ []) same
 enumerate-push n (y ∷ xs) x =
     let same : (n + 1) + length xs ≡ n + suc (length xs) = omega arith in

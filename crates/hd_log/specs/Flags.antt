@@ -1,6 +1,6 @@
 -- Flags of events: which are edits, and which are edits that some events don't take back.
 -- Source: this project.
-use Rattle.std.specs.Prelude.{ℕ, Bool, true, false, ◌&&◌, List, map}
+use Rattle.std.specs.Prelude.{◌≡◌, ℕ, ◌<◌, Bool, true, false, ◌&&◌, List, map, slice_set}
 use Rattle.std.specs.List.{enumerate_from}
 use Rattle.hd_terms.specs.declared.Event.{Event}
 use Rattle.hd_terms.specs.declared.What.{What}
@@ -12,10 +12,6 @@ abbrev pub is_edit : What → Bool
 is_edit (whats.Do edit) = true
 is_edit (whats.Undo k) = false
 
--- of each event, whether it is an edit
-abbrev pub are_edits : List Event → List Bool
-are_edits log = map (λ (e : Event). is_edit e.what) log
-
 -- event k is an edit, and none of the events seen takes it back
 abbrev pub is_live_of : List Event → ℕ × Event → Bool
 is_live_of seen (k, event) = stays seen k && is_edit event.what
@@ -23,3 +19,12 @@ is_live_of seen (k, event) = stays seen k && is_edit event.what
 -- of each event of a log, whether it is an edit that none of the events seen takes back
 abbrev pub flags_of : List Event → List Event → List Bool
 flags_of seen log = map (is_live_of seen) (enumerate_from 0 log)
+
+-- an undo takes back one of so many events
+abbrev pub UndoesWithin : Event → ℕ → Type 0
+UndoesWithin event n = (k : ℕ) → event.what ≡ whats.Undo k → k < n
+
+-- flags where that of the event is cleared that is taken back
+abbrev pub cleared : What → List Bool → List Bool
+cleared (whats.Do edit) flags = flags
+cleared (whats.Undo k) flags = slice_set flags k false

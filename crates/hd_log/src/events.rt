@@ -1,15 +1,13 @@
 //! What can be read from a list of events: the live ones, and why it doesn't take one more.
-ghost use Rattle.std.specs.Prelude.{◌≡◌, ℕ, ◌^◌, ◌<◌, ◌↔◌, [], ◌∷◌, length, slice_get, Some, IfOk, IsTrue, MatchOption};
-ghost use Rattle.std.specs.List.{list_any};
+ghost use Rattle.std.specs.Prelude.{◌≡◌, ◌^◌, ◌<◌, ◌↔◌, [], ◌∷◌, ◌++◌, length, slice_get, None, Some, IfOk, IsTrue, MatchOption};
 ghost use Rattle.hd_terms.specs.declared.Event.{Event};
-ghost use Rattle.hd_terms.specs.declared.What.TheVariants as whats;
-ghost use Rattle.hd_terms.specs.Log.{IsEvent, begins_with, full_fault, last_live, live_flags, log_fault, own, own_live, undo_fault, undoes_what};
+ghost use Rattle.hd_terms.specs.Log.{IsLawful, begins_with, edit_of, full_fault, last_live, live_flags, log_fault, own, own_live, undo_fault};
 ghost use Rattle.hd_terms.specs.EditedDump.{adds_root, is_root, live_edit_at};
 ghost use Rattle.hd_terms.specs.Appending.{append_refusal, root_refusal};
-ghost use Rattle.hd_log.specs.Flags.{are_edits, is_edit};
+ghost use Rattle.hd_log.specs.Flags.{cleared, is_edit, UndoesWithin};
 
-use hd_terms::{Edit, Event, LogFault, NoMemory, Refusal, What};
-use std::alloc::Global;
+use hd_terms::{Edit, Event, LogFault, Refusal, What};
+use std::alloc::{AllocError, Global};
 
 /// The most events of a log.
 const LARGEST_LOG: usize = 4096;
@@ -24,37 +22,22 @@ fn is_edit(what: What) -> bool
     }
 }
 
-/// Whether the event takes back event k.
-fn undoes_what(k: u32, what: What) -> bool
-    ensures { result ≡ undoes_what k what }
-{
-    match what {
-        What::Do(_) => false,
-        What::Undo(j) => j == k,
-    }
-}
-
-/// Whether an event takes back event k.
-fn is_taken_back(events: &[Event], k: u32) -> bool
-    ensures { result ≡ list_any (λ (e : Event). undoes_what k e.what) events.now }
-{
-    events.iter().any(|event| undoes_what(k, event.what))
-}
-
-/// Why an analyst may not take back event k, if there is a reason.
-fn undo_fault(events: &[Event], k: u32, who: u8) -> Option<LogFault>
+/// Why an analyst may not take back event k, if there is a reason. The flags say which events are live.
+fn undo_fault(events: &[Event], live: &[bool], k: u32, who: u8) -> Option<LogFault>
+    requires { live.now ≡ live_flags events.now }
     ensures { result ≡ undo_fault events.now k who (slice_get events.now k) }
 {
-    let Some(event) = events.get(k as usize) else {
+    if k as usize >= events.len() {
         return Some(LogFault::NoSuchEvent);
-    };
+    }
+    let event = events[k as usize];
     if !is_edit(event.what) {
         return Some(LogFault::NoSuchEvent);
     }
     if event.who != who {
         return Some(LogFault::NotYours);
     }
-    if is_taken_back(events, k) {
+    if !live[k as usize] {
         return Some(LogFault::NotLive);
     }
     None
@@ -71,12 +54,13 @@ fn full_fault(events: &[Event]) -> Option<LogFault>
     }
 }
 
-/// Why a log doesn't take an event, the first reason, if there is one.
-pub fn log_fault(events: &[Event], event: Event) -> Option<LogFault>
+/// Why a log doesn't take an event, the first reason, if there is one. The flags say which events are live.
+pub fn log_fault(events: &[Event], live: &[bool], event: Event) -> Option<LogFault>
+    requires { live.now ≡ live_flags events.now }
     ensures { result ≡ log_fault events.now event }
 {
     if let What::Undo(k) = event.what {
-        let fault = undo_fault(events, k, event.who);
+        let fault = undo_fault(events, live, k, event.who);
         if fault.is_some() {
             return fault;
         }
@@ -84,100 +68,120 @@ pub fn log_fault(events: &[Event], event: Event) -> Option<LogFault>
     full_fault(events)
 }
 
-/// Whether event k is live and adds a root.
-fn adds_root(events: &[Event], k: u32) -> bool
-    requires { k < length events.now }
+/// Whether the event is an edit that adds a root.
+fn is_add(what: What) -> bool
+    ensures { result ≡ adds_root (edit_of what) }
+{
+    matches!(what, What::Do(Edit::Add(_)))
+}
+
+/// Whether event k is live and adds a root. The flags say which events are live.
+fn adds_root(events: &[Event], live: &[bool], k: u32) -> bool
+    requires event { k < length events.now }
+    requires flags { live.now ≡ live_flags events.now }
     ensures { result ≡ adds_root (live_edit_at events.now k) }
 {
     let event = events[k as usize];
-    matches!(event.what, What::Do(Edit::Add(_))) && !is_taken_back(events, k)
+    live[k as usize] && is_add(event.what)
 }
 
-/// Whether a root has this number: one of the dump's, of which there are so many, or that of a live event that adds one.
-pub fn is_root(events: &[Event], roots: u64, r: u64) -> bool
-    requires { length events.now < 2 ^ 32 }
+/// Whether a root has this number: one of the dump's, of which there are so many, or that of a live event that adds one. The
+/// flags say which events are live.
+pub fn is_root(events: &[Event], live: &[bool], roots: u64, r: u64) -> bool
+    requires few { length events.now < 2 ^ 32 }
+    requires flags { live.now ≡ live_flags events.now }
     ensures { result ≡ is_root roots events.now r }
 {
     if r < roots {
         return true;
     }
     let k = r - roots;
-    k < events.len() as u64 && adds_root(events, k as u32)
+    k < events.len() as u64 && adds_root(events, live, k as u32)
 }
 
-/// Why an edit can't be done to the roots, if there is a reason.
-fn root_refusal(events: &[Event], roots: u64, edit: Edit) -> Option<Refusal>
-    requires { length events.now < 2 ^ 32 }
+/// Why an edit can't be done to the roots, if there is a reason. The flags say which events are live.
+fn root_refusal(events: &[Event], live: &[bool], roots: u64, edit: Edit) -> Option<Refusal>
+    requires few { length events.now < 2 ^ 32 }
+    requires flags { live.now ≡ live_flags events.now }
     ensures { result ≡ root_refusal roots events.now edit }
 {
     match edit {
-        Edit::Drop(r) if !is_root(events, roots, r) => Some(Refusal::NoSuchRoot),
+        Edit::Drop(r) if !is_root(events, live, roots, r) => Some(Refusal::NoSuchRoot),
         Edit::Cut(_, _) | Edit::Clear(_) | Edit::Drop(_) | Edit::Add(_) | Edit::ClearAll(_) => None,
     }
 }
 
-/// Why a log doesn't take an event over a dump of so many roots, the first reason, if there is one.
-pub fn append_refusal(events: &[Event], roots: u64, event: Event) -> Option<Refusal>
-    requires { length events.now < 2 ^ 32 }
+/// Why a log doesn't take an event over a dump of so many roots, the first reason, if there is one. The flags say which events
+/// are live.
+pub fn append_refusal(events: &[Event], live: &[bool], roots: u64, event: Event) -> Option<Refusal>
+    requires few { length events.now < 2 ^ 32 }
+    requires flags { live.now ≡ live_flags events.now }
     ensures { result ≡ append_refusal roots events.now event }
 {
     if let What::Do(edit) = event.what {
-        let refusal = root_refusal(events, roots, edit);
+        let refusal = root_refusal(events, live, roots, edit);
         if refusal.is_some() {
             return refusal;
         }
     }
-    match log_fault(events, event) {
+    match log_fault(events, live, event) {
         Some(fault) => Some(Refusal::Log(fault)),
         None => None,
     }
 }
 
-/// Of each event, whether it is an edit.
-pub fn edit_flags(alloc: Global, events: &[Event]) -> Result<Vec<bool>, NoMemory>
-    ensures { IfOk result (λ v. v.items ≡ are_edits events.now) }
+/// Clears the flag of the event that an event takes back, if it takes one back.
+fn clear_undone(flags: &mut Vec<bool>, event: Event)
+    requires { UndoesWithin event (length flags.old.items) }
+    ensures { flags.new.items ≡ cleared event.what flags.old.items }
 {
-    let mut flags = Vec::with_capacity(alloc, events.len())?;
-    for event in events {
-        flags.push(is_edit(event.what))?;
+    if let What::Undo(k) = event.what {
+        flags[k as usize] = false;
     }
+}
+
+/// Of each event of a log with one more, whether it is live, by the flags of the events before.
+pub fn flags_with(
+    alloc: Global,
+    events: &[Event],
+    live: &[bool],
+    event: Event,
+) -> Result<Vec<bool>, AllocError>
+    requires lawful { IsLawful events.now }
+    requires flags { live.now ≡ live_flags events.now }
+    requires takes { log_fault events.now event ≡ None }
+    ensures { IfOk result (λ v. v.items ≡ live_flags (events.now ++ event ∷ [])) }
+{
+    let mut flags = Vec::with_capacity(alloc, events.len() + 1)?;
+    flags.extend_from_slice(live)?;
+    clear_undone(&mut flags, event);
+    flags.push(is_edit(event.what))?;
     Ok(flags)
 }
 
-/// Clears the flags of the events that are taken back.
-pub fn clear_undone(events: &[Event], flags: &mut [bool])
-    requires edits { flags.old ≡ are_edits events.now }
-    requires within { (i k who : ℕ) → IsEvent events.now i (record { who = who; what = whats.Undo k }) → k < length events.now }
-    ensures { flags.new ≡ live_flags events.now }
-{
-    for event in events {
-        if let What::Undo(k) = event.what {
-            flags[k as usize] = false;
-        }
-    }
-}
-
-/// The number of event k, where it is a live one of an analyst.
-fn own_live(events: &[Event], k: u32, who: u8) -> Option<u32>
-    requires { k < length events.now }
+/// The number of event k, where it is a live one of an analyst. The flags say which events are live.
+fn own_live(events: &[Event], live: &[bool], k: u32, who: u8) -> Option<u32>
+    requires event { k < length events.now }
+    requires flags { live.now ≡ live_flags events.now }
     ensures { (e : Event) → slice_get events.now k ≡ Some e → result ≡ own_live events.now who (k, e) }
 {
     let event = events[k as usize];
-    if event.who == who && is_edit(event.what) && !is_taken_back(events, k) {
+    if live[k as usize] && event.who == who {
         Some(k)
     } else {
         None
     }
 }
 
-/// The number of an analyst's last live event, if there is one.
-pub fn last_live(events: &[Event], who: u8) -> Option<u32>
-    requires { length events.now < 2 ^ 32 }
+/// The number of an analyst's last live event, if there is one. The flags say which events are live.
+pub fn last_live(events: &[Event], live: &[bool], who: u8) -> Option<u32>
+    requires few { length events.now < 2 ^ 32 }
+    requires flags { live.now ≡ live_flags events.now }
     ensures { result ≡ last_live events.now who }
 {
     let mut last = None;
     for k in 0..events.len() as u32 {
-        if let Some(own) = own_live(events, k, who) {
+        if let Some(own) = own_live(events, live, k, who) {
             last = Some(own);
         }
     }

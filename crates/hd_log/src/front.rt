@@ -12,23 +12,25 @@ use std::marker::Model;
 use std::sync::Arc;
 
 /// A log of events as it stands at one time. It is lawful: it has 4,096 events at most, and each undo takes back an
-/// earlier, live edit of the same analyst. Fronts that are shared from one have the same events, kept once.
+/// earlier, live edit of the same analyst. Beside the events it has of each whether it is live. Fronts that are shared from
+/// one have the same events, kept once.
 #[derive(Drop)]
 pub struct Front {
     events: Arc<Vec<Event>>,
+    live: Arc<Vec<bool>>,
 }
 
 impl Model for Front {
     ghost use Rattle.std.specs.Prelude.{List};
     ghost use Rattle.std.specs.Arc.{arc_value};
     ghost use Rattle.hd_terms.specs.declared.Event.{Event};
-    ghost use Rattle.hd_terms.specs.Log.{IsLawful};
+    ghost use Rattle.hd_log.specs.FrontInside.{IsFront};
 
     ghost Value = { List Event };
 
     ghost view = { λ f. (arc_value f.events).items };
 
-    ghost invariant = { λ f. IsLawful (arc_value f.events).items };
+    ghost invariant = { λ f. IsFront (arc_value f.events).items (arc_value f.live).items };
 }
 
 impl Front {
@@ -37,7 +39,8 @@ impl Front {
         ensures { IfOk result (λ f. f ≡ []) }
     {
         let events = Arc::new(alloc, Vec::new(alloc))?;
-        Ok(Front { events })
+        let live = Arc::new(alloc, Vec::new(alloc))?;
+        Ok(Front { events, live })
     }
 
     /// An equal front: a further owner of the same events.
@@ -45,7 +48,8 @@ impl Front {
         ensures { IfOk result (λ f. f ≡ self.now) }
     {
         let events = Arc::try_clone(&self.events)?;
-        Ok(Front { events })
+        let live = Arc::try_clone(&self.live)?;
+        Ok(Front { events, live })
     }
 
     /// How many events there are, from 0 to 4,096.
@@ -70,7 +74,7 @@ impl Front {
         ensures fault { result ≡ log_fault self.now event.now }
         ensures lawful { IsNone result ↔ IsLawful (self.now ++ event.now ∷ []) }
     {
-        events::log_fault(&self.events, *event)
+        events::log_fault(&self.events, &self.live, *event)
     }
 
     /// Whether a root has this number over a dump of so many roots: one of the dump's, or that of a live event that adds one.
@@ -78,7 +82,7 @@ impl Front {
     pub fn is_root(&self, roots: u64, r: u64) -> bool
         ensures { result ≡ is_root roots self.now r }
     {
-        events::is_root(&self.events, roots, r)
+        events::is_root(&self.events, &self.live, roots, r)
     }
 
     /// Why an event can't be appended over a dump of so many roots, the first reason, or `None` where it can: what an undo
@@ -88,7 +92,7 @@ impl Front {
         ensures lawful { IsNone result → log_fault self.now event.now ≡ None }
     {
         lawful_logs();
-        events::append_refusal(&self.events, roots, *event)
+        events::append_refusal(&self.events, &self.live, roots, *event)
     }
 
     /// The log with one more event, or why there is none: the log's own reason, or else that memory ran out.
@@ -99,19 +103,28 @@ impl Front {
         if let Some(fault) = self.next_fault(&event) {
             return Err(fault);
         }
+        let live = events::flags_with(alloc, &self.events, &self.live, event)?;
         let mut events = Vec::with_capacity(alloc, self.events.len() + 1)?;
         events.extend_from_slice(&self.events)?;
         events.push(event)?;
         let events = Arc::new(alloc, events)?;
-        Ok(Front { events })
+        let live = Arc::new(alloc, live)?;
+        Ok(Front { events, live })
+    }
+
+    /// Of each event, whether it is live: an edit that no event takes back. It takes no memory.
+    pub fn flags(&self) -> &[bool]
+        ensures { result.now ≡ live_flags self.now }
+    {
+        &self.live
     }
 
     /// Of each event, whether it is live: an edit that no event takes back.
     pub fn live(&self, alloc: Global) -> Result<Vec<bool>, NoMemory>
         ensures { IfOk result (λ v. v.items ≡ live_flags self.now) }
     {
-        let mut flags = events::edit_flags(alloc, &self.events)?;
-        events::clear_undone(&self.events, &mut flags);
+        let mut flags = Vec::with_capacity(alloc, self.live.len())?;
+        flags.extend_from_slice(&self.live)?;
         Ok(flags)
     }
 
@@ -119,7 +132,7 @@ impl Front {
     pub fn last_live(&self, who: u8) -> Option<u32>
         ensures { result ≡ last_live self.now who }
     {
-        events::last_live(&self.events, who)
+        events::last_live(&self.events, &self.live, who)
     }
 
     /// Whether the log begins with the events of a front. It takes no memory.

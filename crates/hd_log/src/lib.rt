@@ -5,8 +5,10 @@
 //! events are live. They also ask whether one log begins with another, and whether two have the same events of one
 //! analyst. No method changes a `Front`: `extend` makes a longer one and leaves the old one as it is.
 //!
-//! `front.rt` has the type, a shared `Vec` of events: `share` adds an owner, and `extend` copies the list, which is
-//! short. `events.rt` has the functions over slices of events that it is made of.
+//! `front.rt` has the type, a shared `Vec` of events and beside it a shared flag for each, whether it is live: `share`
+//! adds an owner, and `extend` copies both, which are short, and changes at most one flag. So whether an event is live,
+//! whether a root has a number and why a log takes no event are each one look at the flags. `events.rt` has the
+//! functions over slices of events and flags that it is made of.
 #![tactic(auto)]
 
 mod events;

@@ -1,2 +1,2 @@
-pub mod OneWayLemmas
+pub mod MovedLemmas
 pub mod RepairLemmas

@@ -1,51 +1,45 @@
--- What is lost between two logs, and nothing gained, makes of settled supports what a repair takes.
-use Rattle.std.proofs.Common.{◌≡◌, ℕ, ◌+◌, ◌*◌, ◌^◌, ◌<◌, ◌≤◌, inl, inr, List, [], ◌∷◌, Contains, length, refl, subst, arith}
+-- What one event takes away, or gives, makes of settled supports what a repair takes.
+use Rattle.std.proofs.Common.{◌≡◌, ℕ, ◌+◌, ◌*◌, ◌^◌, ◌<◌, ◌≤◌, Bool, true, false, List, refl, arith}
 use Rattle.std.proofs.Math.Nat.{mul-le-mul_right}
+use Rattle.hd_terms.specs.declared.Edit.{Edit}
 use Rattle.hd_terms.specs.declared.Event.{Event}
 use Rattle.hd_terms.specs.Dump.{Dump}
 use Rattle.hd_terms.specs.EditedDump.{standing}
-use Rattle.hd_terms.specs.Regions.{Holding, IsWithout, WasSettledWith, WasSettledWithout, edge_holding, root_holding}
+use Rattle.hd_terms.specs.Regions.{Holding, IsWithout, WasSettledWith, WasSettledWithout}
 use Rattle.hd_terms.specs.Settled.{Reached, Settled}
 use Rattle.hd_terms.specs.Lost.{AreLost}
-use Rattle.hd_state.specs.Next.{IsNextLog}
-use Rattle.hd_state.proofs.OneWayLemmas.{never_both}
+use Rattle.hd_view.specs.OneEdit.{LosesBy}
+use Rattle.hd_view.proofs.OneEditLemmas.{StandsWithin, loses_alone}
+use Rattle.hd_state.specs.Moves.{Moves}
 
--- what is in no list
-nothing_there : (items : List Holding) (h : Holding) → items ≡ [] → Contains items h → ⊥
-nothing_there items h none c = let there : Contains [] h = subst (λ (xs : List Holding). Contains xs h) none c in let lt : there.0 < 0 = there.1 in omega arith
-
--- a list of no items
-pub empty_list : {X : Type 0} (xs : List X) → length xs ≡ 0 → xs ≡ []
-empty_list [] none = refl
-empty_list (x ∷ xs) none = absurd (omega arith)
-
--- where nothing else is lost the other way, one edited dump is the other without what is lost
-without : (dump : Dump) (more less : List Event) (lost none : List Holding) → AreLost dump more less lost → AreLost dump less more none → none ≡ [] → IsWithout (standing dump less) (standing dump more) lost
-without dump more less lost none h k empty = record {
-  mode = refl;
-  roots_within = λ r c. elim (k.roots r c) [ inl stands ↦ stands | inr there ↦ absurd (nothing_there none (root_holding r) empty there) ];
-  edges_within = λ e c. elim (k.edges e c) [ inl stands ↦ stands | inr there ↦ absurd (nothing_there none (edge_holding e) empty there) ];
-  roots = h.roots;
-  edges = h.edges;
-}
+-- one edited dump is the other without what is lost
+without : (dump : Dump) (more less : List Event) (k : ℕ) (edit : Edit) (lost : List Holding) → LosesBy more less k edit → AreLost dump more less lost → IsWithout (standing dump less) (standing dump more) lost
+without dump more less k edit lost by h =
+    let within : StandsWithin dump less more = loses_alone dump more less k edit by in
+    record {
+      mode = refl;
+      roots_within = within.roots;
+      edges_within = within.edges;
+      roots = h.roots;
+      edges = h.edges;
+    }
 
 -- supports that were settled before a loss
-pub before_loss : (dump : Dump) (before after : List Event) (lost gained : List Holding) (ks : List Reached) → AreLost dump before after lost → AreLost dump after before gained → gained ≡ [] → Settled (standing dump before) ks → WasSettledWith (standing dump after) lost ks
-before_loss dump before after lost gained ks h k empty settled = record { before = standing dump before; without = without dump before after lost gained h k empty; settled = settled }
+pub before_loss : (dump : Dump) (before after : List Event) (k : ℕ) (edit : Edit) (lost : List Holding) (ks : List Reached) → LosesBy before after k edit → AreLost dump before after lost → Settled (standing dump before) ks → WasSettledWith (standing dump after) lost ks
+before_loss dump before after k edit lost ks by h settled = record { before = standing dump before; without = without dump before after k edit lost by h; settled = settled }
 
 -- and before a gain
-pub before_gain : (dump : Dump) (before after : List Event) (lost gained : List Holding) (ks : List Reached) → AreLost dump before after lost → AreLost dump after before gained → lost ≡ [] → Settled (standing dump before) ks → WasSettledWithout (standing dump after) gained ks
-before_gain dump before after lost gained ks h k empty settled = record { before = standing dump before; without = without dump after before gained lost k h empty; settled = settled }
+pub before_gain : (dump : Dump) (before after : List Event) (k : ℕ) (edit : Edit) (gained : List Holding) (ks : List Reached) → LosesBy after before k edit → AreLost dump after before gained → Settled (standing dump before) ks → WasSettledWithout (standing dump after) gained ks
+before_gain dump before after k edit gained ks by h settled = record { before = standing dump before; without = without dump after before k edit gained by h; settled = settled }
 
--- after one event, where something is gained nothing is lost
-pub none_lost : (dump : Dump) (before after : List Event) (lost gained : List Holding) → IsNextLog before after → AreLost dump before after lost → AreLost dump after before gained → (length gained ≡ 0 → ⊥) → lost ≡ []
-none_lost dump before after lost gained next h k some =
-    let lost_are = subst (λ (log : List Event). AreLost dump before log lost) next.is h in
-    let gained_are = subst (λ (log : List Event). AreLost dump log before gained) next.is k in
-    elim (never_both dump before next.event lost gained next.takes lost_are gained_are) [
-      | inl none ↦ empty_list lost none
-      | inr none ↦ absurd (some none)
-    ]
+-- what an event moves, by whether it loses
+pub moves_loss : (before after : List Event) (loses : Bool) (k : ℕ) (edit : Edit) → Moves before after loses k edit → loses ≡ true → LosesBy before after k edit
+moves_loss before after true k edit moves is = moves
+moves_loss before after false k edit moves is = absurd cc
+
+pub moves_gain : (before after : List Event) (loses : Bool) (k : ℕ) (edit : Edit) → Moves before after loses k edit → loses ≡ false → LosesBy after before k edit
+moves_gain before after true k edit moves is = absurd cc
+moves_gain before after false k edit moves is = moves
 
 -- each event raises stamps by no more than the number of objects, so all of a lawful log stay small
 pub stamps_small : (events objects : ℕ) → events ≤ 4096 → objects < 2 ^ 32 → (events + 1) * objects ≤ 2 ^ 47

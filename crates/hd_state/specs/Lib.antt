@@ -5,3 +5,4 @@ pub mod MarkInside
 pub mod Done
 pub mod Opening
 pub mod Next
+pub mod Moves

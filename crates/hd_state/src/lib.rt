@@ -16,9 +16,9 @@
 //!    changes from these. The reverse rows (`hd_reverse`) are made by another thread beside that, since neither needs
 //!    the other (`parts.rt`).
 //! 2. `step` extends the log, and computes what it takes away and the roots that it adds (`LogParts`).
-//! 3. `repaired` (`repairing.rt`) shares the supports and finds what the event took away and what it gave
-//!    (`lost_between` of `hd_view`, both ways). An event does one or the other, never both, so the first goes to `lose`
-//!    of `hd_repair` and the second to `gain`.
+//! 3. `repaired` (`repairing.rt`) shares the supports and finds what the event took away or what it gave, from the one
+//!    edit that it does or takes back (`lost_by_edit` of `hd_view`). An event takes away or gives, never both: what is
+//!    taken away goes to `lose` of `hd_repair`, and what is given to `gain`.
 //! 4. The changes that the repair returns move the totals, mark their pages as changed, and tell how many objects
 //!    became unreachable and how many came back (`Done`).
 //!

@@ -1,5 +1,5 @@
 //! The repair of supports from one log of a graph to the next.
-ghost use Rattle.std.specs.Prelude.{◌≡◌, ◌+◌, ◌*◌, ◌^◌, ◌≤◌, ℕ, List, length, Contains, sum_by, IfOk};
+ghost use Rattle.std.specs.Prelude.{◌≡◌, ◌+◌, ◌*◌, ◌^◌, ◌≤◌, ℕ, List, length, Contains, sum_by, IfOk, Some};
 ghost use Rattle.hd_terms.specs.EdgeRows.{degree, rows_of};
 ghost use Rattle.hd_terms.specs.Lost.{InEventRegion};
 ghost use Rattle.hd_terms.specs.Regions.{AreChanges};
@@ -8,14 +8,17 @@ ghost use Rattle.hd_strength.specs.Removed.{IsRemovedBy};
 ghost use Rattle.hd_reverse.specs.Reverse.{IsReverseOf};
 ghost use Rattle.hd_view.specs.Added.{IsAddedBy};
 ghost use Rattle.hd_terms.specs.Kept.{AreKept};
+ghost use Rattle.hd_terms.specs.EditedDump.{adds_root};
 ghost use Rattle.hd_state.specs.Next.{IsNextLog};
+ghost use Rattle.hd_state.specs.Moves.{IsEdit, IsMovedBack, Moves};
 
 use hd_edges::Edges;
+use hd_log::Front;
 use hd_repair::{Change, gain, lose};
 use hd_reverse::ReverseRows;
 use hd_supports::Supports;
-use hd_terms::NoMemory;
-use hd_view::{AddedRoots, Edited, View, lost_between};
+use hd_terms::{Edit, NoMemory, What};
+use hd_view::{AddedRoots, Edited, View, lost_by_edit};
 use std::alloc::Global;
 
 /// What a repair answers: the repaired supports, the objects whose strength has changed, and how many edges and roots it
@@ -25,6 +28,53 @@ pub struct Repair {
     pub supports: Supports,
     pub changes: Vec<Change>,
     pub looks: u64,
+}
+
+/// The one live edit by which two logs differ that follow one another: the event that does it, the edit, and whether by it
+/// something stands no more that stood; else something stands that didn't.
+#[derive(Clone, Copy)]
+pub(crate) struct Moved {
+    event: u32,
+    edit: Edit,
+    loses: bool,
+}
+
+/// Whether an edit adds a root.
+fn adds_root(edit: Edit) -> bool
+    ensures { result ≡ adds_root (Some edit) }
+{
+    matches!(edit, Edit::Add(_))
+}
+
+/// What an undo of event k changes, which is an edit.
+fn moved_back(front: &Front, k: u32) -> Moved
+    requires { IsEdit front.now k }
+    ensures { IsMovedBack front.now k result }
+{
+    match front.event(k).what {
+        What::Do(edit) => Moved {
+            event: k,
+            edit,
+            loses: adds_root(edit),
+        },
+        What::Undo(_) => unreachable!(),
+    }
+}
+
+/// What the last event of a log changes, by the log before it.
+fn moved_by(before: &Front, after: &Front) -> Moved
+    requires { IsNextLog before.now after.now }
+    ensures { Moves before.now after.now result.loses result.event result.edit }
+{
+    let last = before.len();
+    match after.event(last).what {
+        What::Do(edit) => Moved {
+            event: last,
+            edit,
+            loses: !adds_root(edit),
+        },
+        What::Undo(k) => moved_back(before, k),
+    }
 }
 
 /// The supports of a graph under one log, repaired for the log with one more event. An event takes away or gives, and never
@@ -57,11 +107,12 @@ pub fn repaired(
         → r.looks ≤ 2 * sum_by (degree (rows_of after.entry.graph.now after.entry.front.now)) region) }
     ensures stamps { IfOk result (λ r. (m : ℕ) → ((o : ℕ) → (reached_at supports.now o).stamp ≤ m) → (o : ℕ) → (reached_at r.supports o).stamp ≤ m + length after.entry.graph.now.objects) }
 {
-    let lost = lost_between(alloc, reverse.kinds(), before, after)?;
-    let gained = lost_between(alloc, reverse.kinds(), after, before)?;
+    let moved = moved_by(before.front, after.front);
     let mut supports = supports.share(alloc)?;
     let mut view = View::new(after.graph, reverse, after.front, after.removed, added);
-    if gained.is_empty() {
+    let kinds = reverse.kinds();
+    if moved.loses {
+        let lost = lost_by_edit(alloc, kinds, before, after, moved.event, moved.edit)?;
         let changes = lose(alloc, &mut view, &mut supports, &lost)?;
         let looks = view.looks();
         return Ok(Repair {
@@ -70,6 +121,7 @@ pub fn repaired(
             looks,
         });
     }
+    let gained = lost_by_edit(alloc, kinds, after, before, moved.event, moved.edit)?;
     let changes = gain(alloc, &mut view, &mut supports, &gained)?;
     let looks = view.looks();
     Ok(Repair {

@@ -66,5 +66,5 @@ mod rounds;
 mod scratch;
 
 pub use edited::{Edited, StandingRead, held_object, root_target, standing_read};
-pub use removed::{Removed, live_edit};
+pub use removed::{Removed, edited_slot, live_edit};
 pub use scratch::{from_removed, from_scratch, strengths_alone};

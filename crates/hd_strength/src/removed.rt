@@ -76,7 +76,7 @@ fn named_slot_index(graph: &Graph, o: u32, name: Option<Slot>) -> Option<(u32, u
 }
 
 /// The one slot from which an edit takes the reference, if there is one: the object, and the index of the slot.
-fn edited_slot(graph: &Graph, edit: Edit) -> Option<(u32, u32)>
+pub fn edited_slot(graph: &Graph, edit: Edit) -> Option<(u32, u32)>
     ensures { IsOnlySlot graph.now (λ x s. takes_slot x s edit) result }
 {
     match edit {

@@ -5,3 +5,4 @@ pub mod RootLemmas
 pub mod AddedLemmas
 pub mod StandingLemmas
 pub mod LostLemmas
+pub mod OneEditLemmas

@@ -1,32 +1,29 @@
-use Rattle.std.proofs.Common.{◌≡◌, ◌∙◌, ℕ, suc, ◌+◌, ◌-◌, ◌*◌, ◌<◌, ◌⊎◌, inl, inr, nat_eq, nat_lt, List, [], ◌∷◌, ◌++◌, Contains, length, get_or, not, Bool, true, false, Option, None, Some, slice_get, refl, sym, ap, subst, arith}
-use Rattle.std.specs.Prelude.{◌≢◌, ◌≤◌, ◌&&◌, ◌||◌, ◌==◌, position, All}
+use Rattle.std.proofs.Common.{◌≡◌, ◌∙◌, ℕ, ◌+◌, ◌<◌, ◌⊎◌, inl, inr, List, [], ◌∷◌, ◌++◌, Contains, length, get_or, not, Bool, true, false, Option, None, Some, slice_get, refl, sym, ap, subst, arith}
+use Rattle.std.specs.Prelude.{◌≢◌, ◌≤◌, ◌||◌, ◌==◌, position, All}
 use Rattle.std.specs.Option.{option_map, option_map_or}
-use Rattle.std.specs.List.{list_any, enumerate_from}
-use Rattle.std.proofs.lemmas.Bool.{cases_lt, eqb-true, eq-eqb, ltb-true}
+use Rattle.std.specs.List.{enumerate_from}
+use Rattle.std.proofs.lemmas.Bool.{cases_lt, eqb-true, eq-eqb}
 use Rattle.std.proofs.lemmas.List.Elements.{Contains-append_left, Contains-append_right, Contains-append_cases}
 use Rattle.std.proofs.lemmas.List.Quantifiers.{position-Some}
 use Rattle.std.proofs.lemmas.Option.{get_or_from_slice_get, slice_get-get_or, slice_get_within}
 use Rattle.hd_terms.specs.declared.Event.{Event}
 use Rattle.hd_terms.specs.declared.Slot.{Slot}
 use Rattle.hd_terms.specs.declared.RefKind.{RefKind}
-use Rattle.hd_terms.specs.declared.RefKind.TheVariants as references
 use Rattle.hd_terms.specs.declared.EdgeKind.{EdgeKind}
-use Rattle.hd_terms.specs.declared.EdgeKind.TheVariants as kinds
-use Rattle.hd_terms.specs.declared.RootKind.TheVariants as root_kinds
 use Rattle.hd_terms.specs.declared.Support.TheVariants as supports
-use Rattle.hd_terms.specs.Dump.{SlotEntry, Object, Root, Dump, no_object, object_at}
+use Rattle.hd_terms.specs.Dump.{SlotEntry, Object, Dump, no_object, object_at}
 use Rattle.hd_terms.specs.Edges.{index_of, edge_of, edges_from, edges, kind_edges}
-use Rattle.hd_terms.specs.EditedDump.{standing, is_untouched, is_dropped, same_slot, slot_code}
+use Rattle.hd_terms.specs.EditedDump.{standing, is_untouched, same_slot, slot_code}
 use Rattle.hd_terms.specs.Paths.{Edge, RootEntry}
 use Rattle.hd_terms.specs.Ranks.{rank, given_by, kind_of_references, same_kind}
 use Rattle.hd_terms.specs.Regions.{Holding, edge_holding, root_holding}
 use Rattle.hd_strength.specs.Cleared.{is_cleared}
-use Rattle.hd_strength.specs.Removed.{Removals, slot_key, has_slot, has_root, is_removed, IsRemovedBy}
-use Rattle.hd_strength.specs.Rows.{edge_at, root_at, root_count}
+use Rattle.hd_strength.specs.Removed.{Removals, has_slot, is_removed, IsRemovedBy}
+use Rattle.hd_strength.specs.Rows.{edge_at, root_at}
 use Rattle.hd_strength.proofs.Lists.{Contains-nil, Contains-head, Contains-cons_cases, Contains-slice_get, flat_map_contains, flat_map_only, filter_map_contains, filter_map_only, filter_contains, filter_only, enumerate_contains, enumerate_only}
-use Rattle.hd_strength.proofs.RowLemmas.{edge_to, entry_to, not-true, not-false, IsAt, is_at, at_some, at_cut, at_none, at_edge, at_source, edge_stands_at, edge_has_index, held_at, root_none, root_some, root_stands_at, root_has_number, is_entry, dump_held, dump_dropped}
+use Rattle.hd_strength.proofs.RowLemmas.{edge_to, entry_to, not-true, not-false, IsAt, is_at, at_some, at_cut, at_none, at_edge, at_source, edge_stands_at, edge_has_index, held_at, root_some, root_stands_at, root_has_number, is_entry}
 use Rattle.hd_terms.specs.Lost.{IsLostEdge, IsLostRoot, AreLost}
-use Rattle.hd_view.specs.Losing.{AddsLost, HasEdge, HasRoot, HasNamed, HasIndexed, HasSlots, HasKind, HasKinds, HasNumber}
+use Rattle.hd_view.specs.Losing.{AddsLost, HasEdge, HasRoot, HasNamed, HasIndexed, HasKind, HasNumber, HasAllLost}
 
 -- an edge or a root that is lost, by what it holds
 abbrev pub Lost : Dump → List Event → List Event → Holding → Type 0
@@ -154,47 +151,6 @@ pub by_name : (dump : Dump) (more less : List Event) (o i : ℕ) (s : SlotEntry)
 by_name dump more less o i s items there named e at =
     named e (edge_stands_at dump more o i e at) (at_source dump more o i e at) (ap (λ (x : Edge). x.slot) (at_edge dump more o i s there e at).1)
 
--- a number that is among others stands at an index
-abbrev FoundAt : ℕ → List ℕ → Type 0
-FoundAt x xs = (k : ℕ) × (k < length xs) × (slice_get xs k ≡ Some x)
-
-found-first : (x y : ℕ) (ys : List ℕ) (b : Bool) → nat_eq x y ≡ b → (b || list_any (nat_eq x) ys) ≡ true → (list_any (nat_eq x) ys ≡ true → FoundAt x ys) → FoundAt x (y ∷ ys)
-found-first x y ys true is any later = let same : x ≡ y = eqb-true x y is in (0, omega arith, ap (λ (n : ℕ). Some n) (sym same))
-found-first x y ys false is any later = let (k, lt, at) = later any in (suc k, omega arith, at)
-
-found-at : (x : ℕ) (xs : List ℕ) → list_any (nat_eq x) xs ≡ true → FoundAt x xs
-found-at x [] any = absurd cc
-found-at x (y ∷ ys) any = found-first x y ys (nat_eq x y) refl any (found-at x ys)
-
--- both of two tests
-both-hold : (a b : Bool) → (a && b) ≡ true → (a ≡ true) × (b ≡ true)
-both-hold true true h = (refl, refl)
-both-hold true false h = absurd cc
-both-hold false b h = absurd cc
-
--- the items have the edges of the slots of the first keys
-abbrev pub HasKeys : Dump → (more less : List Event) → List ℕ → ℕ → List Holding → Type 0
-HasKeys dump more less keys n items = (k o i : ℕ) → k < n → i < 4294967296 → slice_get keys k ≡ Some (slot_key o i) → HasIndexed dump more less o i items
-
-pub next_key : (dump : Dump) (more less : List Event) (keys : List ℕ) (n o i : ℕ) (xs ys : List Holding) → slice_get keys n ≡ Some (slot_key o i) → i < 4294967296 → AddsLost dump more less xs ys → HasIndexed dump more less o i ys → HasKeys dump more less keys n xs
-    → HasKeys dump more less keys (n + 1) ys
-next_key dump more less keys n o i xs ys at small adds here before k x j lt fits is = elim (cases_lt k n) [
-  | inl earlier ↦ λ e edge. keeps_edge dump more less xs ys adds e (before k x j earlier fits is e edge)
-  | inr le ↦
-      let last : k ≡ n = omega arith in
-      let key : o * 4294967296 + i ≡ x * 4294967296 + j = some-number (slot_key o i) (slot_key x j) (sym at ∙ sym (ap (slice_get keys) last) ∙ is) in
-      let object : o ≡ x = omega arith in
-      let index : i ≡ j = omega arith in
-      subst (λ (m : ℕ). HasIndexed dump more less x m ys) index (subst (λ (m : ℕ). HasIndexed dump more less m i ys) object here)
-]
-
-pub all_keys : (dump : Dump) (more less : List Event) (t : Removals) (n : ℕ) (items : List Holding) → length t.slots ≤ n → HasKeys dump more less t.slots n items → HasSlots dump more less t items
-unfolding has_slot
-all_keys dump more less t n items le has o i had =
-    let parts = both-hold (nat_lt i 4294967296) (list_any (nat_eq (slot_key o i)) t.slots) had in
-    let (k, lt, at) = found-at (slot_key o i) t.slots parts.1 in
-    has k o i (omega arith) (ltb-true i 4294967296 parts.0) at
-
 -- the edge of a slot starts at its object
 some-edge : (o : ℕ) (s : SlotEntry) (t : Option ℕ) (e : Edge) → option_map (λ (target : ℕ). edge_to o s target) t ≡ Some e → e.source ≡ o
 some-edge o s None e is = absurd cc
@@ -241,15 +197,10 @@ next_of_kind dump more less kind n o slot found xs ys at source name adds here b
       here e stood (sym (ap (λ (x : Edge). x.source) same) ∙ source) (sym (ap (λ (x : Edge). x.slot) same) ∙ name)
 ]
 
-pub all_of_kind : (dump : Dump) (more less : List Event) (t : Removals) (kind : RefKind) (n : ℕ) (items : List Holding) → length (kind_edges dump kind) ≤ n → HasFirst dump more less kind n items → HasKind dump more less t kind items
-all_of_kind dump more less t kind n items le has e stood is cleared =
+pub all_of_kind : (dump : Dump) (more less : List Event) (kind : RefKind) (n : ℕ) (items : List Holding) → length (kind_edges dump kind) ≤ n → HasFirst dump more less kind n items → HasKind dump more less kind items
+all_of_kind dump more less kind n items le has e stood is =
     let (k, lt, at) = filter_contains (λ (x : Edge). same_kind x.kind (kind_of_references kind)) (edges dump) e (among_edges dump more e stood) (one-kind e.kind (kind_of_references kind) is) in
     has k e (omega arith) (slice_get-get_or (kind_edges dump kind) k e lt ∙ ap (λ (x : Edge). Some x) at) stood
-
--- a kind that isn't cleared
-pub not_cleared : (dump : Dump) (more less : List Event) (t : Removals) (kind : RefKind) (r : Bool) (items : List Holding) → r ≡ is_cleared t.cleared (kind_of_references kind) → r ≡ false → HasKind dump more less t kind items
-not_cleared dump more less t kind r items is unset e stood one cleared =
-    let clash : false ≡ true = sym unset ∙ is ∙ ap (is_cleared t.cleared) (sym one) ∙ cleared in absurd cc
 
 -- neither of two tests
 second-fails : (a b : Bool) → (a || b) ≡ false → b ≡ false
@@ -265,22 +216,9 @@ uncleared dump log t e by stood =
     ap (λ (x : Edge). is_cleared t.cleared x.kind) known.is ∙ second-fails (has_slot t.slots e.source i) (is_cleared t.cleared known.entry.kind) kept
 
 -- a kind of which none stood
-pub none_stood : (dump : Dump) (more less : List Event) (t u : Removals) (kind : RefKind) (r : Bool) (items : List Holding) → IsRemovedBy dump more t → r ≡ is_cleared t.cleared (kind_of_references kind) → r ≡ true → HasKind dump more less u kind items
-none_stood dump more less t u kind r items by is set e stood one cleared =
+pub none_stood : (dump : Dump) (more less : List Event) (t : Removals) (kind : RefKind) (r : Bool) (items : List Holding) → IsRemovedBy dump more t → r ≡ is_cleared t.cleared (kind_of_references kind) → r ≡ true → HasKind dump more less kind items
+none_stood dump more less t kind r items by is set e stood one =
     let clash : true ≡ false = sym set ∙ is ∙ ap (is_cleared t.cleared) (sym one) ∙ uncleared dump more t e by stood in absurd cc
-
--- all kinds
-pub all_kinds : (dump : Dump) (more less : List Event) (t : Removals) (items : List Holding) → HasKind dump more less t references.Soft items → HasKind dump more less t references.Weak items → HasKind dump more less t references.Final items → HasKind dump more less t references.Phantom items → HasKinds dump more less t items
-all_kinds dump more less t items soft weak finals phantom e stood cleared = by-kind e.kind refl where
-  by-kind : (k : EdgeKind) → e.kind ≡ k → HasEdge dump less items e
-  by-kind kinds.Strong is = let clash : true ≡ false = sym cleared ∙ ap (is_cleared t.cleared) is in absurd cc
-  by-kind kinds.Soft is = soft e stood is cleared
-  by-kind kinds.Weak is = weak e stood is cleared
-  by-kind kinds.Final is = finals e stood is cleared
-  by-kind kinds.Phantom is = phantom e stood is cleared
-
-pub keeps_kind : (dump : Dump) (more less : List Event) (t : Removals) (kind : RefKind) (xs ys : List Holding) → AddsLost dump more less xs ys → HasKind dump more less t kind xs → HasKind dump more less t kind ys
-keeps_kind dump more less t kind xs ys adds has e stood is cleared = keeps_edge dump more less xs ys adds e (has e stood is cleared)
 
 -- a root by the test of its object
 on-by : (t : ℕ) (at : Option RootEntry) → option_map_or (λ (x : RootEntry). x.target == t) at false ≡ true → Some t ≡ option_map (λ (x : RootEntry). x.target) at
@@ -322,46 +260,9 @@ pushed_root dump more less r t items some x at =
     let same : entry_to r t ≡ x = cc in
     inr (subst (λ (y : RootEntry). Contains (items ++ (record { target = t; holder = supports.Root r }) ∷ []) (root_holding y)) same (has-last items (root_holding (entry_to r t))))
 
-pub keeps_number : (dump : Dump) (more less : List Event) (r : ℕ) (xs ys : List Holding) → AddsLost dump more less xs ys → HasNumber dump more less r xs → HasNumber dump more less r ys
-keeps_number dump more less r xs ys adds has x at = keeps_root dump more less xs ys adds x (has x at)
-
--- the items have the roots of the first numbers
-abbrev pub HasDropped : Dump → (more less : List Event) → List ℕ → ℕ → List Holding → Type 0
-HasDropped dump more less numbers n items = (k r : ℕ) → k < n → slice_get numbers k ≡ Some r → HasNumber dump more less r items
-
-pub next_dropped : (dump : Dump) (more less : List Event) (numbers : List ℕ) (n r : ℕ) (xs ys : List Holding) → slice_get numbers n ≡ Some r → AddsLost dump more less xs ys → HasNumber dump more less r ys → HasDropped dump more less numbers n xs → HasDropped dump more less numbers (n + 1) ys
-next_dropped dump more less numbers n r xs ys at adds here before k q lt is = elim (cases_lt k n) [
-  | inl earlier ↦ keeps_number dump more less q xs ys adds (before k q earlier is)
-  | inr le ↦
-      let last : k ≡ n = omega arith in
-      let same : r ≡ q = some-number r q (sym at ∙ sym (ap (slice_get numbers) last) ∙ is) in
-      subst (λ (m : ℕ). HasNumber dump more less m ys) same here
-]
-
-pub all_dropped : (dump : Dump) (more less : List Event) (t : Removals) (n : ℕ) (items : List Holding) → length t.roots ≤ n → HasDropped dump more less t.roots n items → (r : ℕ) → has_root t.roots r ≡ true → HasNumber dump more less r items
-unfolding has_root
-all_dropped dump more less t n items le has r had =
-    let (k, lt, at) = found-at r t.roots had in
-    has k r (omega arith) at
-
--- the items have the roots of the first events
-abbrev pub HasAdded : Dump → (more less : List Event) → ℕ → List Holding → Type 0
-HasAdded dump more less n items = (k : ℕ) → k < n → HasNumber dump more less (length dump.roots + k) items
-
-pub next_added : (dump : Dump) (more less : List Event) (n r : ℕ) (xs ys : List Holding) → r ≡ length dump.roots + n → AddsLost dump more less xs ys → HasNumber dump more less r ys → HasAdded dump more less n xs → HasAdded dump more less (n + 1) ys
-next_added dump more less n r xs ys is adds here before k lt = elim (cases_lt k n) [
-  | inl earlier ↦ keeps_number dump more less (length dump.roots + k) xs ys adds (before k earlier)
-  | inr le ↦ let same : r ≡ length dump.roots + k = omega arith in subst (λ (m : ℕ). HasNumber dump more less m ys) same here
-]
-
 -- what each of a list is
 all-by : (P : Holding → Type 0) (xs : List Holding) → ((h : Holding) → Contains xs h → P h) → All P xs
 all-by P xs h = λ k d lt. h (get_or xs k d) (Contains-slice_get xs k (get_or xs k d) lt (slice_get-get_or xs k d lt))
-
--- one of two tests holds
-or-cases : (a b : Bool) → (a || b) ≡ true → (a ≡ true) ⊎ (b ≡ true)
-or-cases true b h = inl refl
-or-cases false b h = inr h
 
 no-holder : (o : ℕ) (slot : Slot) → supports.Edge o slot ≢ supports.Nothing
 no-holder o slot h = absurd cc
@@ -390,69 +291,17 @@ lost-holder dump more less h lost nothing = elim lost [
 ]
 
 -- all that is lost
-module _ (dump : Dump) (more less : List Event) (t : Removals) (by : IsRemovedBy dump less t) (items : List Holding) where
-  edge-kept : HasSlots dump more less t items → HasKinds dump more less t items → (e : Edge) → Contains (standing dump more).edges e → HasEdge dump less items e
-  edge-kept in_slots in_kinds e stood = by-stands (edge_has_index dump more e stood).0 (edge_has_index dump more e stood).1 (is_at dump more e.source (edge_has_index dump more e stood).0 e (edge_has_index dump more e stood).1) where
-    by-known : (i : ℕ) → edge_at dump more e.source i ≡ Some e → (known : IsAt dump more e.source i e) → (b : Bool) → is_untouched less (object_at dump e.source) known.entry ≡ b → HasEdge dump less items e
-    by-known i at known true stays = inl (edge_stands_at dump less e.source i e (at_some dump less e.source i known.entry known.there e.target known.index stays ∙ ap (λ (x : Edge). Some x) (sym known.is)))
-    by-known i at known false cut =
-        let removed : is_removed t e.source i known.entry.kind ≡ true = by.slots e.source i known.entry known.object known.there ∙ ap not cut in
-        elim (or-cases (has_slot t.slots e.source i) (is_cleared t.cleared known.entry.kind) removed) [
-          | inl slot ↦ in_slots e.source i slot e at
-          | inr cleared ↦ in_kinds e stood (ap (λ (x : Edge). is_cleared t.cleared x.kind) known.is ∙ cleared)
-        ]
-
-    by-stands : (i : ℕ) → edge_at dump more e.source i ≡ Some e → IsAt dump more e.source i e → HasEdge dump less items e
-    by-stands i at known = by-known i at known (is_untouched less (object_at dump e.source) known.entry) refl
-
-  -- a root of the dump that neither log drops
-  undropped : (r : ℕ) (root : Root) (x : RootEntry) → slice_get dump.roots r ≡ Some root → root_at dump more r ≡ Some x → (b : Bool) → is_dropped more r ≡ b → is_dropped less r ≡ false → HasRoot dump less items x
-  undropped r root x there at true gone stays = absurd (root_none dump more r (dump_dropped dump more r root there gone) x at)
-  undropped r root x there at false stood stays =
-      let held : Some x.target ≡ held_at dump more r = sym (ap (option_map (λ (y : RootEntry). y.target)) at) in
-      same_root dump more less r x.target items held (held ∙ sym (dump_held dump more r root there stood) ∙ dump_held dump less r root there stays) x at
-
-  of-dump : ((r : ℕ) → has_root t.roots r ≡ true → HasNumber dump more less r items) → (r : ℕ) (root : Root) (x : RootEntry) → slice_get dump.roots r ≡ Some root → root_at dump more r ≡ Some x → (b : Bool) → is_dropped less r ≡ b → HasRoot dump less items x
-  of-dump dropped r root x there at true is = dropped r (by.roots r ∙ is) x at
-  of-dump dropped r root x there at false is = undropped r root x there at (is_dropped more r) refl is
-
-  root-kept : ((r : ℕ) → has_root t.roots r ≡ true → HasNumber dump more less r items) → HasAdded dump more less (length more) items → (x : RootEntry) → Contains (standing dump more).roots x → HasRoot dump less items x
-  root-kept dropped added x c =
-      let found = root_has_number dump more x c in
-      let r : ℕ = found.0 in
-      let count : r < root_count dump more = found.1 in
-      elim (cases_lt r (length dump.roots)) [
-        | inl lt ↦
-            let none : Root = record { kind = root_kinds.Unknown; id = 0 } in
-            of-dump dropped r (get_or dump.roots r none) x (slice_get-get_or dump.roots r none lt) found.2 (is_dropped less r) refl
-        | inr le ↦
-            let number : length dump.roots + (r - length dump.roots) ≡ r = omega arith in
-            subst (λ (n : ℕ). HasNumber dump more less n items) number (added (r - length dump.roots) (omega arith)) x found.2
-      ]
-
-  pub are_lost : AddsLost dump more less [] items → HasSlots dump more less t items → HasKinds dump more less t items → ((r : ℕ) → has_root t.roots r ≡ true → HasNumber dump more less r items) → HasAdded dump more less (length more) items → AreLost dump more less items
-  are_lost adds in_slots in_kinds dropped added =
-      let only : (h : Holding) → Contains items h → Lost dump more less h = λ h c. elim (adds.only h c) [
-        | inl old ↦ absurd (Contains-nil h old)
-        | inr lost ↦ lost
-      ] in
-      record {
-        edges = edge-kept in_slots in_kinds;
-        roots = root-kept dropped added;
-        only = only;
-        targets = all-by (λ h. h.target < length dump.objects) items (λ h c. lost-target dump more less h (only h c));
-        holders = all-by (λ h. h.holder ≢ supports.Nothing) items (λ h c. lost-holder dump more less h (only h c));
-      }
-
--- what is found step after step stays
-pub all_lost : (dump : Dump) (more less : List Event) (t : Removals) → IsRemovedBy dump less t → (none slots kinds dropped added : List Holding) → none ≡ [] → AddsLost dump more less none slots → AddsLost dump more less slots kinds → AddsLost dump more less kinds dropped → AddsLost dump more less dropped added
-    → HasSlots dump more less t slots → HasKinds dump more less t kinds → ((r : ℕ) → has_root t.roots r ≡ true → HasNumber dump more less r dropped) → HasAdded dump more less (length more) added → AreLost dump more less added
-all_lost dump more less t by none slots kinds dropped added empty first second third fourth in_slots in_kinds in_dropped in_added =
-    let last_two = adds_more dump more less kinds dropped added third fourth in
-    let last_three = adds_more dump more less slots kinds added second last_two in
-    are_lost dump more less t by added
-    (subst (λ (xs : List Holding). AddsLost dump more less xs added) empty (adds_more dump more less none slots added first last_three))
-    (λ o i has e at. keeps_edge dump more less slots added last_three e (in_slots o i has e at))
-    (λ e stood cleared. keeps_edge dump more less kinds added last_two e (in_kinds e stood cleared))
-    (λ r has. keeps_number dump more less r dropped added fourth (in_dropped r has))
-    in_added
+pub all_lost : (dump : Dump) (more less : List Event) (none items : List Holding) → none ≡ [] → AddsLost dump more less none items → HasAllLost dump more less items → AreLost dump more less items
+all_lost dump more less none items empty adds all =
+    let added : AddsLost dump more less [] items = subst (λ (xs : List Holding). AddsLost dump more less xs items) empty adds in
+    let only : (h : Holding) → Contains items h → Lost dump more less h = λ h c. elim (added.only h c) [
+      | inl old ↦ absurd (Contains-nil h old)
+      | inr lost ↦ lost
+    ] in
+    record {
+      edges = all.edges;
+      roots = all.roots;
+      only = only;
+      targets = all-by (λ h. h.target < length dump.objects) items (λ h c. lost-target dump more less h (only h c));
+      holders = all-by (λ h. h.holder ≢ supports.Nothing) items (λ h c. lost-holder dump more less h (only h c));
+    }

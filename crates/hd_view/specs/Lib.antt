@@ -5,3 +5,4 @@ pub mod Finding
 pub mod RootMarks
 pub mod ViewInside
 pub mod Losing
+pub mod OneEdit

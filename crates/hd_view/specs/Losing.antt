@@ -1,16 +1,16 @@
 -- Items that are found one after another: edges and roots that stand under one log of a dump and not under another.
 -- Source: this project.
-use Rattle.std.specs.Prelude.{◌≡◌, ℕ, ◌⊎◌, true, List, Contains, Some}
+use Rattle.std.specs.Prelude.{◌≡◌, ℕ, ◌<◌, ◌⊎◌, true, List, length, Contains, Some, slice_get}
+use Rattle.hd_terms.specs.declared.Edit.{Edit}
 use Rattle.hd_terms.specs.declared.Event.{Event}
 use Rattle.hd_terms.specs.declared.Slot.{Slot}
 use Rattle.hd_terms.specs.declared.RefKind.{RefKind}
-use Rattle.hd_terms.specs.Dump.{Dump}
+use Rattle.hd_terms.specs.Dump.{SlotEntry, Dump, object_at}
 use Rattle.hd_terms.specs.EditedDump.{standing}
 use Rattle.hd_terms.specs.Paths.{Edge, RootEntry}
 use Rattle.hd_terms.specs.Ranks.{kind_of_references}
 use Rattle.hd_terms.specs.Regions.{Holding, edge_holding, root_holding}
-use Rattle.hd_strength.specs.Cleared.{is_cleared}
-use Rattle.hd_strength.specs.Removed.{Removals, has_slot}
+use Rattle.hd_strength.specs.Removed.{takes_slot}
 use Rattle.hd_strength.specs.Rows.{edge_at, root_at}
 use Rattle.hd_terms.specs.Lost.{IsLostEdge, IsLostRoot}
 
@@ -35,18 +35,19 @@ HasNamed dump more less o slot items = (e : Edge) → Contains (standing dump mo
 abbrev pub HasIndexed : Dump → (more less : List Event) → ℕ → ℕ → List Holding → Type 0
 HasIndexed dump more less o i items = (e : Edge) → edge_at dump more o i ≡ Some e → HasEdge dump less items e
 
--- the items have the lost edges of the slots whose references are taken away one by one
-abbrev pub HasSlots : Dump → (more less : List Event) → Removals → List Holding → Type 0
-HasSlots dump more less t items = (o i : ℕ) → has_slot t.slots o i ≡ true → HasIndexed dump more less o i items
+-- the items have the lost edge of the one slot from which an edit takes the reference
+abbrev pub HasEdited : Dump → (more less : List Event) → Edit → List Holding → Type 0
+HasEdited dump more less edit items = (o i : ℕ) (s : SlotEntry) → o < length dump.objects → slice_get (object_at dump o).slots i ≡ Some s → takes_slot (object_at dump o) s edit ≡ true → HasIndexed dump more less o i items
 
--- the items have the lost edges of a kind, if it is cleared
-abbrev pub HasKind : Dump → (more less : List Event) → Removals → RefKind → List Holding → Type 0
-HasKind dump more less t kind items = (e : Edge) → Contains (standing dump more).edges e → e.kind ≡ kind_of_references kind → is_cleared t.cleared e.kind ≡ true → HasEdge dump less items e
-
--- the items have the lost edges of the kinds that are cleared
-abbrev pub HasKinds : Dump → (more less : List Event) → Removals → List Holding → Type 0
-HasKinds dump more less t items = (e : Edge) → Contains (standing dump more).edges e → is_cleared t.cleared e.kind ≡ true → HasEdge dump less items e
+-- the items have the lost edges of a kind
+abbrev pub HasKind : Dump → (more less : List Event) → RefKind → List Holding → Type 0
+HasKind dump more less kind items = (e : Edge) → Contains (standing dump more).edges e → e.kind ≡ kind_of_references kind → HasEdge dump less items e
 
 -- the items have the root of a number, if it is lost
 abbrev pub HasNumber : Dump → (more less : List Event) → ℕ → List Holding → Type 0
 HasNumber dump more less r items = (x : RootEntry) → root_at dump more r ≡ Some x → HasRoot dump less items x
+
+-- the items have all that is lost
+pub record HasAllLost (dump : Dump) (more less : List Event) (items : List Holding) : Type 0 where
+  pub edges : (e : Edge) → Contains (standing dump more).edges e → HasEdge dump less items e
+  pub roots : (x : RootEntry) → Contains (standing dump more).roots x → HasRoot dump less items x

@@ -1,19 +1,19 @@
 //! What stands under one log of a graph and not under another.
-ghost use Rattle.std.specs.Prelude.{◌≡◌, ℕ, ◌+◌, ◌<◌, ◌==◌, true, false, length, IfOk, OnOk};
+ghost use Rattle.std.specs.Prelude.{◌≡◌, ◌+◌, ◌<◌, ◌==◌, false, length, IfOk, OnOk};
 ghost use Rattle.std.specs.Option.{option_map, option_map_or};
-ghost use Rattle.hd_terms.specs.Log.{live_flags};
 ghost use Rattle.hd_terms.specs.Paths.{RootEntry};
 ghost use Rattle.hd_graph.specs.Kinds.{AreKinds};
-ghost use Rattle.hd_strength.specs.Removed.{has_root, IsRemovedBy};
+ghost use Rattle.hd_strength.specs.Removed.{IsRemovedBy};
 ghost use Rattle.hd_strength.specs.Rows.{root_at};
-ghost use Rattle.hd_view.specs.Losing.{AddsLost, HasIndexed, HasKind, HasKinds, HasNamed, HasNumber, HasSlots};
+ghost use Rattle.hd_view.specs.Losing.{AddsLost, HasAllLost, HasEdited, HasIndexed, HasKind, HasNamed, HasNumber};
+ghost use Rattle.hd_view.specs.OneEdit.{LosesBy};
 ghost use Rattle.hd_terms.specs.Lost.{AreLost};
 
 use crate::edited::Edited;
 use hd_edges::Held;
-use hd_graph::KindLists;
-use hd_strength::root_target;
-use hd_terms::{NoMemory, RefKind, Slot, Support};
+use hd_graph::{Graph, KindLists};
+use hd_strength::{edited_slot, root_target};
+use hd_terms::{Edit, NoMemory, RefKind, Slot, Support};
 use std::alloc::Global;
 
 /// Adds the edge of an object's slot of a name, if it is lost.
@@ -77,22 +77,27 @@ fn push_slot(
     Ok(())
 }
 
-/// Adds the lost edges among those of the slots whose references the log with less takes away one by one.
-fn push_slots(items: &mut Vec<Held>, more: Edited<'_>, less: Edited<'_>) -> Result<(), NoMemory>
+/// Adds the edge of the one slot from which an edit takes the reference, if there is one and it is lost.
+fn push_edited(
+    items: &mut Vec<Held>,
+    more: Edited<'_>,
+    less: Edited<'_>,
+    edit: Edit,
+) -> Result<(), NoMemory>
     requires same { less.graph.now ≡ more.graph.now }
     requires more { IsRemovedBy more.graph.now more.front.now more.removed.now }
     requires less { IsRemovedBy less.graph.now less.front.now less.removed.now }
     ensures adds { OnOk result (AddsLost more.entry.graph.now more.entry.front.now less.entry.front.now items.old.items items.new.items) }
-    ensures all { OnOk result (HasSlots more.entry.graph.now more.entry.front.now less.entry.front.now less.entry.removed.now items.new.items) }
+    ensures all { OnOk result (HasEdited more.entry.graph.now more.entry.front.now less.entry.front.now edit items.new.items) }
 {
-    for j in 0..less.removed.slots_len() {
-        let (o, i) = less.removed.slot_at(j);
-        push_slot(items, more, less, o, i)?;
-    }
+    let Some((o, i)) = edited_slot(more.graph, edit) else {
+        return Ok(());
+    };
+    push_slot(items, more, less, o, i)?;
     Ok(())
 }
 
-/// Adds the lost edges of a kind, if the log with less clears the kind and the other doesn't.
+/// Adds the lost edges of a kind. There are none where the log with more clears the kind.
 fn push_kind(
     items: &mut Vec<Held>,
     kinds: &KindLists,
@@ -105,11 +110,8 @@ fn push_kind(
     requires more { IsRemovedBy more.graph.now more.front.now more.removed.now }
     requires less { IsRemovedBy less.graph.now less.front.now less.removed.now }
     ensures adds { OnOk result (AddsLost more.entry.graph.now more.entry.front.now less.entry.front.now items.old.items items.new.items) }
-    ensures all { OnOk result (HasKind more.entry.graph.now more.entry.front.now less.entry.front.now less.entry.removed.now kind items.new.items) }
+    ensures all { OnOk result (HasKind more.entry.graph.now more.entry.front.now less.entry.front.now kind items.new.items) }
 {
-    if !less.removed.clears(kind.edge_kind()) {
-        return Ok(());
-    }
     if more.removed.clears(kind.edge_kind()) {
         return Ok(());
     }
@@ -120,153 +122,106 @@ fn push_kind(
     Ok(())
 }
 
-/// Adds the lost edges of the kinds that the log with less clears and the other doesn't.
-fn push_kinds(
-    items: &mut Vec<Held>,
-    kinds: &KindLists,
-    more: Edited<'_>,
-    less: Edited<'_>,
-) -> Result<(), NoMemory>
-    requires kinds { AreKinds more.graph.now.objects kinds.now }
-    requires same { less.graph.now ≡ more.graph.now }
-    requires more { IsRemovedBy more.graph.now more.front.now more.removed.now }
-    requires less { IsRemovedBy less.graph.now less.front.now less.removed.now }
-    ensures adds { OnOk result (AddsLost more.entry.graph.now more.entry.front.now less.entry.front.now items.old.items items.new.items) }
-    ensures all { OnOk result (HasKinds more.entry.graph.now more.entry.front.now less.entry.front.now less.entry.removed.now items.new.items) }
-{
-    push_kind(items, kinds, more, less, RefKind::Soft)?;
-    push_kind(items, kinds, more, less, RefKind::Weak)?;
-    push_kind(items, kinds, more, less, RefKind::Final)?;
-    push_kind(items, kinds, more, less, RefKind::Phantom)?;
-    Ok(())
-}
-
-/// The object that the root of a number holds, where there is such a root and it stands. The flags say which events are
-/// live.
-fn root_object(edited: Edited<'_>, live: &[bool], r: u64) -> Option<u32>
-    requires removed { IsRemovedBy edited.graph.now edited.front.now edited.removed.now }
-    requires flags { live.now ≡ live_flags edited.front.now }
+/// The object that the root of a number holds, where there is such a root and it stands.
+fn root_object(edited: Edited<'_>, r: u64) -> Option<u32>
+    requires { IsRemovedBy edited.graph.now edited.front.now edited.removed.now }
     ensures { result ≡ option_map (λ (x : RootEntry). x.target) (root_at edited.entry.graph.now edited.entry.front.now r) }
 {
+    let live = edited.front.flags();
     root_target(edited.graph, edited.front, edited.removed, live, r)
 }
 
-/// Whether there is a root of a number, and it stands and holds this object. The flags say which events are live.
-fn root_is_on(edited: Edited<'_>, live: &[bool], r: u64, object: u32) -> bool
-    requires removed { IsRemovedBy edited.graph.now edited.front.now edited.removed.now }
-    requires flags { live.now ≡ live_flags edited.front.now }
+/// Whether a root of a number stands and holds an object.
+fn root_is_on(edited: Edited<'_>, r: u64, object: u32) -> bool
+    requires { IsRemovedBy edited.graph.now edited.front.now edited.removed.now }
     ensures { result ≡ option_map_or (λ (x : RootEntry). x.target == object) (root_at edited.entry.graph.now edited.entry.front.now r) false }
 {
-    match root_object(edited, live, r) {
+    match root_object(edited, r) {
         Some(other) => other == object,
         None => false,
     }
 }
 
-/// Adds the root of a number, if it is lost. The flags say which events of the logs are live.
+/// Adds the root of a number, if it is lost.
 fn push_root(
     items: &mut Vec<Held>,
     more: Edited<'_>,
-    more_live: &[bool],
     less: Edited<'_>,
-    less_live: &[bool],
     r: u64,
 ) -> Result<(), NoMemory>
     requires same { less.graph.now ≡ more.graph.now }
     requires more { IsRemovedBy more.graph.now more.front.now more.removed.now }
     requires less { IsRemovedBy less.graph.now less.front.now less.removed.now }
-    requires more_flags { more_live.now ≡ live_flags more.front.now }
-    requires less_flags { less_live.now ≡ live_flags less.front.now }
     ensures adds { OnOk result (AddsLost more.entry.graph.now more.entry.front.now less.entry.front.now items.old.items items.new.items) }
     ensures all { OnOk result (HasNumber more.entry.graph.now more.entry.front.now less.entry.front.now r items.new.items) }
 {
-    let Some(object) = root_object(more, more_live, r) else {
+    let Some(object) = root_object(more, r) else {
         return Ok(());
     };
-    if root_is_on(less, less_live, r, object) {
+    if root_is_on(less, r, object) {
         return Ok(());
     }
     items.push(Held::new(object, Support::Root(r)))?;
     Ok(())
 }
 
-/// Adds the lost roots among those that the log with less drops. The flags say which events of the logs are live.
-fn push_dropped(
+/// The number of the root that event k adds.
+fn added_number(graph: &Graph, k: u32) -> u64
+    ensures { result ≡ length graph.now.roots + k }
+{
+    u64::from(graph.roots_len()) + u64::from(k)
+}
+
+/// Adds what is lost by an edit of event k. The lists are those of the graph's references through referents.
+fn push_lost(
     items: &mut Vec<Held>,
+    kinds: &KindLists,
     more: Edited<'_>,
-    more_live: &[bool],
     less: Edited<'_>,
-    less_live: &[bool],
+    k: u32,
+    edit: Edit,
 ) -> Result<(), NoMemory>
+    requires kinds { AreKinds more.graph.now.objects kinds.now }
     requires same { less.graph.now ≡ more.graph.now }
     requires more { IsRemovedBy more.graph.now more.front.now more.removed.now }
     requires less { IsRemovedBy less.graph.now less.front.now less.removed.now }
-    requires more_flags { more_live.now ≡ live_flags more.front.now }
-    requires less_flags { less_live.now ≡ live_flags less.front.now }
+    requires one { LosesBy more.front.now less.front.now k edit }
     ensures adds { OnOk result (AddsLost more.entry.graph.now more.entry.front.now less.entry.front.now items.old.items items.new.items) }
-    ensures all { OnOk result ((r : ℕ) → has_root less.entry.removed.now.roots r ≡ true → HasNumber more.entry.graph.now more.entry.front.now less.entry.front.now r items.new.items) }
+    ensures all { OnOk result (HasAllLost more.entry.graph.now more.entry.front.now less.entry.front.now items.new.items) }
 {
-    for j in 0..less.removed.roots_len() {
-        push_root(
-            items,
-            more,
-            more_live,
-            less,
-            less_live,
-            less.removed.root_at(j),
-        )?;
+    match edit {
+        Edit::Cut(_, _) => push_edited(items, more, less, edit)?,
+        Edit::Clear(_) => push_edited(items, more, less, edit)?,
+        Edit::Drop(r) => push_root(items, more, less, r)?,
+        Edit::Add(_) => push_root(items, more, less, added_number(more.graph, k))?,
+        Edit::ClearAll(kind) => push_kind(items, kinds, more, less, kind)?,
     }
     Ok(())
 }
 
-/// Adds the lost roots among those that events of the log with more add. The flags say which events of the logs are live.
-fn push_added(
-    items: &mut Vec<Held>,
-    more: Edited<'_>,
-    more_live: &[bool],
-    less: Edited<'_>,
-    less_live: &[bool],
-) -> Result<(), NoMemory>
-    requires same { less.graph.now ≡ more.graph.now }
-    requires more { IsRemovedBy more.graph.now more.front.now more.removed.now }
-    requires less { IsRemovedBy less.graph.now less.front.now less.removed.now }
-    requires more_flags { more_live.now ≡ live_flags more.front.now }
-    requires less_flags { less_live.now ≡ live_flags less.front.now }
-    ensures adds { OnOk result (AddsLost more.entry.graph.now more.entry.front.now less.entry.front.now items.old.items items.new.items) }
-    ensures all { OnOk result ((k : ℕ) → k < length more.entry.front.now → HasNumber more.entry.graph.now more.entry.front.now less.entry.front.now (length more.entry.graph.now.roots + k) items.new.items) }
-{
-    let roots = u64::from(more.graph.roots_len());
-    for k in 0..more.front.len() {
-        let r = roots + u64::from(k);
-        push_root(items, more, more_live, less, less_live, r)?;
-    }
-    Ok(())
-}
-
-/// The edges and roots that stand under one log of a graph and not under another, by what they hold. The lists are those of the
-/// graph's references through referents.
+/// The edges and roots that stand under one log of a graph and not under another, by what they hold, where the two differ by
+/// one live edit, that of event k: it adds a root under the first log, or takes away under the other. The lists are those of
+/// the graph's references through referents.
 ///
 /// # Errors
 ///
 /// Memory ran out.
-pub fn lost_between(
+pub fn lost_by_edit(
     alloc: Global,
     kinds: &KindLists,
     more: Edited<'_>,
     less: Edited<'_>,
+    k: u32,
+    edit: Edit,
 ) -> Result<Vec<Held>, NoMemory>
     requires kinds { AreKinds more.graph.now.objects kinds.now }
     requires same { less.graph.now ≡ more.graph.now }
     requires more { IsRemovedBy more.graph.now more.front.now more.removed.now }
     requires less { IsRemovedBy less.graph.now less.front.now less.removed.now }
+    requires one { LosesBy more.front.now less.front.now k edit }
     ensures { IfOk result (λ v. AreLost more.entry.graph.now more.entry.front.now less.entry.front.now v.items) }
 {
     let mut items = Vec::new(alloc);
-    push_slots(&mut items, more, less)?;
-    push_kinds(&mut items, kinds, more, less)?;
-    let more_live = more.front.live(alloc)?;
-    let less_live = less.front.live(alloc)?;
-    push_dropped(&mut items, more, &more_live, less, &less_live)?;
-    push_added(&mut items, more, &more_live, less, &less_live)?;
+    push_lost(&mut items, kinds, more, less, k, edit)?;
     Ok(items)
 }

@@ -2,17 +2,13 @@ use Rattle.std.proofs.Common.{◌≡◌, ◌∙◌, ◌<◌, ◌≤◌, ℕ, len
 use Rattle.hd_terms.specs.declared.Slot.{Slot}
 use Rattle.hd_terms.specs.Edges.{kind_edges}
 use Rattle.hd_strength.specs.Cleared.{is_cleared}
-use Rattle.hd_view.proofs.LostLemmas.{adds_more, not_cleared, none_stood, kind_source, next_of_kind, all_of_kind}
+use Rattle.hd_view.proofs.LostLemmas.{adds_more, none_stood, kind_source, next_of_kind, all_of_kind}
 use Rattle.hd_view.proofs.lost.push_kind.Goals as goal
-
-pub returns-then-not-clears-clause-all : goal.returns-then-not-clears-clause-all
-returns-then-not-clears-clause-all c =
-    not_cleared c.args.more.graph.now c.args.more.front.now c.args.less.front.now c.args.less.removed.now c.args.kind c.clears.result c.args.items.now.items (c.clears.ensures ∙ ap (is_cleared c.args.less.removed.now.cleared) c.edge_kind.ensures) c.if-not-clears.true
 
 pub returns-then-clears-clause-all : goal.returns-then-clears-clause-all
 returns-then-clears-clause-all c =
-    none_stood c.args.more.graph.now c.args.more.front.now c.args.less.front.now c.args.more.removed.now c.args.less.removed.now c.args.kind c.clears-2.result c.args.items.now.items c.requires.more
-    (c.clears-2.ensures ∙ ap (is_cleared c.args.more.removed.now.cleared) c.edge_kind-2.ensures) c.if-clears.true
+    none_stood c.args.more.graph.now c.args.more.front.now c.args.less.front.now c.args.more.removed.now c.args.kind c.clears.result c.args.items.now.items c.requires.more
+    (c.clears.ensures ∙ ap (is_cleared c.args.more.removed.now.cleared) c.edge_kind.ensures) c.if-clears.true
 
 pub push_edge-requires-clause-object : goal.push_edge-requires-clause-object
 push_edge-requires-clause-object c =
@@ -37,4 +33,4 @@ loop-j-preserved c =
 pub returns-clause-all : goal.returns-clause-all
 returns-clause-all c =
     let le : length (kind_edges c.args.more.graph.now c.args.kind) ≤ c.loop-j.j = omega (arith, c.kind_len-j-end.ensures, c.loop-j-test.false) in
-    all_of_kind c.args.more.graph.now c.args.more.front.now c.args.less.front.now c.args.less.removed.now c.args.kind c.loop-j.j c.loop-j.items.items le c.loop-j.invariant.1
+    all_of_kind c.args.more.graph.now c.args.more.front.now c.args.less.front.now c.args.kind c.loop-j.j c.loop-j.items.items le c.loop-j.invariant.1

@@ -1,0 +1,27 @@
+use Rattle.std.proofs.Common.{◌≡◌, ◌∙◌, ℕ, Bool, not, List, Some, length, slice_get, sym, ap, subst}
+use Rattle.hd_terms.specs.declared.Event.{Event}
+use Rattle.hd_state.specs.Moves.{Moves}
+use Rattle.hd_state.proofs.MovedLemmas.{moves_done, moves_back, undo_edit}
+use Rattle.hd_state.proofs.repairing.moved_by.Goals as goal
+
+pub returns-in-Do : goal.returns-in-Do
+returns-in-Do c =
+    let before : List Event = c.args.before.now in
+    let later : List Event = c.args.after.now in
+    let at : slice_get later (length before) ≡ Some c.event.result = ap (slice_get later) (sym c.len-last.ensures.len) ∙ c.event.ensures in
+    subst (λ (n : ℕ). Moves before later (not c.adds_root.result) n c.in-Do.edit) (sym c.len-last.ensures.len)
+    (subst (λ (b : Bool). Moves before later (not b) (length before) c.in-Do.edit) (sym c.adds_root.ensures) (moves_done before later c.requires c.event.result at c.in-Do.edit c.in-Do.is))
+
+pub moved_back-requires : goal.moved_back-requires
+moved_back-requires c =
+    let before : List Event = c.args.before.now in
+    let later : List Event = c.args.after.now in
+    let at : slice_get later (length before) ≡ Some c.event.result = ap (slice_get later) (sym c.len-last.ensures.len) ∙ c.event.ensures in
+    undo_edit before later c.requires c.event.result at c.in-Undo.k c.in-Undo.is
+
+pub returns-in-Undo : goal.returns-in-Undo
+returns-in-Undo c =
+    let before : List Event = c.args.before.now in
+    let later : List Event = c.args.after.now in
+    let at : slice_get later (length before) ≡ Some c.event.result = ap (slice_get later) (sym c.len-last.ensures.len) ∙ c.event.ensures in
+    moves_back before later c.requires c.event.result at c.in-Undo.k c.moved_back.result c.in-Undo.is c.moved_back.ensures
