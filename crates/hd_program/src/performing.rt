@@ -325,7 +325,7 @@ where
         Ok(None) => {
             let _ = writeln!(
                 faults,
-                "usage: hdesk [run FILE | stat FILE | serve FILE --port P --analysts N] [--workers N] [--phantom MODE]"
+                "usage: hdesk [run FILE | stat FILE | serve FILE --port P --analysts N] [--workers N] [--phantom MODE] | --version"
             );
             USAGE
         }

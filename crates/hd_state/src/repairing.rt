@@ -77,8 +77,8 @@ fn moved_by(before: &Front, after: &Front) -> Moved
     }
 }
 
-/// The supports of a graph under one log, repaired for the log with one more event. An event takes away or gives, and never
-/// both. The looks are at most twice the degree of its region, and what is kept of all other objects stays.
+/// The supports of a graph under one log, repaired for the log with one more event. What that event takes away or gives is all
+/// by one edit (`moved_by`). The looks are at most twice the degree of its region, and what is kept of all other objects stays.
 ///
 /// # Errors
 ///
