@@ -39,7 +39,7 @@ SPELLED = Format()
 
 ALL, IN_PART = "answered all", "refused at a command"
 OPENING, ELSEWHERE = "refused at the opening", "refused elsewhere"
-NOT_LOADED, ELSE = "not loaded", "anything else"
+NO_STACK, NOT_LOADED, ELSE = "no stack", "not loaded", "anything else"
 
 
 class Model:
@@ -258,10 +258,12 @@ def outcome_of(ended: Ended, judge: Judge) -> str:
 
 
 def limited_outcome(ended: Ended, judge: Judge) -> str:
-    """The same under a limit, where the loader may not start the program; or the system kills it before that."""
-    killed = (-signal.SIGKILL, -signal.SIGSEGV)
-    is_refused = ended.status in killed or ended.status in (126, 127)
-    return NOT_LOADED if is_refused and not ended.output else outcome_of(ended, judge)
+    """The same under a limit, where the system may have no room for the stack, or the loader none for the program."""
+    if ended.output:
+        return outcome_of(ended, judge)
+    if ended.status in (-signal.SIGKILL, -signal.SIGSEGV):
+        return NO_STACK
+    return NOT_LOADED if ended.status in (126, 127) else outcome_of(ended, judge)
 
 
 class Outcomes:
@@ -296,27 +298,27 @@ def text_of(kind: Type[Model]) -> str:
 
 
 def sweep_limits(program: Program, report: Report) -> None:
-    """Tries smaller and smaller limits, side by side in blocks, down to a block in which nothing is loaded."""
-    outcomes, judge = Outcomes(report, "limits of the address space", [ALL, OPENING]), judge_session(Sample)
+    """Tries smaller and smaller limits, side by side in blocks, down to a block in which nothing is loaded. Below the first limit
+    under which the program isn't loaded it has not to be loaded either."""
+    outcomes, judge = Outcomes(report, "limits of the address space", [ALL, OPENING, NOT_LOADED]), judge_session(Sample)
     environment = dict(os.environ, LC_ALL="C")
 
     def run(limit: int) -> Ended:
         return program.finish(["prlimit", f"--as={limit * 1024}", program.path], text_of(Sample), env=environment)
 
-    block, not_loaded = 8 * (os.cpu_count() or 1) * PAGE, 0
+    block, is_gone = 8 * (os.cpu_count() or 1) * PAGE, False
     for top in range(FIRST_LIMIT, 0, -block):
         limits = range(top, max(top - block, 0), -PAGE)
-        loaded = 0
+        in_block = set()
         for limit, ended in zip(limits, program.side_by_side(run, limits)):
             outcome = limited_outcome(ended, judge)
-            if outcome == NOT_LOADED:
-                not_loaded = not_loaded or limit
-                continue
-            loaded += 1
-            outcomes.add(ELSE if not_loaded else outcome, f"at {limit} KiB", ended)
-        if not loaded:
+            is_late = is_gone and outcome != NOT_LOADED
+            is_gone = is_gone or outcome == NOT_LOADED
+            outcomes.add(ELSE if is_late else outcome, f"at {limit} KiB", ended)
+            in_block.add(outcome)
+        if in_block == {NOT_LOADED}:
             break
-    outcomes.show(f"not loaded at {not_loaded} KiB")
+    outcomes.show(f"not loaded at {top} KiB")
 
 
 class Case(NamedTuple):
