@@ -53,7 +53,7 @@ impl Client {
     }
 }
 
-/// How many commands are answered in a span, so many sent at a time.
+/// How many commands are answered in a span, `at_a_time` sent at once.
 fn answered(client: &mut Client, line: &str, at_a_time: u32) -> u64 {
     let text = format!("{line}\n").repeat(at_a_time as usize);
     let began = Instant::now();

@@ -4,7 +4,7 @@
 //! Build:  rustc --edition 2021 -O bench/empty_arrays.rs -o empty_arrays
 //! Run:    ./empty_arrays FILE BYTES
 //!
-//! The file has as many arrays as fit into so many bytes. It prints on standard error how many bytes and objects it has.
+//! The file has as many arrays as fit into BYTES bytes. It prints on standard error how many bytes and objects it has.
 
 use std::env;
 use std::fs::File;

@@ -25,7 +25,7 @@
 //! - Before every thousandth object stands a root on it, and after every hundredth such root one on an absent ID.
 //! - Array classes are 64 IDs that no object has. With `present` they are the objects 1 to 64 instead.
 //! - With `instances` they are class objects, which stand before all others. So are the classes of instances: one for
-//!   each number of references, up to 24, with an int and so many references as fields. All these have one super class,
+//!   each number of references, up to 24, with an int and that number of references as fields. All these have one super class,
 //!   which has no fields. Every node of a list is an instance then, and so are three quarters of the other objects with
 //!   up to 24 elements; their elements are those fields. No class has a name, so all references are strong.
 
@@ -125,7 +125,7 @@ fn has_absent_root(i: u64) -> bool {
     i % (OBJECTS_PER_ROOT * ROOTS_PER_ABSENT_ROOT) == 0
 }
 
-/// How often an object of the usual kind has how many elements: of 128 such objects, so many have so many.
+/// How many of 128 objects of the usual kind have a number of elements: the number, and how many have it.
 const USUAL: [(u8, usize); 13] = [
     (0, 26),
     (1, 34),
@@ -173,7 +173,7 @@ fn elements_of(seed: u64, i: u64) -> u64 {
     }
 }
 
-/// Whether an object with so many elements is an instance, where there are instances.
+/// Whether an object with `elements` elements is an instance, where there are instances.
 fn can_be_instance(seed: u64, i: u64, elements: u64) -> bool {
     let is_chosen = is_list_node(i) || scatter(seed, i, u64::MAX - 1) & 3 > 0;
     i > 0 && elements <= FIELDS && is_chosen
@@ -249,7 +249,7 @@ impl Ids {
         9 + 2 * self.size + elements * self.size
     }
 
-    /// Whether an object with so many elements is an instance.
+    /// Whether an object with `elements` elements is an instance.
     fn is_instance(&self, seed: u64, i: u64, elements: u64) -> bool {
         self.classes == Classes::ClassObjects && can_be_instance(seed, i, elements)
     }

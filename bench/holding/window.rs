@@ -1,4 +1,4 @@
-//! A file, held in memory as a whole: in place of `bench/plain/window.rs` it makes the plain program hold the file as `hdesk` does.
+//! A file, held in memory as a whole: instead of `bench/plain/window.rs` it makes the plain program hold the file as `hdesk` does.
 //!
 //! Build:  cp -r bench/plain held && cp bench/holding/window.rs held && rustc --edition 2021 -O held/main.rs -o holding
 //! Run:    ./holding FILE [ID..] [WORKERS]

@@ -21,7 +21,7 @@ fn ask_for_huge_pages<T>(list: &mut [T]) {
     }
 }
 
-/// A list of so many zeros. Its memory is taken where it is first written.
+/// A list of `count` zeros. Its memory is taken where it is first written.
 pub fn zeros_u32(count: usize) -> Vec<u32> {
     let mut list = vec![0; count];
     ask_for_huge_pages(&mut list);
@@ -35,7 +35,7 @@ pub fn zeros_u64(count: usize) -> Vec<u64> {
     list
 }
 
-/// An empty list with room for so many. Its memory is taken where it is first written.
+/// An empty list with room for `count`. Its memory is taken where it is first written.
 pub fn room_u64(count: usize) -> Vec<u64> {
     let mut list = Vec::with_capacity(count);
     ask_for_huge_pages(list.spare_capacity_mut());

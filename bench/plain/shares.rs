@@ -7,7 +7,7 @@ use std::thread;
 /// How many shares there are for each worker, so that none has to wait long for the last.
 const SHARES_PER_WORKER: usize = 4;
 
-/// How many of the segments, from the first on, are in the first of so many shares: those whose middle lies within its
+/// How many of the segments, from the first on, are in the first of `shares` shares: those whose middle lies within its
 /// part of all their bytes. A last share takes all.
 fn share_len(segments: &[Range<usize>], shares: usize) -> usize {
     let bytes: usize = segments.iter().map(Range::len).sum();
@@ -33,7 +33,7 @@ pub fn share_out(mut segments: &[Range<usize>], workers: usize) -> Vec<&[Range<u
     shares
 }
 
-/// Lets so many workers take the tasks, in their order. Each begins with what `begin` gives and keeps it. Gives what
+/// Lets `workers` workers take the tasks, in their order. Each begins with what `begin` gives and keeps it. Gives what
 /// they have kept at the end.
 pub fn run_workers<T: Send, W: Send>(
     tasks: Vec<T>,

@@ -58,7 +58,7 @@ impl Bits {
     }
 }
 
-/// A part of the objects: those from the first on, so many. All that is kept of them is written by one worker.
+/// A part of the objects: `len` of them from the first on. All that is kept of them is written by one worker.
 struct Part {
     first: u32,
     len: u32,
@@ -168,7 +168,7 @@ impl Part {
         }
     }
 
-    /// Passes on the rank of at most so many objects.
+    /// Passes on the rank of at most `most` objects.
     fn relax(&mut self, graph: &Graph, rank: u8, most: usize) {
         for _ in 0..most {
             let Some(source) = self.stack.pop() else {

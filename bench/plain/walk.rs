@@ -13,7 +13,7 @@ pub trait Visitor {
 
     fn root(&mut self, id: u64);
     fn class(&mut self, dump: ClassDump);
-    /// An instance, of so many bytes, with these bytes where the visitor looks inside.
+    /// An instance of `len` bytes, with these bytes where the visitor looks inside.
     fn instance(&mut self, id: u64, class: u64, len: u32, values: &[u8]);
     /// An object array. Its elements come next, in any number of pieces, and then its end.
     fn array(&mut self, id: u64, class: u64, count: u32);

@@ -24,7 +24,7 @@ impl<'a> Window<'a> {
         }
     }
 
-    /// The bytes from a place on, none at `end` or behind it: at least so many, or all where there are fewer. The
+    /// The bytes from a place on, none at `end` or behind it: at least `least`, or all where there are fewer. The
     /// file is read where the buffer doesn't have them.
     pub fn bytes(&mut self, at: usize, least: usize, end: usize) -> io::Result<&[u8]> {
         let wanted = least.min(end - at);
@@ -35,7 +35,7 @@ impl<'a> Window<'a> {
         Ok(&self.buffer[at - self.start..len])
     }
 
-    /// Reads the part that begins at a place, as much as there is room for. Where so many bytes have no room, it makes
+    /// Reads the part that begins at a place, as much as there is room for. Where `wanted` bytes have no room, it makes
     /// some.
     fn fill(&mut self, at: usize, wanted: usize, end: usize) -> io::Result<()> {
         if self.buffer.len() < wanted {
