@@ -152,8 +152,16 @@ def check_at_once(program: Program, copy: Copy, report: Report) -> None:
     report.note(all(each == ANSWERED for each in ended), "four first starts at once answer")
 
 
+def is_reached(path: Path) -> bool:
+    """Whether every user may go to a folder."""
+    return all(folder.stat().st_mode & 0o001 for folder in (path, *path.parents))
+
+
 def check_unwritable(copy: Copy, report: Report) -> None:
     """A copy that can't be written, by a user who owns none of it where this one may write everywhere."""
+    if os.getuid() == 0 and not is_reached(copy.top):
+        print(f"not looked at: a copy that can't be written, since no other user reaches {copy.top.parent}")
+        return
     copy.forget()
     copy.top.chmod(0o555)
     others: dict[str, object] = {"preexec_fn": lambda: os.setuid(NOBODY)} if os.getuid() == 0 else {}
