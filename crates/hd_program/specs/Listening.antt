@@ -16,7 +16,7 @@ use Rattle.hd_program.specs.declared.server.ServerFault.TheVariants as server_fa
 abbrev pub listening_text : ℕ → List ℕ
 listening_text port = with_newline (codes "listening " ++ decimal port)
 
--- a port is told, and at the end a log with which the board of so many desks over a dump closes
+-- a port is told, and at the end some log with which a board of `analysts` desks over a dump may close
 pub record PrintsServer (dump : Dump) (analysts : ℕ) (before after : Option (List ℕ)) : Type 0 where
   pub port : ℕ
   pub told : Option (List ℕ)
@@ -36,7 +36,7 @@ EndsEarly before after server_faults.Listen = Keeps before after
 EndsEarly before after server_faults.Write = Unit {0}
 EndsEarly before after (server_faults.Serve f) = Unit {0}
 
--- how a server of so many analysts ends over the bytes of a dump: at a fault before the port is told nothing is written
+-- how a server of `analysts` analysts ends over the bytes of a dump: at a fault before the port is told nothing is written
 abbrev pub EndsServer : Mode → (bytes : List ℕ) → (analysts : ℕ) → (before after : Option (List ℕ)) → Result (Unit {0}) ServerFault → Type 0
 EndsServer mode bytes analysts before after (Ok done) = ServesAnalysts mode bytes analysts before after
 EndsServer mode bytes analysts before after (Err (server_faults.Open f)) = IsOpenFault bytes f × Keeps before after

@@ -7,7 +7,8 @@ use Rattle.hd_terms.specs.declared.Event.{Event}
 use Rattle.hd_terms.specs.Replies.{log_lines, with_newline}
 use Rattle.hd_terms.specs.Schedule.{Board, Closes}
 
--- a log is printed with which the board closes: the line of each event, and its newline
+-- the lines of some log with which a board of these numbers may close are printed, each with its newline. Nothing ties this log
+-- to what the board's lock held
 pub record PrintsLog (board : Board) (before after : Option (List ℕ)) : Type 0 where
   pub log : List Event
   -- of each desk its number and what it has seen
