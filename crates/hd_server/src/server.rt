@@ -17,7 +17,7 @@ use std::sync::{Arc, Wait};
 use std::thread;
 use std::thread::{Scope, Threads};
 
-/// Serves `analysts` analysts, 1 to 16, over a dump's graph. The i-th connection that is accepted is that of analyst i. Each is
+/// Serves `n` analysts, 1 to 16, over a dump's graph. The i-th connection that is accepted is that of analyst i. Each is
 /// served in a thread of its own from the moment on that it is accepted, and what ends it ends no other. Nothing more is
 /// accepted then. When all have ended, the log is written on `output`: the lines of the reply to `events`, without the `ok N`.
 ///
