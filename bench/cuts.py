@@ -70,22 +70,16 @@ def links_of(session: Session, rng: random.Random) -> list[tuple[str, str]]:
     return found
 
 
-def timed(session: Session, line: str) -> tuple[list[str], float]:
-    began = time.perf_counter()
-    reply = session.ask(line)
-    return reply, (time.perf_counter() - began) * 1000
-
-
 def pair(session: Session, line: str) -> Pair | None:
     """An edit and its undo, or nothing where the edit is refused."""
-    reply, edit = timed(session, line)
+    reply, edit = session.timed(line)
     if reply[0] != "ok 1":
         return None
-    back, undo = timed(session, "undo")
+    back, undo = session.timed("undo")
     fell, came = int(reply[1].split()[3]), int(back[1].split()[5])
     if fell != came:
         raise Wrong(f"{fell} objects fell by {line}, and {came} came back")
-    return Pair(fell, edit, undo)
+    return Pair(fell, edit * 1000, undo * 1000)
 
 
 def pairs(session: Session, lines: list[str]) -> list[Pair]:

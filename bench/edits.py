@@ -10,7 +10,6 @@ from __future__ import annotations
 
 import argparse
 import sys
-import time
 from pathlib import Path
 
 sys.dont_write_bytecode = True
@@ -21,9 +20,10 @@ from session import Program, Session, Wrong, add_program  # noqa: E402
 
 def timed(session: Session, line: str) -> tuple[list[str], float]:
     """The words of the event that a line makes, and the milliseconds until its reply."""
-    began = time.perf_counter()
-    [event] = session.rows(line)
-    return event, (time.perf_counter() - began) * 1000
+    reply, seconds = session.timed(line)
+    if reply[0] != "ok 1":
+        raise Wrong(f"{line} is answered {reply[0]}")
+    return reply[1].split(), seconds * 1000
 
 
 def main() -> None:

@@ -11,7 +11,6 @@ from __future__ import annotations
 
 import argparse
 import sys
-import time
 from pathlib import Path
 from statistics import median
 
@@ -42,9 +41,8 @@ def filled(session: Session, lines: list[str]) -> tuple[list[float], float]:
     """The milliseconds of each event of a log that is filled with these lines, one after the other, and the seconds of all."""
     times = []
     for k in range(EVENTS):
-        began = time.perf_counter()
-        reply = session.ask(lines[k % len(lines)])
-        times.append((time.perf_counter() - began) * 1000)
+        reply, seconds = session.timed(lines[k % len(lines)])
+        times.append(seconds * 1000)
         if reply[0] != "ok 1":
             raise Wrong(f"{lines[k % len(lines)]} is answered {reply[0]}")
     session.quit()

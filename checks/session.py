@@ -16,6 +16,7 @@ import subprocess
 import tempfile
 import threading
 import time
+import time
 from concurrent.futures import ThreadPoolExecutor
 from pathlib import Path
 from typing import IO, Callable, Iterable, NamedTuple, Sequence, TypeVar
@@ -118,6 +119,12 @@ class Talk:
     def ask(self, line: str) -> list[str]:
         self.send(line.encode() + b"\n")
         return self.hear()
+
+    def timed(self, line: str) -> tuple[list[str], float]:
+        """The reply to a line, and the seconds from the line sent to the last byte read."""
+        began = time.perf_counter()
+        reply = self.ask(line)
+        return reply, time.perf_counter() - began
 
     def rows(self, line: str) -> list[list[str]]:
         """The lines of the reply to a line that isn't refused, each split into words."""
