@@ -8,6 +8,7 @@ use Rattle.hd_terms.specs.Paths.{Standing}
 use Rattle.hd_terms.specs.Settled.{Reached, Settled, reached_at, IsBefore, IsSupported}
 use Rattle.hd_terms.specs.Regions.{Holding, IsWithout, by_support}
 use Rattle.hd_terms.proofs.RankLemmas.{least-positive}
+use Rattle.hd_repair.specs.Alone.{AreSought}
 use Rattle.hd_repair.specs.Hanging.{NoneLate}
 use Rattle.hd_repair.specs.Losing.{AreLoosened, HoldNone, IsLost, IsSince, IsUnderway, Progress, waits, hangs, is_lifted, is_gone}
 use Rattle.hd_repair.specs.Spreading.{EdgeTo, IsBacked, IsInOrder, IsSpreading, RootOn, offered_strength, rank_at}
@@ -132,9 +133,10 @@ module _ (less more : Standing) (lost : List Holding) (n : ℕ) (ks0 ks : List R
     before = refl;
   }
 
--- once nothing waits, what is left is spreading, but for what leads to what is gone
-module _ (less more : Standing) (lost : List Holding) (n : ℕ) (ks0 ks : List Reached) (p : Progress) (w : IsWithout less more lost) (h0 : Settled more ks0)
-    (h : IsUnderway less n ks p NoneLate) (f : IsSince ks0 lost ks p) (empty : p.waiting ≡ []) where
+-- once nothing waits, what is left is spreading, but for what leads to what is sought
+module _ (less more : Standing) (lost : List Holding) (n : ℕ) (ks0 ks : List Reached) (p : Progress) (sought : List ℕ) (w : IsWithout less more lost)
+    (h0 : Settled more ks0) (h : IsUnderway less n ks p NoneLate) (f : IsSince ks0 lost ks p) (empty : p.waiting ≡ [])
+    (searched : AreSought less ks p.gone sought) where
   order : (o : ℕ) (by : Support) → (reached_at ks o).support ≡ by → IsInOrder ks (reached_at ks o) by
   order o supports.Nothing is = tt
   order o (supports.Root number) is = tt
@@ -143,7 +145,7 @@ module _ (less more : Standing) (lost : List Holding) (n : ℕ) (ks0 ks : List R
     | inr before ↦ before
   ]
 
-  pub end_losing : IsSpreading less ks [] (RootOn p.gone) (EdgeTo p.gone)
+  pub end_losing : IsSpreading less ks [] (RootOn sought) (EdgeTo sought)
   end_losing = record {
     supported = λ o. elim (h.backed o) [
       | inl c ↦ absurd (in_none o (rw empty at c))
@@ -152,11 +154,19 @@ module _ (less more : Standing) (lost : List Holding) (n : ℕ) (ks0 ks : List R
     in_order = λ o. order o (reached_at ks o).support refl;
     backed = λ x (k, lt, is). absurd (omega arith);
     by_roots = λ r stands. elim (f.strengths r.target) [
-      | inl gone ↦ inl gone
+      | inl gone ↦ elim (searched.which r.target gone) [
+        | inl is ↦ inl is
+        | inr alone ↦ absurd (alone.roots r stands refl)
+      ]
       | inr same ↦ inr (inl (rw (same, h0.by_roots r (w.roots_within r stands)) (omega arith)))
     ];
     by_edges = λ e stands. elim (f.strengths e.target) [
-      | inl gone ↦ inl gone
+      | inl gone ↦ elim (searched.which e.target gone) [
+        | inl is ↦ inl is
+        | inr alone ↦ inr (λ passes.
+            let z : rank_at ks e.source ≡ 0 = ap rank (alone.edges e stands refl) in
+            absurd (omega (arith, least-positive less.mode, passes)))
+      ]
       | inr same ↦ inr (λ passes. elim (f.strengths e.source) [
         | inl gone ↦ let z : rank_at ks e.source ≡ 0 = ap rank (h.gone e.source gone).1 in absurd (omega (arith, least-positive less.mode, passes))
         | inr there ↦

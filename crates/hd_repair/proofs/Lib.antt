@@ -16,4 +16,5 @@ pub mod DetachLemmas
 pub mod RehangLemmas
 pub mod BeginLemmas
 pub mod LossLemmas
+pub mod AloneLemmas
 pub mod GainLemmas

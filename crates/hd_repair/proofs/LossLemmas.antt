@@ -43,6 +43,7 @@ use Rattle.hd_terms.specs.Regions.{Holding}
 use Rattle.hd_terms.specs.Regions.{IsWithout, InLossRegion, AreChanges}
 use Rattle.hd_terms.specs.EdgeRows.{Rows, degree}
 use Rattle.hd_repair.specs.Changing.{AreChangesAmong}
+use Rattle.hd_repair.specs.Alone.{AreSought}
 use Rattle.hd_repair.specs.Hanging.{NoneLate}
 use Rattle.hd_repair.specs.Losing.{looks_due, sources_of, targets_of, IsSince, IsUnderway, Progress, hangs, is_gone, is_lifted}
 use Rattle.hd_repair.specs.Spreading.{AreRises, IsRise, rank_at}
@@ -190,18 +191,19 @@ module _ (less more : Standing) (lost : List Holding) (n : ℕ) (ks0 ks ks' : Li
       )
 
   -- the looks of the three phases
-  pub few_looks : (r : Rows) (looks0 looks1 looks2 looks3 : ℕ) → looks1 ≤ looks0 + looks_due r p → looks2 ≤ looks1 + sum_by (sources_of r) p.gone
+  pub few_looks : (r : Rows) (looks0 looks1 looks2 looks3 : ℕ) (sought : List ℕ) → AreSought less ks p.gone sought
+      → looks1 ≤ looks0 + looks_due r p → looks2 ≤ looks1 + sum_by (sources_of r) sought
       → looks3 ≤ looks2 + sum_by (targets_of r) (changed_objects changes)
       → (whole : List ℕ) → ((o : ℕ) → InLossRegion ks0 lost o → Contains whole o) → looks3 ≤ looks0 + 2 * sum_by (degree r) whole
-  few_looks r looks0 looks1 looks2 looks3 a b c whole all =
+  few_looks r looks0 looks1 looks2 looks3 sought searching a b c whole all =
       let searched : sum_by (sources_of r) (p.rehung ++ p.gone) ≤ sum_by (sources_of r) whole = sum_by-part (sources_of r) (p.rehung ++ p.gone) whole
       (NoneTwice-append p.rehung p.gone h.distinct.rehung h.distinct.gone (λ x again gone. loose_not_hung ks x (h.gone x gone).0 (h.rehung x again)))
       (λ x c. all x (elim (Contains-append_cases p.rehung p.gone x c) [ inl again ↦ f.hit x (hangs again) | inr gone ↦ f.hit x (is_gone gone) ])) in
       let followed : sum_by (targets_of r) (p.gone ++ p.lifted) ≤ sum_by (targets_of r) whole = sum_by-part (targets_of r) (p.gone ++ p.lifted) whole
       (NoneTwice-append p.gone p.lifted h.distinct.gone h.distinct.lifted lifted_not_gone)
       (λ x c. all x (elim (Contains-append_cases p.gone p.lifted x c) [ inl gone ↦ f.hit x (is_gone gone) | inr lifts ↦ f.hit x (is_lifted lifts) ])) in
-      let offered : sum_by (sources_of r) p.gone ≤ sum_by (sources_of r) whole =
-      sum_by-part (sources_of r) p.gone whole h.distinct.gone (λ x gone. all x (f.hit x (is_gone gone))) in
+      let offered : sum_by (sources_of r) sought ≤ sum_by (sources_of r) whole =
+      sum_by-part (sources_of r) sought whole searching.once (λ x c. all x (f.hit x (is_gone (searching.part x c)))) in
       let again : sum_by (targets_of r) (changed_objects changes) ≤ sum_by (targets_of r) whole =
       sum_by-part (targets_of r) (changed_objects changes) whole changed.once (λ x rises. all x (f.hit x (is_gone (changed_is_gone x rises)))) in
       omega (

@@ -3,4 +3,5 @@ pub mod OffersInside
 pub mod Spreading
 pub mod Hanging
 pub mod Losing
+pub mod Alone
 pub mod Changing

@@ -35,6 +35,18 @@ without_support k = record { strength = strengths.Unreachable; support = support
 abbrev pub Joins : (waiting waiting' : List ℕ) → ℕ → Type 0
 Joins waiting waiting' o = (waiting' ≡ waiting ++ o ∷ []) ⊎ (waiting' ≡ o ∷ waiting)
 
+-- o was held up by holder, and isn't any more
+pub record IsLoose (ks ks' : List Reached) (o : ℕ) (holder : Support) : Type 0 where
+  pub held : (reached_at ks o).support ≡ holder
+  pub here : reached_at ks' o ≡ loosened (reached_at ks o)
+  pub others : (x : ℕ) → x ≢ o → reached_at ks' x ≡ reached_at ks x
+  pub count : length ks' ≡ length ks
+
+-- o isn't held up by holder, and nothing changes
+pub record IsHeldOtherwise (ks ks' : List Reached) (o : ℕ) (holder : Support) : Type 0 where
+  pub not_held : (reached_at ks o).support ≢ holder
+  pub same_kept : ks' ≡ ks
+
 -- o was held up by holder, and waits
 pub record IsLoosened (ks ks' : List Reached) (waiting waiting' : List ℕ) (o : ℕ) (holder : Support) : Type 0 where
   pub held : (reached_at ks o).support ≡ holder

@@ -68,7 +68,7 @@ pub fn lose<E: Edges>(
 {
     kept.are_few();
     let losing = rehang_or_detach(alloc, edges, kept, lost)?;
-    let offers = offer_each(alloc, edges, &losing.gone.objects, kept)?;
+    let offers = offer_each(alloc, edges, &losing.sought, kept)?;
     let _rises = spread(alloc, edges, kept, offers)?;
     let changes = changes_of(alloc, &losing.gone, kept)?;
     Ok(changes)

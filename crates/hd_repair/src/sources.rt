@@ -3,6 +3,7 @@ ghost use Rattle.std.specs.Prelude.{◌≡◌, ◌+◌, ◌<◌, ◌≤◌, ◌�
 ghost use Rattle.hd_terms.specs.Ranks.{rank};
 ghost use Rattle.hd_terms.specs.Settled.{reached_at, PassesOn};
 ghost use Rattle.hd_edges.specs.Marks.{marked_edge};
+ghost use Rattle.hd_repair.specs.Alone.{HasOneSource};
 ghost use Rattle.hd_repair.specs.Hanging.{AreInOrder, HaveSources, IsGiven, IsHung, IsSupportFor, NoneLate};
 ghost use Rattle.hd_repair.specs.Losing.{sources_of};
 ghost use Rattle.hd_repair.specs.Spreading.{rank_at, offered_strength, IsEdgeWithin};
@@ -106,8 +107,9 @@ fn is_enough(kept: &Supports, support: Option<Support>, o: u32, compared: u32) -
 /// Whether no root is on an object, and only one edge leads to it. If it lost its support, that was this edge.
 pub(crate) fn has_one_source<E: Edges>(edges: &E, o: u32) -> bool
     requires { o < (E.rows edges.now).objects }
+    ensures { result ≡ true → HasOneSource (E.rows edges.now) o }
 {
-    edges.root_len(o) == 0 && edges.into_len(o) == 1
+    edges.into_len(o) == 1 && edges.root_len(o) == 0
 }
 
 /// How many steps over stored chains are allowed for each edge that is looked at.

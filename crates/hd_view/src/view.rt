@@ -49,7 +49,7 @@ fn one_more(looks: u64) -> u64
     looks.saturating_add(1)
 }
 
-/// The edge in the slot at an index of an object, and whether it stands.
+/// The edge in the slot at an index of an object, and whether it stands. The ID in the slot isn't read.
 fn edge_mark(edited: Edited<'_>, o: u32, index: u32) -> EdgeMark
     requires removed { IsRemovedBy edited.graph.now edited.front.now edited.removed.now }
     requires object { o < length edited.graph.now.objects }
@@ -57,13 +57,14 @@ fn edge_mark(edited: Edited<'_>, o: u32, index: u32) -> EdgeMark
     requires edge { (s : SlotEntry) → slice_get (object_at edited.graph.now o).slots index ≡ Some s → is_edge edited.graph.now s ≡ true }
     ensures { IsMark edited.entry.graph.now edited.entry.front.now o index (marked_edge result) }
 {
-    let read = edited.graph.slots(o, index);
+    let name = edited.graph.slot_name(o, index);
+    let target = edited.graph.targets(o).get(index);
     EdgeMark {
         source: o,
-        slot: read.slot,
-        target: read.target.unwrap(),
-        kind: read.kind,
-        stands: !edited.removed.slot(o, index, read.kind),
+        slot: name.slot,
+        target: target.unwrap(),
+        kind: name.kind,
+        stands: !edited.removed.slot(o, index, name.kind),
     }
 }
 

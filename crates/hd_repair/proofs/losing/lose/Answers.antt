@@ -8,17 +8,19 @@ use Rattle.hd_repair.proofs.losing.lose.Goals as goal
 
 pub offer_each-requires-clause-objects : goal.offer_each-requires-clause-objects
 offer_each-requires-clause-objects g c =
-    let gone = c.in_ok-losing.losing.gone.objects.items in
+    let sought = c.in_ok-losing.losing.sought.items in
     rw (c.deref.ensures.value, c.rehang_or_detach.ensures.same)
-    (λ k d lt. c.in_ok-losing.ensures.underway.distinct.within (get_or gone k d) (is_gone (Contains-get_or gone k d lt)))
+    (λ k d lt. c.in_ok-losing.ensures.underway.distinct.within (get_or sought k d)
+    (is_gone (c.in_ok-losing.ensures.sought.part (get_or sought k d) (Contains-get_or sought k d lt))))
 
 pub offer_each-requires-clause-spreading : goal.offer_each-requires-clause-spreading
 offer_each-requires-clause-spreading g c =
     let r = g.E.Edges.rows c.args.edges.now in
     let w = c.requires.settled in
     rw (c.deref.ensures.value, c.rehang_or_detach.ensures.same)
-    (end_losing r.standing w.before c.args.lost.now r.objects c.args.kept.now c.rehang_or_detach.new.kept (progress_of c.in_ok-losing.losing) w.without
-    w.settled c.in_ok-losing.ensures.underway c.in_ok-losing.ensures.since c.in_ok-losing.ensures.none)
+    (end_losing r.standing w.before c.args.lost.now r.objects c.args.kept.now c.rehang_or_detach.new.kept (progress_of c.in_ok-losing.losing)
+    c.in_ok-losing.losing.sought.items w.without w.settled c.in_ok-losing.ensures.underway c.in_ok-losing.ensures.since c.in_ok-losing.ensures.none
+    c.in_ok-losing.ensures.sought)
 
 pub spread-requires-clause-targets : goal.spread-requires-clause-targets
 spread-requires-clause-targets g c = rw c.offer_each.ensures.same c.in_ok-offers.ensures.targets
@@ -59,7 +61,7 @@ returns-clause-looks g c =
     few_looks r.standing c.requires.settled.before c.args.lost.now r.objects c.args.kept.now c.rehang_or_detach.new.kept c.spread.new.kept
     (progress_of c.in_ok-losing.losing) c.in_ok-_rises._rises.items
     c.requires.settled.without c.requires.settled.settled settled c.in_ok-losing.ensures.underway c.in_ok-losing.ensures.since
-    c.in_ok-_rises.ensures.changes r _ _ _ _ first second third
+    c.in_ok-_rises.ensures.changes r _ _ _ _ c.in_ok-losing.losing.sought.items c.in_ok-losing.ensures.sought first second third
 
 pub returns-clause-stamps : goal.returns-clause-stamps
 returns-clause-stamps g c =

@@ -1,9 +1,10 @@
-use Rattle.std.proofs.Common.{◌≡◌, ◌≤◌, length, arith}
+use Rattle.std.proofs.Common.{◌≡◌, ◌∙◌, ◌≤◌, length, arith}
 use Rattle.hd_terms.specs.EdgeRows.{AreRows}
 use Rattle.hd_repair.specs.Losing.{progress_of, LateFrom}
 use Rattle.hd_repair.proofs.DistinctLemmas.{length-different}
 use Rattle.hd_repair.specs.Losing.{is_lifted}
 use Rattle.hd_repair.proofs.RehangLemmas.{begin_lifting, rehung_early, rehung_late, since_early, since_late, since_lifted, underway_lifted, with_rehung}
+use Rattle.hd_repair.proofs.AloneLemmas.{strengths_stay}
 use Rattle.hd_repair.proofs.rehanging.rehang.Goals as goal
 
 pub stamp_after-least-requires-clause-room : goal.stamp_after-least-requires-clause-room
@@ -77,3 +78,11 @@ returns-clause-since g c ks0 lost f =
     c.in_ok-put-2.ensures.here ks0 lost f in
     rw c.in_ok-push.ensures.items (since_lifted ks0 lost c.put-2.new.self (with_rehung c.args.o lifted' p) late c.lift_below.new.kept
     c.lift_below.new.lifted.items c.in_ok-lift_below.ensures.lifted)
+
+pub returns-then-least-stamp-clause-strengths : goal.returns-then-least-stamp-clause-strengths
+returns-then-least-stamp-clause-strengths g c = strengths_stay c.args.kept.now c.put.new.self c.args.o _ c.in_ok-put.ensures.here c.strength-strength.ensures
+    c.in_ok-put.ensures.others
+
+pub returns-clause-strengths : goal.returns-clause-strengths
+returns-clause-strengths g c x = c.in_ok-lift_below.ensures.lifted.same_strength x ∙
+    strengths_stay c.args.kept.now c.put-2.new.self c.args.o _ c.in_ok-put-2.ensures.here c.strength-strength.ensures c.in_ok-put-2.ensures.others x

@@ -1,4 +1,5 @@
 use Rattle.std.proofs.Common.{◌≡◌, ◌∙◌, ℕ, inl, inr, List, ap, sym, refl}
+use Rattle.std.proofs.lemmas.Bool.{cases_eq}
 use Rattle.hd_terms.specs.declared.Slot.{Slot}
 use Rattle.hd_terms.specs.declared.Strength.TheVariants as strengths
 use Rattle.hd_terms.specs.declared.Support.TheVariants as supports
@@ -7,7 +8,7 @@ use Rattle.hd_terms.specs.Settled.{Reached, reached_at}
 use Rattle.hd_terms.specs.EdgeRows.{Rows}
 use Rattle.hd_repair.specs.Hanging.{NoneLate}
 use Rattle.hd_repair.specs.Losing.{before_all, progress_of, without_support, IsUnderway, Progress, SupportNone}
-use Rattle.hd_repair.proofs.UnderwayLemmas.{underway_loosened, with_waiting}
+use Rattle.hd_repair.proofs.UnderwayLemmas.{loosened_strength, underway_loosened, with_waiting}
 use Rattle.hd_repair.proofs.DetachLemmas.{since_gone, since_loosened, supports_none, underway_gone}
 use Rattle.hd_repair.proofs.waiting.detach.Goals as goal
 
@@ -60,3 +61,18 @@ returns-clause-since g c ks0 lost f =
     (none_from r laws r.objects ks1 o (before_all o (with_waiting waiting' p)) h c.in_ok-loosen_below.ensures.none) c.put.ensures.count here
     c.in_ok-put.ensures.others ks0 lost
     (since_loosened r.standing r.objects ks ks1 o p waiting' c.requires.underway a ks0 lost f) c.strength-strength.ensures)
+
+pub returns-clause-unreachable : goal.returns-clause-unreachable
+returns-clause-unreachable g c = ap (λ (k : Reached). k.strength) c.in_ok-put.ensures.here
+
+pub returns-clause-at_most : goal.returns-clause-at_most
+returns-clause-at_most g c x =
+    let rows = g.E.Edges.rows in
+    let r = rows c.args.edges.now in
+    let o = c.args.o in
+    elim (cases_eq x o) [
+      | inl same ↦ inr (rw same (ap (λ (k : Reached). k.strength) c.in_ok-put.ensures.here))
+      | inr other ↦ inl (ap (λ (k : Reached). k.strength) (c.in_ok-put.ensures.others x other) ∙
+          loosened_strength r.standing r.objects c.args.kept.now c.loosen_below.new.kept o (progress_of c.args.losing.now)
+          c.loosen_below.new.waiting.items c.requires.underway c.in_ok-loosen_below.ensures.loosened x)
+    ]

@@ -5,6 +5,7 @@ use Rattle.hd_terms.specs.EdgeRows.{AreRows, MarkedEdge}
 use Rattle.hd_edges.specs.Marks.{marked_edge}
 use Rattle.hd_repair.specs.Losing.{IsFrom, SupportNone}
 use Rattle.hd_repair.proofs.OutLemmas.{Contains-slice_get, take_one_more}
+use Rattle.hd_repair.proofs.AloneLemmas.{join_step, none_joined}
 use Rattle.hd_repair.proofs.WaitLemmas.{none_loosened, loosen_step, support_more}
 use Rattle.hd_repair.proofs.waiting.loosen_below.Goals as goal
 
@@ -14,6 +15,7 @@ loop-i-init g c = record {
   looks = omega arith;
   count = refl;
   loosened = none_loosened c.args.kept.now c.args.waiting.now.items (IsFrom c.args.o);
+  alone = none_joined (g.E.Edges.rows c.args.edges.now) c.args.waiting.now.items c.args.alone.now c.args.o c.requires.few;
   none = λ y (k, lt, is). absurd (omega arith);
 }
 
@@ -28,7 +30,7 @@ loosen_if_held-requires g c =
     let within = laws.out_target c.args.o (marked_edge c.out-edge.result)
     (Contains-slice_get (r.out c.args.o) c.loop-i.i (marked_edge c.out-edge.result) lt value) in
     let now : rows c.out-edge.new.self ≡ r = c.out-edge.ensures.same ∙ same in
-    record { object = rw now within; count = rw now (c.loop-i.invariant.count ∙ c.requires.count) }
+    record { object = rw now within; count = rw now (c.loop-i.invariant.count ∙ c.requires.count); few = c.loop-i.invariant.alone.few }
 
 pub loop-i-preserved : goal.loop-i-preserved
 loop-i-preserved g c =
@@ -40,12 +42,16 @@ loop-i-preserved g c =
     let value = rw same at c.out-edge.ensures.value in
     let holder = supports.Edge c.args.o y.edge.slot in
     let d = c.in_ok-loosen_if_held.ensures.ok in
+    let now : rows c.out-edge.new.self ≡ r = c.out-edge.ensures.same ∙ same in
     record {
       same = c.out-edge.ensures.same ∙ same;
       looks = omega (arith, c.out-edge.ensures.counted, c.loop-i.invariant.looks);
       count = c.loosen_if_held.ensures.count ∙ c.loop-i.invariant.count;
       loosened = loosen_step c.args.kept.now c.loop-i.kept c.loosen_if_held.new.kept c.args.waiting.now.items c.loop-i.waiting.items
           c.loosen_if_held.new.waiting.items (IsFrom c.args.o) y.edge.target holder (λ e. cc) c.loop-i.invariant.loosened (y.edge.slot, refl) d;
+      alone = join_step r c.args.waiting.now.items c.args.alone.now c.args.o c.loop-i.waiting.items c.loosen_if_held.new.waiting.items c.loop-i.alone
+          c.loosen_if_held.new.alone y.edge.target y (Contains-slice_get (r.out c.args.o) c.loop-i.i y lt value) refl c.loop-i.invariant.alone
+          (rw now at c.in_ok-loosen_if_held.ensures.alone);
       none = subst (λ (ys : List MarkedEdge). SupportNone c.loosen_if_held.new.kept c.args.o ys) (sym (take_one_more (r.out c.args.o) c.loop-i.i y lt value))
           (support_more c.loop-i.kept c.loosen_if_held.new.kept c.loop-i.waiting.items c.loosen_if_held.new.waiting.items y.edge.target holder (λ e. cc) d
           c.args.o (take c.loop-i.i (r.out c.args.o)) y refl refl c.loop-i.invariant.none);
