@@ -106,6 +106,10 @@ pub trait Edges {
         requires { o < (rows self.now).objects }
         ensures { result ≡ length ((rows self.now).out o) };
 
+    /// Reads where the edges from an object lie, if there is an object of this number, so that a look at them waits less for
+    /// memory. No edge is read. The answer means nothing.
+    fn read_ahead(&self, o: u32) -> u32;
+
     /// The edge at an index of those from an object.
     fn out(&mut self, o: u32, i: u32) -> EdgeMark
         requires object { o < (rows self.old).objects }

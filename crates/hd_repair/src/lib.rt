@@ -41,6 +41,7 @@
 //! own (`Supports::share`) and keeps the old one.
 #![tactic(auto)]
 
+mod ahead;
 mod best;
 mod change;
 mod gaining;

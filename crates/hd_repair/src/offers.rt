@@ -104,6 +104,29 @@ impl Offers {
         Ok(())
     }
 
+    /// The queue of the offers that give the most.
+    fn greatest(&self) -> &VecDeque<Queued> {
+        if !self.strong.is_empty() {
+            return &self.strong;
+        }
+        if !self.soft.is_empty() {
+            return &self.soft;
+        }
+        if !self.weak.is_empty() {
+            return &self.weak;
+        }
+        if !self.finals.is_empty() {
+            return &self.finals;
+        }
+        &self.phantom
+    }
+
+    /// The target of an offer of those that give the most, at an index from the earliest on.
+    pub(crate) fn coming(&self, i: usize) -> Option<u32> {
+        let queued = self.greatest().get(i)?;
+        Some(queued.target)
+    }
+
     /// Takes out the earliest of the offers that give the most.
     pub(crate) fn pop_best(&mut self) -> Option<Offer>
         ensures none { IfNone result (self.old ≡ []) }

@@ -10,6 +10,7 @@ ghost use Rattle.hd_repair.specs.Hanging.{IsSupportFor, NoneLate};
 ghost use Rattle.hd_repair.specs.Losing.{before_all, looks_due, progress_of, sources_of, IsSince, IsUnderway};
 ghost use Rattle.hd_repair.specs.Spreading.{rank_at};
 
+use crate::ahead::{Ahead, BATCH, read_object};
 use crate::lifting::lift_below;
 use crate::sources::find_support;
 use crate::waiting::{Losing, Region, detach, loosen_lost, take_next};
@@ -17,6 +18,7 @@ use hd_edges::{Edges, Held};
 use hd_supports::Supports;
 use hd_terms::{NoMemory, Strength, Support};
 use std::alloc::Global;
+use std::collections::VecDeque;
 
 /// How many steps over stored chains a loss may take, beside those for each edge that is looked at.
 const MOST_STEPS: u64 = 1 << 20;
@@ -114,6 +116,20 @@ fn settle_next<E: Edges>(
     Ok(())
 }
 
+/// Reads what the next objects that wait will ask for, once for each batch of them.
+fn look_ahead<E: Edges>(edges: &E, kept: &Supports, waiting: &VecDeque<u32>, ahead: &mut Ahead) {
+    if !ahead.is_due() {
+        return;
+    }
+    let mut sum: u32 = 0;
+    for i in 0..BATCH {
+        if let Some(o) = waiting.get(i) {
+            sum = sum.wrapping_add(read_object(edges, kept, *o));
+        }
+    }
+    ahead.note(sum);
+}
+
 /// Hangs each object that lost its support on another one, or detaches it.
 pub(crate) fn rehang_or_detach<E: Edges>(
     alloc: Global,
@@ -147,7 +163,9 @@ pub(crate) fn rehang_or_detach<E: Edges>(
         sought: Vec::new(alloc),
     };
     let mut steps = MOST_STEPS;
+    let mut ahead = Ahead::none();
     while let Some((o, is_alone)) = take_next(&mut losing) {
+        look_ahead(edges, kept, &losing.waiting, &mut ahead);
         settle_next(edges, kept, &mut losing, o, is_alone, &mut steps)?;
     }
     Ok(losing)

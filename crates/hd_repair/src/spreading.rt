@@ -9,6 +9,7 @@ ghost use Rattle.hd_edges.specs.Marks.{marked_edge};
 ghost use Rattle.hd_repair.specs.declared.offers.Offer.{Offer as OneOffer};
 ghost use Rattle.hd_repair.specs.Spreading.{rank_at, offered_strength, AddsOffers, AreRises, IsAccepted, IsBacked, IsDeclined, IsEdgeWithin, IsOfferOf, IsSpreading, NoEdge, NoRoot};
 
+use crate::ahead::{Ahead, BATCH, read_object};
 use crate::change::Change;
 use crate::offers::{Offer, Offers};
 use hd_edges::{EdgeMark, Edges};
@@ -110,6 +111,20 @@ fn accept_offer<E: Edges>(
     Ok(())
 }
 
+/// Reads what the next offers will ask for, once for each batch of them.
+fn look_ahead<E: Edges>(edges: &E, kept: &Supports, offers: &Offers, ahead: &mut Ahead) {
+    if !ahead.is_due() {
+        return;
+    }
+    let mut sum: u32 = 0;
+    for i in 0..BATCH {
+        if let Some(target) = offers.coming(i) {
+            sum = sum.wrapping_add(read_object(edges, kept, target));
+        }
+    }
+    ahead.note(sum);
+}
+
 /// Accepts offers, the greatest first, until none is left, and tells what has changed.
 pub(crate) fn spread<E: Edges>(
     alloc: Global,
@@ -129,7 +144,9 @@ pub(crate) fn spread<E: Edges>(
 {
     kept.are_few();
     let mut changes = Vec::new(alloc);
+    let mut ahead = Ahead::none();
     while let Some(offer) = offers.pop_best() {
+        look_ahead(edges, kept, &offers, &mut ahead);
         accept_offer(alloc, edges, kept, &mut offers, &mut changes, offer)?;
     }
     Ok(changes)

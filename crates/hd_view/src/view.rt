@@ -49,6 +49,15 @@ fn one_more(looks: u64) -> u64
     looks.saturating_add(1)
 }
 
+/// Reads where the row of an object begins, and what shape the object has. The answer means nothing.
+fn read_row(graph: &Graph, o: u32) -> u32 {
+    if o >= graph.objects() {
+        return 0;
+    }
+    let shape = u32::from(graph.referent_of(o).is_some());
+    graph.slots_len(o).wrapping_add(shape)
+}
+
 /// The edge in the slot at an index of an object, and whether it stands. The ID in the slot isn't read.
 fn edge_mark(edited: Edited<'_>, o: u32, index: u32) -> EdgeMark
     requires removed { IsRemovedBy edited.graph.now edited.front.now edited.removed.now }
@@ -132,6 +141,10 @@ impl Edges for View<'_> {
 
     fn out_len(&self, o: u32) -> u32 {
         edge_count(self.edited.graph, o)
+    }
+
+    fn read_ahead(&self, o: u32) -> u32 {
+        read_row(self.edited.graph, o)
     }
 
     fn out(&mut self, o: u32, i: u32) -> EdgeMark {
