@@ -1,6 +1,7 @@
 pub mod Fallen
 pub mod Members
 pub mod Totals
+pub mod Placed
 pub mod Keys
 pub mod Running
 pub mod Counting

@@ -7,6 +7,7 @@ ghost use Rattle.hd_totals.specs.Members.{InRange};
 ghost use Rattle.hd_totals.specs.Running.{plus_one, less_one, IsRowPut};
 ghost use Rattle.hd_totals.specs.Totals.{place_of, row_at, total_in, AreTotals, AreTotalsBefore, CanChange};
 
+use crate::ahead::Ahead;
 use crate::counting::{Counted, count_all};
 use crate::keys::{GroupKeys, key_of};
 use crate::total::{StrengthTotals, Total};
@@ -25,25 +26,38 @@ use std::thread::Threads;
 pub struct GroupTotals {
     pub(crate) keys: Arc<GroupKeys>,
     pub(crate) rows: Pages<StrengthTotals>,
+    /// The group of which an object was moved last, and where its totals are. Changes often come group by group.
+    last: Option<Placed>,
+}
+
+/// A group, and where its totals are.
+#[derive(Clone, Copy)]
+pub(crate) struct Placed {
+    group: Group,
+    place: u32,
 }
 
 impl Drop for GroupTotals {
     /// Drops the fields. A derived drop would be proved anew at each place that lets go of one.
     fn drop(self) {
-        let Self { keys, rows } = self;
+        let Self {
+            keys,
+            rows,
+            last: _,
+        } = self;
     }
 }
 
 impl Model for GroupTotals {
-    ghost use Rattle.std.specs.Prelude.{◌≡◌, length};
     ghost use Rattle.std.specs.Arc.{arc_value};
     ghost use Rattle.hd_totals.specs.Totals.{Totals};
+    ghost use Rattle.hd_totals.specs.Placed.{HavePlaces};
 
     ghost Value = { Totals };
 
     ghost view = { λ t. record { keys = arc_value t.keys; rows = t.rows } };
 
-    ghost invariant = { λ t. length t.rows ≡ length (arc_value t.keys) };
+    ghost invariant = { λ t. HavePlaces (record { keys = arc_value t.keys; rows = t.rows }) t.last };
 }
 
 impl GroupTotals {
@@ -64,7 +78,11 @@ impl GroupTotals {
         let Counted { keys, rows } = count_all(rt, alloc, graph, supports)?;
         let rows = Pages::of_vec(alloc, rows)?;
         let keys = Arc::new(alloc, keys)?;
-        Ok(GroupTotals { keys, rows })
+        Ok(GroupTotals {
+            keys,
+            rows,
+            last: None,
+        })
     }
 
     /// An equal version.
@@ -77,7 +95,8 @@ impl GroupTotals {
     {
         let keys = Arc::try_clone(&self.keys)?;
         let rows = self.rows.share(alloc)?;
-        Ok(GroupTotals { keys, rows })
+        let last = self.last;
+        Ok(GroupTotals { keys, rows, last })
     }
 
     /// Where the totals of a group are, if it is there.
@@ -92,6 +111,19 @@ impl GroupTotals {
             Some(index) => Some(index as u32),
             None => None,
         }
+    }
+
+    /// The same as `place`. Nothing is looked up where the group is the one of which an object was moved last.
+    fn place_again(&self, group: Group) -> Option<u32>
+        ensures place { MatchOption result (length self.now.rows ≤ place_of self.now (group_key group)) (λ i. (i ≡ place_of self.now (group_key group)) × (i < length self.now.rows)) }
+        ensures whole { length self.now.rows ≡ length self.now.keys }
+    {
+        if let Some(last) = self.last
+            && last.group == group
+        {
+            return Some(last.place);
+        }
+        self.place(group)
     }
 
     /// The total of a group and a strength: nothing, where the group isn't there.
@@ -120,13 +152,14 @@ impl GroupTotals {
         requires bytes_room { (total_in self.old group after).bytes + bytes < 2 ^ 64 }
         ensures { OnOk result (IsRowPut self.old self.new (group_key group) (plus_one (less_one (row_at self.old (group_key group)) before bytes) after bytes)) }
     {
-        let Some(place) = self.place(group) else {
+        let Some(place) = self.place_again(group) else {
             return Ok(());
         };
         let mut row = self.rows.get(place);
         row.take(before, bytes);
         row.add(after, bytes);
         self.rows.with(place, row)?;
+        self.last = Some(Placed { group, place });
         Ok(())
     }
 
@@ -140,7 +173,9 @@ impl GroupTotals {
         requires { CanChange graph.now self.old changes.now }
         ensures { OnOk result ((before after : List Reached) → AreTotalsBefore graph.now self.old changes.now before after → AreTotals graph.now after self.new) }
     {
+        let mut ahead = Ahead::none();
         for change in changes {
+            ahead.read(graph, changes);
             let group = graph.group_of(change.object());
             let bytes = graph.bytes_of(change.object());
             self.move_object(group, bytes, change.before(), change.after())?;

@@ -24,6 +24,7 @@
 //!   pages that didn't change in between.
 #![tactic(auto)]
 
+mod ahead;
 mod classes;
 mod counting;
 mod fallen;

@@ -16,7 +16,7 @@ loop-i-preserved c =
     let s = c.args.strength in
     let i = c.loop-i.i in
     let u : Totals = the_view c.totals.inside in
-    let whole : length u.rows ≡ length u.keys = c.totals.invariant in
+    let whole : length u.rows ≡ length u.keys = c.totals.invariant.whole in
     let lt : i < length u.rows = omega (arith, c.loop-i-test.true, c.len-i-end.ensures) in
     let step = gather-step u t c.totals.view_is s i c.deref.result.now c.deref.ensures c.get-in-loop-i.ensures.keys.distinct whole lt
     c.loop-i.rows.items c.loop-i.invariant c.get.result c.get.ensures c.get-in-loop-i.result c.get-in-loop-i.ensures.key in

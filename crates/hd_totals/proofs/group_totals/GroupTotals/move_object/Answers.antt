@@ -17,7 +17,7 @@ returns c =
     let read = read-row u t key place c.get-row.result c.self.view_is c.in-Some.ensures.place.0 c.get-row.ensures in
     let row : c.add.new.self ≡ plus_one (less_one (row_at t key) c.args.before c.args.bytes) c.args.after c.args.bytes =
     c.add.ensures ∙ ap (λ (x : StrengthTotals). plus_one x c.args.after c.args.bytes) (c.take.ensures ∙ ap (λ (x : StrengthTotals). less_one x c.args.before c.args.bytes) read) in
-    subst (λ (x : StrengthTotals). IsRowPut t (the_view (record { keys = c.self.inside.keys; rows = c.with.new.self })) key x) row
+    subst (λ (x : StrengthTotals). IsRowPut t (the_view (record { keys = c.self.inside.keys; rows = c.with.new.self; last = c.self.inside.last })) key x) row
     (put-at u t key place c.add.new.self c.with.new.self c.self.view_is c.in-Some.ensures.place.0 c.in-Some.ensures.place.1 c.in-Some.ensures.whole c.in_ok-with.ensures.ok)
 
 pub take-requires-clause-count : goal.take-requires-clause-count
