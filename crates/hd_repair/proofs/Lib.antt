@@ -17,4 +17,5 @@ pub mod RehangLemmas
 pub mod BeginLemmas
 pub mod LossLemmas
 pub mod AloneLemmas
+pub mod ResupportLemmas
 pub mod GainLemmas

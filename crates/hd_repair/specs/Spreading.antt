@@ -1,5 +1,6 @@
 -- A repair on its way: what is kept, what is offered, and what is still to be looked at.
 use Rattle.std.specs.Prelude.{◌≡◌, ◌≢◌, ℕ, ◌+◌, ◌-◌, ◌^◌, ◌≤◌, ◌<◌, ◌⊎◌, List, [], ◌∷◌, ◌++◌, length, Contains, true, sum_by}
+use Rattle.hd_terms.specs.declared.Mode.{Mode}
 use Rattle.hd_terms.specs.declared.Strength.{Strength}
 use Rattle.hd_terms.specs.declared.Strength.TheVariants as strengths
 use Rattle.hd_terms.specs.declared.Support.{Support}
@@ -12,6 +13,7 @@ use Rattle.hd_terms.specs.Settled.{Reached, reached_at, PassesOn, IsBefore}
 use Rattle.hd_terms.specs.EdgeRows.{MarkedEdge, MarkedRoot}
 use Rattle.hd_terms.specs.Regions.{StrengthChange, changed_objects}
 use Rattle.hd_repair.specs.declared.offers.Offer.{Offer}
+use Rattle.hd_repair.specs.Offering.{AddsOffer}
 
 -- the rank kept of an object
 abbrev pub rank_at : List Reached → ℕ → ℕ
@@ -150,9 +152,40 @@ pub record AreRises (ks0 ks : List Reached) (changes : List StrengthChange) : Ty
   pub others : (o : ℕ) → (Contains (changed_objects changes) o → ⊥) → reached_at ks o ≡ reached_at ks0 o
   pub stamps : (m : ℕ) → ((o : ℕ) → (reached_at ks0 o).stamp ≤ m) → (o : ℕ) → (reached_at ks o).stamp ≤ m + length changes
 
--- no standing one of these roots and edges gives o more than this offer, which is backed
+-- no standing one of these roots and edges gives o more than this offer, which is backed and gives no less than o has; where it
+-- gives no more, its source comes before o
 pub record IsBestSoFar (g : Standing) (ks : List Reached) (o : ℕ) (marks : List MarkedRoot) (entries : List MarkedEdge) (x : Offer) : Type 0 where
   pub target : x.target ≡ o
   pub backed : IsBacked g ks o x.strength x.support
+  pub no_less : rank_at ks o ≤ rank x.strength
+  pub in_order : rank x.strength ≤ rank_at ks o → IsInOrder ks (reached_at ks o) x.support
   pub by_marks : (m : MarkedRoot) → Contains marks m → m.stands ≡ true → 5 ≤ rank x.strength
   pub by_entries : (y : MarkedEdge) → Contains entries y → y.stands ≡ true → PassesOn g.mode (reached_at ks y.edge.source) → rank (offered_strength ks y.edge) ≤ rank x.strength
+
+-- an object comes before the source of a support
+pub record ComesBefore (ks : List Reached) (o : ℕ) (by : Support) : Type 0 where
+  pub source : ℕ
+  pub slot : Slot
+  pub is : by ≡ supports.Edge source slot
+  pub before : IsBefore (reached_at ks o) (reached_at ks source)
+
+-- an edge gives an object what the better one of two offers gives: more than the other, or the same from an earlier source
+pub record IsBetterBy (mode : Mode) (ks : List Reached) (y : MarkedEdge) (x x' : Offer) : Type 0 where
+  pub stands : y.stands ≡ true
+  pub passes_on : PassesOn mode (reached_at ks y.edge.source)
+  pub is : x' ≡ offer_by ks y
+  pub better : (rank x.strength < rank x'.strength) ⊎ ComesBefore ks y.edge.source x.support
+
+-- some objects have other supports, and the same strengths and stamps
+pub record AreResupported (ks ks' : List Reached) (objects : List ℕ) : Type 0 where
+  pub count : length ks' ≡ length ks
+  pub strengths : (o : ℕ) → (reached_at ks' o).strength ≡ (reached_at ks o).strength
+  pub stamps : (o : ℕ) → (reached_at ks' o).stamp ≡ (reached_at ks o).stamp
+  pub others : (o : ℕ) → (Contains objects o → ⊥) → reached_at ks' o ≡ reached_at ks o
+
+-- an offer that gives no more than its target has becomes the support of that, and nothing is offered; or it is added
+pub data IsTaken (ks ks' : List Reached) (offers offers' : List Offer) (x : Offer) : Type 0 where
+  offered : rank_at ks x.target < rank x.strength → ks' ≡ ks → AddsOffer offers offers' x → IsTaken ks ks' offers offers' x
+  held : rank x.strength ≤ rank_at ks x.target → (length ks' ≡ length ks) → offers' ≡ offers
+      → reached_at ks' x.target ≡ record { strength = (reached_at ks x.target).strength; support = x.support; stamp = (reached_at ks x.target).stamp }
+      → ((o : ℕ) → o ≢ x.target → reached_at ks' o ≡ reached_at ks o) → IsTaken ks ks' offers offers' x
