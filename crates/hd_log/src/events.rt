@@ -202,8 +202,8 @@ fn is_same(event: PackedEvent, other: PackedEvent) -> bool
     event == other
 }
 
-/// Whether a list of events begins with another. All are compared: without a way out at the first that differs, several are
-/// compared at a time.
+/// Whether a list of events begins with another. It compares all of them, even where one differs, so no comparison waits for
+/// the one before.
 pub fn begins_with(events: &[PackedEvent], front: &[PackedEvent]) -> bool
     ensures { IsTrue result ↔ begins_with events.now front.now }
 {
