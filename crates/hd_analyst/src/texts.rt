@@ -132,8 +132,7 @@ pub(crate) fn fell_text(alloc: Global, state: &State, mark: &Mark) -> Result<Str
 fn event_rows(alloc: Global, front: &Front) -> Result<Vec<EventRow>, NoMemory>
     ensures { IfOk result (λ rows. rows.items ≡ event_rows front.now) }
 {
-    let live = front.live(alloc)?;
-    let flags = live.as_slice();
+    let flags = front.flags();
     let mut rows = Vec::with_capacity(alloc, front.len() as usize)?;
     for number in 0..front.len() {
         rows.push(EventRow {

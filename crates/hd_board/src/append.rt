@@ -21,7 +21,7 @@ pub fn is_member(first: u8, count: u8, who: u8) -> bool
 pub fn is_found(first: u8, count: u8, who: u8, seen: &Front, log: &Front) -> bool
     ensures { MatchBool result (IsFound (numbers_from first count) who seen.now log.now) (IsForeign (numbers_from first count) who seen.now log.now) }
 {
-    is_member(first, count, who) && log.begins_with(seen) && log.same_own(seen, who)
+    is_member(first, count, who) && log.continues(seen, who)
 }
 
 /// Appends an event to a log, on a board of so many desks whose numbers go from a first one on, over a dump of so many

@@ -253,7 +253,7 @@ impl Desk {
         if self.seen.begins_with(told) {
             return Ok(());
         }
-        if !told.begins_with(&self.seen) || !told.same_own(&self.seen, self.who) {
+        if !told.continues(&self.seen, self.who) {
             return Err(LearnFault::Apart);
         }
         self.seen = told.share()?;

@@ -1,2 +1,3 @@
+pub mod ContinuesLemmas
 pub mod FlagLemmas
 pub mod LastLemmas

@@ -20,7 +20,7 @@ is_live_of seen (k, event) = stays seen k && is_edit event.what
 abbrev pub flags_of : List Event → List Event → List Bool
 flags_of seen log = map (is_live_of seen) (enumerate_from 0 log)
 
--- an undo takes back one of so many events
+-- an undo takes back one of the first n events
 abbrev pub UndoesWithin : Event → ℕ → Type 0
 UndoesWithin event n = (k : ℕ) → event.what ≡ whats.Undo k → k < n
 

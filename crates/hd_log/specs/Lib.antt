@@ -1,2 +1,4 @@
+pub mod Actions
 pub mod Flags
 pub mod FrontInside
+pub mod PackedEvents

@@ -1,11 +1,13 @@
-//! What can be read from a list of events: the live ones, and why it doesn't take one more.
-ghost use Rattle.std.specs.Prelude.{◌≡◌, ◌^◌, ◌<◌, ◌↔◌, [], ◌∷◌, ◌++◌, length, slice_get, None, Some, IfOk, IsTrue, MatchOption};
+//! What can be read from a list of packed events: the live ones, and why it doesn't take one more.
+ghost use Rattle.std.specs.Prelude.{◌≡◌, ◌^◌, ◌<◌, ◌↔◌, [], ◌∷◌, ◌++◌, length, slice_get, None, Some, IfOk, IsTrue, MatchBool};
 ghost use Rattle.hd_terms.specs.declared.Event.{Event};
+ghost use Rattle.hd_terms.specs.Desks.{Continues, Differs};
 ghost use Rattle.hd_terms.specs.Log.{IsLawful, begins_with, edit_of, full_fault, last_live, live_flags, log_fault, own, own_live, undo_fault};
 ghost use Rattle.hd_terms.specs.EditedDump.{adds_root, is_root, live_edit_at};
 ghost use Rattle.hd_terms.specs.Appending.{append_refusal, root_refusal};
 ghost use Rattle.hd_log.specs.Flags.{cleared, is_edit, UndoesWithin};
 
+use crate::packed_event::PackedEvent;
 use hd_terms::{Edit, Event, LogFault, Refusal, What};
 use std::alloc::{AllocError, Global};
 
@@ -23,14 +25,14 @@ fn is_edit(what: What) -> bool
 }
 
 /// Why an analyst may not take back event k, if there is a reason. The flags say which events are live.
-fn undo_fault(events: &[Event], live: &[bool], k: u32, who: u8) -> Option<LogFault>
+fn undo_fault(events: &[PackedEvent], live: &[bool], k: u32, who: u8) -> Option<LogFault>
     requires { live.now ≡ live_flags events.now }
     ensures { result ≡ undo_fault events.now k who (slice_get events.now k) }
 {
     if k as usize >= events.len() {
         return Some(LogFault::NoSuchEvent);
     }
-    let event = events[k as usize];
+    let event = events[k as usize].event();
     if !is_edit(event.what) {
         return Some(LogFault::NoSuchEvent);
     }
@@ -44,7 +46,7 @@ fn undo_fault(events: &[Event], live: &[bool], k: u32, who: u8) -> Option<LogFau
 }
 
 /// Why a log takes no more, if there is a reason.
-fn full_fault(events: &[Event]) -> Option<LogFault>
+fn full_fault(events: &[PackedEvent]) -> Option<LogFault>
     ensures { result ≡ full_fault events.now }
 {
     if events.len() >= LARGEST_LOG {
@@ -55,7 +57,7 @@ fn full_fault(events: &[Event]) -> Option<LogFault>
 }
 
 /// Why a log doesn't take an event, the first reason, if there is one. The flags say which events are live.
-pub fn log_fault(events: &[Event], live: &[bool], event: Event) -> Option<LogFault>
+pub fn log_fault(events: &[PackedEvent], live: &[bool], event: Event) -> Option<LogFault>
     requires { live.now ≡ live_flags events.now }
     ensures { result ≡ log_fault events.now event }
 {
@@ -76,18 +78,18 @@ fn is_add(what: What) -> bool
 }
 
 /// Whether event k is live and adds a root. The flags say which events are live.
-fn adds_root(events: &[Event], live: &[bool], k: u32) -> bool
+fn adds_root(events: &[PackedEvent], live: &[bool], k: u32) -> bool
     requires event { k < length events.now }
     requires flags { live.now ≡ live_flags events.now }
     ensures { result ≡ adds_root (live_edit_at events.now k) }
 {
-    let event = events[k as usize];
+    let event = events[k as usize].event();
     live[k as usize] && is_add(event.what)
 }
 
-/// Whether a root has this number: one of the dump's, of which there are so many, or that of a live event that adds one. The
-/// flags say which events are live.
-pub fn is_root(events: &[Event], live: &[bool], roots: u64, r: u64) -> bool
+/// Whether `r` is the number of a root: one of the dump's, of which there are `roots`, or that of a live event that adds one.
+/// The flags say which events are live.
+pub fn is_root(events: &[PackedEvent], live: &[bool], roots: u64, r: u64) -> bool
     requires few { length events.now < 2 ^ 32 }
     requires flags { live.now ≡ live_flags events.now }
     ensures { result ≡ is_root roots events.now r }
@@ -100,7 +102,7 @@ pub fn is_root(events: &[Event], live: &[bool], roots: u64, r: u64) -> bool
 }
 
 /// Why an edit can't be done to the roots, if there is a reason. The flags say which events are live.
-fn root_refusal(events: &[Event], live: &[bool], roots: u64, edit: Edit) -> Option<Refusal>
+fn root_refusal(events: &[PackedEvent], live: &[bool], roots: u64, edit: Edit) -> Option<Refusal>
     requires few { length events.now < 2 ^ 32 }
     requires flags { live.now ≡ live_flags events.now }
     ensures { result ≡ root_refusal roots events.now edit }
@@ -111,9 +113,14 @@ fn root_refusal(events: &[Event], live: &[bool], roots: u64, edit: Edit) -> Opti
     }
 }
 
-/// Why a log doesn't take an event over a dump of so many roots, the first reason, if there is one. The flags say which events
+/// Why a log doesn't take an event over a dump of `roots` roots, the first reason, if there is one. The flags say which events
 /// are live.
-pub fn append_refusal(events: &[Event], live: &[bool], roots: u64, event: Event) -> Option<Refusal>
+pub fn append_refusal(
+    events: &[PackedEvent],
+    live: &[bool],
+    roots: u64,
+    event: Event,
+) -> Option<Refusal>
     requires few { length events.now < 2 ^ 32 }
     requires flags { live.now ≡ live_flags events.now }
     ensures { result ≡ append_refusal roots events.now event }
@@ -143,7 +150,7 @@ fn clear_undone(flags: &mut Vec<bool>, event: Event)
 /// Of each event of a log with one more, whether it is live, by the flags of the events before.
 pub fn flags_with(
     alloc: Global,
-    events: &[Event],
+    events: &[PackedEvent],
     live: &[bool],
     event: Event,
 ) -> Result<Vec<bool>, AllocError>
@@ -160,13 +167,13 @@ pub fn flags_with(
 }
 
 /// The number of event k, where it is a live one of an analyst. The flags say which events are live.
-fn own_live(events: &[Event], live: &[bool], k: u32, who: u8) -> Option<u32>
+fn own_live(events: &[PackedEvent], live: &[bool], k: u32, who: u8) -> Option<u32>
     requires event { k < length events.now }
     requires flags { live.now ≡ live_flags events.now }
     ensures { (e : Event) → slice_get events.now k ≡ Some e → result ≡ own_live events.now who (k, e) }
 {
-    let event = events[k as usize];
-    if live[k as usize] && event.who == who {
+    let owner = events[k as usize].who();
+    if live[k as usize] && owner == who {
         Some(k)
     } else {
         None
@@ -174,7 +181,7 @@ fn own_live(events: &[Event], live: &[bool], k: u32, who: u8) -> Option<u32>
 }
 
 /// The number of an analyst's last live event, if there is one. The flags say which events are live.
-pub fn last_live(events: &[Event], live: &[bool], who: u8) -> Option<u32>
+pub fn last_live(events: &[PackedEvent], live: &[bool], who: u8) -> Option<u32>
     requires few { length events.now < 2 ^ 32 }
     requires flags { live.now ≡ live_flags events.now }
     ensures { result ≡ last_live events.now who }
@@ -189,57 +196,45 @@ pub fn last_live(events: &[Event], live: &[bool], who: u8) -> Option<u32>
 }
 
 /// Whether two events are one.
-fn is_same(event: Event, other: Event) -> bool
+fn is_same(event: PackedEvent, other: PackedEvent) -> bool
     ensures { IsTrue result ↔ (event ≡ other) }
 {
     event == other
 }
 
-/// Whether a list of events begins with another.
-pub fn begins_with(events: &[Event], front: &[Event]) -> bool
+/// Whether a list of events begins with another. It compares all of them, even where one differs, so no comparison waits for
+/// the one before.
+pub fn begins_with(events: &[PackedEvent], front: &[PackedEvent]) -> bool
     ensures { IsTrue result ↔ begins_with events.now front.now }
 {
     if front.len() > events.len() {
         return false;
     }
+    let mut same = true;
     for (i, event) in front.iter().enumerate() {
-        if !is_same(events[i], *event) {
+        same &= is_same(events[i], *event);
+    }
+    same
+}
+
+/// Whether no event is an analyst's.
+fn are_others(events: &[PackedEvent], who: u8) -> bool
+    ensures { IsTrue result ↔ (own who events.now ≡ []) }
+{
+    for (i, event) in events.iter().enumerate() {
+        if event.who() == who {
             return false;
         }
     }
     true
 }
 
-/// The first event of an analyst, and the events after it, if there is one.
-fn next_own(events: &[Event], who: u8) -> Option<(Event, &[Event])>
-    ensures { MatchOption result (own who events.now ≡ [])
-        (λ r. (own who events.now ≡ r.0 ∷ own who r.1.now) × (length r.1.now < length events.now)) }
+/// Whether a list of events begins with what an analyst has seen, and has no further event of the analyst.
+pub fn continues(events: &[PackedEvent], seen: &[PackedEvent], who: u8) -> bool
+    ensures { MatchBool result (Continues who seen.now events.now) (Differs who seen.now events.now) }
 {
-    for (i, event) in events.iter().enumerate() {
-        if event.who == who {
-            return Some((*event, &events[i + 1..]));
-        }
+    if !begins_with(events, seen) {
+        return false;
     }
-    None
-}
-
-/// Whether two lists of events have the same events of an analyst, in the same order.
-pub fn same_own(events: &[Event], others: &[Event], who: u8) -> bool
-    ensures { IsTrue result ↔ (own who events.now ≡ own who others.now) }
-{
-    let mut rest = events;
-    let mut others_rest = others;
-    loop {
-        let Some((event, after)) = next_own(rest, who) else {
-            return next_own(others_rest, who).is_none();
-        };
-        let Some((other, others_after)) = next_own(others_rest, who) else {
-            return false;
-        };
-        if !is_same(event, other) {
-            return false;
-        }
-        rest = after;
-        others_rest = others_after;
-    }
+    are_others(&events[seen.len()..], who)
 }

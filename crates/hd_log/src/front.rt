@@ -1,11 +1,13 @@
 //! A lawful log as it stands at one time.
-ghost use Rattle.std.specs.Prelude.{◌≡◌, ◌⊎◌, ◌↔◌, ◌<◌, ◌≤◌, ◌++◌, ◌∷◌, [], None, Some, length, slice_get, IfErr, IfOk, IsNone, IsTrue};
+ghost use Rattle.std.specs.Prelude.{◌≡◌, ◌⊎◌, ◌↔◌, ◌<◌, ◌≤◌, ◌++◌, ◌∷◌, [], None, Some, length, slice_get, IfErr, IfOk, IsNone, IsTrue, MatchBool};
 ghost use Rattle.hd_terms.specs.declared.errors.LogFault.TheVariants.{OutOfMemory};
-ghost use Rattle.hd_terms.specs.Log.{IsLawful, begins_with, largest_log, last_live, live_flags, log_fault, own};
+ghost use Rattle.hd_terms.specs.Log.{IsLawful, begins_with, largest_log, last_live, live_flags, log_fault};
+ghost use Rattle.hd_terms.specs.Desks.{Continues, Differs};
 ghost use Rattle.hd_terms.specs.EditedDump.{is_root};
 ghost use Rattle.hd_terms.specs.Appending.{append_refusal};
 
 use crate::events;
+use crate::packed_event::PackedEvent;
 use hd_terms::{Event, LogFault, NoMemory, Refusal, lawful_logs};
 use std::alloc::Global;
 use std::marker::Model;
@@ -16,7 +18,7 @@ use std::sync::Arc;
 /// one have the same events, kept once.
 #[derive(Drop)]
 pub struct Front {
-    events: Arc<Vec<Event>>,
+    events: Arc<Vec<PackedEvent>>,
     live: Arc<Vec<bool>>,
 }
 
@@ -66,7 +68,7 @@ impl Front {
         requires { i < length self.now }
         ensures { slice_get self.now i ≡ Some result }
     {
-        self.events[i as usize]
+        self.events[i as usize].event()
     }
 
     /// Why the log doesn't take an event, the first reason, or `None` where it takes it. It takes no memory.
@@ -77,15 +79,15 @@ impl Front {
         events::log_fault(&self.events, &self.live, *event)
     }
 
-    /// Whether a root has this number over a dump of so many roots: one of the dump's, or that of a live event that adds one.
-    /// It takes no memory.
+    /// Whether `r` is the number of a root over a dump of `roots` roots: one of the dump's, or that of a live event that adds
+    /// one. It takes no memory.
     pub fn is_root(&self, roots: u64, r: u64) -> bool
         ensures { result ≡ is_root roots self.now r }
     {
         events::is_root(&self.events, &self.live, roots, r)
     }
 
-    /// Why an event can't be appended over a dump of so many roots, the first reason, or `None` where it can: what an undo
+    /// Why an event can't be appended over a dump of `roots` roots, the first reason, or `None` where it can: what an undo
     /// names, the root that a drop names, and last that the log is full. It takes no memory.
     pub fn append_refusal(&self, roots: u64, event: &Event) -> Option<Refusal>
         ensures refusal { result ≡ append_refusal roots self.now event.now }
@@ -106,7 +108,7 @@ impl Front {
         let live = events::flags_with(alloc, &self.events, &self.live, event)?;
         let mut events = Vec::with_capacity(alloc, self.events.len() + 1)?;
         events.extend_from_slice(&self.events)?;
-        events.push(event)?;
+        events.push(PackedEvent::new(event))?;
         let events = Arc::new(alloc, events)?;
         let live = Arc::new(alloc, live)?;
         Ok(Front { events, live })
@@ -142,10 +144,11 @@ impl Front {
         events::begins_with(&self.events, &front.events)
     }
 
-    /// Whether an analyst made the same events in both logs, in the same order. It takes no memory.
-    pub fn same_own(&self, front: &Front, who: u8) -> bool
-        ensures { IsTrue result ↔ (own who self.now ≡ own who front.now) }
+    /// Whether the log continues what an analyst has seen: it begins with it, and has no further event of the analyst. It takes
+    /// no memory.
+    pub fn continues(&self, seen: &Front, who: u8) -> bool
+        ensures { MatchBool result (Continues who seen.now self.now) (Differs who seen.now self.now) }
     {
-        events::same_own(&self.events, &front.events, who)
+        events::continues(&self.events, &seen.events, who)
     }
 }

@@ -86,9 +86,9 @@ pub fn root_rows(alloc: Global, edited: Edited<'_>) -> Result<Vec<RootRow>, NoMe
     ensures { IfOk result (λ v. v.items ≡ shown.root_rows edited.entry.graph.now edited.entry.front.now) }
 {
     let mut rows = dump_rows(alloc, edited)?;
-    let live = edited.front.live(alloc)?;
+    let live = edited.front.flags();
     for k in 0..edited.front.len() {
-        if let Some(row) = added_row(edited, &live, k) {
+        if let Some(row) = added_row(edited, live, k) {
             rows.push(row)?;
         }
     }

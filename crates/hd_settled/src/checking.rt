@@ -238,12 +238,12 @@ pub fn is_settled(
         return Ok(false);
     }
     let removed = Removed::of(alloc, graph, front)?;
-    let live = front.live(alloc)?;
+    let live = front.flags();
     let edited = Edited {
         graph,
         front,
         removed: &removed,
     };
-    let settled = all_settled(edited, &live, strengths);
+    let settled = all_settled(edited, live, strengths);
     Ok(settled)
 }

@@ -73,7 +73,8 @@ fn shared_logs(rt: HostRuntime) {
     let empty = Front::empty(rt.alloc()).expect(&rt, "a log is made");
     assert!(rt; shared.begins_with(&front));
     assert!(rt; !empty.begins_with(&front));
-    assert!(rt; shared.same_own(&front, 1));
-    assert!(rt; !shared.same_own(&empty, 1));
-    assert!(rt; shared.same_own(&empty, 2));
+    assert!(rt; shared.continues(&front, 1));
+    assert!(rt; !shared.continues(&empty, 1));
+    assert!(rt; shared.continues(&empty, 2));
+    assert!(rt; !empty.continues(&front, 2));
 }

@@ -124,9 +124,9 @@ fn apply_roots<R: Threads + Sync>(
     ensures { IfOk result (λ parts. AreHolding edited.entry.graph.now edited.entry.front.now whole (root_count edited.entry.graph.now edited.entry.front.now) parts.items) }
 {
     let mut parts = apply_dump_roots(rt, alloc, edited, whole)?;
-    let live = edited.front.live(alloc)?;
+    let live = edited.front.flags();
     for k in 0..edited.front.len() {
-        if let Some(o) = added_object(edited, &live, k) {
+        if let Some(o) = added_object(edited, live, k) {
             let root = u64::from(edited.graph.roots_len()) + u64::from(k);
             hold(&mut parts, o, root);
         }
