@@ -1,7 +1,9 @@
 pub mod CellLemmas
 pub mod Lists
 pub mod FoundLemmas
+pub mod MultisetLemmas
 pub mod RemovedLemmas
+pub mod OneMoreLemmas
 pub mod RowLemmas
 pub mod Weights
 pub mod Rowed

@@ -1,15 +1,14 @@
 -- What edits take away, edit by edit.
-use Rattle.std.proofs.Common.{◌≡◌, ◌∙◌, ℕ, ◌+◌, ◌*◌, ◌<◌, ◌==◌, Bool, true, false, ◌||◌, ◌&&◌, not, cond, nat_eq, nat_lt, List, [], ◌∷◌, ◌++◌, length, take, get_or, Option, Some, None, slice_get, sym, ap, refl, arith, append-nil}
-use Rattle.std.specs.Prelude.{is_some, position}
+use Rattle.std.proofs.Common.{◌≡◌, ◌∙◌, ℕ, ◌+◌, ◌*◌, ◌<◌, ◌==◌, Bool, true, false, ◌||◌, ◌&&◌, not, cond, nat_eq, nat_lt, List, [], ◌∷◌, ◌++◌, length, take, get_or, Option, Some, None, slice_get, sym, ap, subst, refl, arith, append-nil}
+use Rattle.std.specs.Prelude.{◌-◌, is_some, position, count_by}
 use Rattle.std.specs.List.{list_any, filter_map, cons_option, enumerate_from}
 use Rattle.std.proofs.lemmas.Bool.{eqb-true, eq-eqb, ltb-true, lt-ltb, and_parts}
 use Rattle.std.proofs.lemmas.List.{take_all, get_or-map, length-map}
 use Rattle.std.proofs.lemmas.List.Elements.{filter_map-append}
-use Rattle.std.proofs.lemmas.List.Folds.{list_any-append}
 use Rattle.std.proofs.lemmas.List.FromFn.{length-enumerate_from, get_or-enumerate_from}
+use Rattle.std.proofs.lemmas.List.Sums.{sum_by_push}
 use Rattle.std.proofs.lemmas.List.Quantifiers.{position-Some}
 use Rattle.std.proofs.lemmas.Option.{get_or_from_slice_get, slice_get_within}
-use Rattle.indexmap.specs.IndexSet.{insert_key}
 use Rattle.hd_terms.specs.declared.Slot.{Slot}
 use Rattle.hd_terms.specs.declared.EdgeKind.{EdgeKind}
 use Rattle.hd_terms.specs.declared.Edit.{Edit}
@@ -23,14 +22,13 @@ use Rattle.hd_terms.specs.EditedDump.{takes_away, is_slot, same_slot, drops}
 use Rattle.hd_log.proofs.LastLemmas.{numbered_more, by_event}
 use Rattle.hd_terms.specs.Log.{stays, edit_of, live_edit, live_edits, is_live, live_flags}
 use Rattle.hd_strength.specs.declared.cleared.Cleared.{Cleared}
-use Rattle.hd_strength.specs.Cleared.{clears, is_cleared}
-use Rattle.hd_strength.specs.Removed.{slot_key, has_slot, has_root, takes_slot, IsRemovedBy, AreSlots, AreKinds, AreRoots, IsOnlySlot, IsNamedSlot}
+use Rattle.hd_strength.specs.Cleared.{clears, clear_count, is_cleared}
+use Rattle.hd_strength.specs.Multiset.{multiplicity, is_number}
+use Rattle.hd_strength.specs.OneMore.{AreOneMore}
+use Rattle.hd_strength.proofs.MultisetLemmas.{any_counted}
+use Rattle.hd_strength.specs.Removed.{Removals, slot_key, has_slot, slot_count, has_root, takes_slot, AreSlots, AreKinds, AreRoots, IsRemovedBy, IsEditedKey, IsOnlySlot, IsNamedSlot}
 
 -- tests
-or-true_right : (a : Bool) → (a || true) ≡ true
-or-true_right true = refl
-or-true_right false = refl
-
 or-false_right : (a : Bool) → (a || false) ≡ a
 or-false_right true = refl
 or-false_right false = refl
@@ -38,10 +36,6 @@ or-false_right false = refl
 not-not : (a : Bool) → not (not a) ≡ a
 not-not true = refl
 not-not false = refl
-
-and-or : (a b c : Bool) → (a && (b || c)) ≡ ((a && b) || (a && c))
-and-or true b c = refl
-and-or false b c = refl
 
 -- two tests that hold together are one
 same_test : (a b : Bool) → (a ≡ true → b ≡ true) → (b ≡ true → a ≡ true) → a ≡ b
@@ -75,26 +69,12 @@ first-of a b c d h = ap (λ (p : ℕ × ℕ). p.0) (some-pair (a, b) (c, d) h)
 second-of : (a b c d : ℕ) → some_of a b ≡ some_of c d → b ≡ d
 second-of a b c d h = ap (λ (p : ℕ × ℕ). p.1) (some-pair (a, b) (c, d) h)
 
--- one more key in a set
-insert-had : (ks : List ℕ) (k q : ℕ) (c : Bool) → list_any (nat_eq k) ks ≡ true → nat_eq q k ≡ c → list_any (nat_eq q) ks ≡ (list_any (nat_eq q) ks || c)
-insert-had ks k q true had is = let same : q ≡ k = eqb-true q k is in ap (λ (n : ℕ). list_any (nat_eq n) ks) same ∙ had ∙ sym (or-true_right (list_any (nat_eq q) ks))
-insert-had ks k q false had is = sym (or-false_right (list_any (nat_eq q) ks))
+-- a count of none
+none-counted : (b : Bool) → (cond {A = ℕ} b 0 0) ≡ 0
+none-counted true = refl
+none-counted false = refl
 
-insert-by : (ks : List ℕ) (k q : ℕ) (b : Bool) → list_any (nat_eq k) ks ≡ b → list_any (nat_eq q) (cond b ks (ks ++ k ∷ [])) ≡ (list_any (nat_eq q) ks || nat_eq q k)
-insert-by ks k q true e = insert-had ks k q (nat_eq q k) e refl
-insert-by ks k q false e = list_any-append (nat_eq q) ks (k ∷ []) ∙ ap (λ (b : Bool). list_any (nat_eq q) ks || b) (or-false_right (nat_eq q k))
-
-has-insert : (ks : List ℕ) (k q : ℕ) → list_any (nat_eq q) (insert_key nat_eq ks k) ≡ (list_any (nat_eq q) ks || nat_eq q k)
-has-insert ks k q = insert-by ks k q (list_any (nat_eq k) ks) refl
-
--- one more root is taken away
-pub root_removed : (numbers numbers' : List ℕ) (root r : ℕ) → numbers' ≡ insert_key nat_eq numbers root → has_root numbers' r ≡ (has_root numbers r || (root == r))
-unfolding has_root
-root_removed numbers numbers' root r is =
-    let same : nat_eq r root ≡ (root == r) = same_test (nat_eq r root) (root == r) (λ e. eq-eqb root r (sym (eqb-true r root e))) (λ e. eq-eqb r root (sym (eqb-true root r e))) in
-    ap (list_any (nat_eq r)) is ∙ has-insert numbers root r ∙ ap (λ (b : Bool). list_any (nat_eq r) numbers || b) same
-
--- one more slot is taken away, by its key
+-- slots by their keys
 key-cases : (b : Bool) (o i x j : ℕ) → nat_lt i 4294967296 ≡ b → j < 4294967296 → (b && nat_eq (slot_key o i) (slot_key x j)) ≡ true → (o ≡ x) × (i ≡ j)
 key-cases false o i x j lt small h = absurd cc
 key-cases true o i x j lt small h =
@@ -102,30 +82,35 @@ key-cases true o i x j lt small h =
     let same : o * 4294967296 + i ≡ x * 4294967296 + j = eqb-true (slot_key o i) (slot_key x j) h in
     (omega arith, omega arith)
 
-slot-inserted : (keys : List ℕ) (o i x j : ℕ) → has_slot (insert_key nat_eq keys (slot_key x j)) o i ≡ (has_slot keys o i || (nat_lt i 4294967296 && nat_eq (slot_key o i) (slot_key x j)))
-unfolding has_slot
-slot-inserted keys o i x j =
-    ap (λ (b : Bool). nat_lt i 4294967296 && b) (has-insert keys (slot_key x j) (slot_key o i))
-    ∙ and-or (nat_lt i 4294967296) (list_any (nat_eq (slot_key o i)) keys) (nat_eq (slot_key o i) (slot_key x j))
-
 key-same : (i j : ℕ) (k l : ℕ) → k ≡ l → i ≡ j → j < 4294967296 → (nat_lt i 4294967296 && nat_eq k l) ≡ true
 key-same i j k l keys same small = rw (lt-ltb i 4294967296 (omega arith), eq-eqb k l keys) refl
 
--- what an edit takes away
-module _ (dump : Dump) (edit : Edit) (p : Option (ℕ × ℕ)) (only : IsOnlySlot dump (λ x s. takes_slot x s edit) p) (o i : ℕ) (s : SlotEntry)
-    (lt : o < length dump.objects) (at : slice_get (object_at dump o).slots i ≡ Some s) where
-  pub slot_removed : (x j : ℕ) → p ≡ Some (x, j) → j < 4294967296 → (keys keys' : List ℕ) → keys' ≡ insert_key nat_eq keys (slot_key x j) → has_slot keys' o i ≡ (has_slot keys o i || takes_slot (object_at dump o) s edit)
-  slot_removed x j is small keys keys' new =
-      let test : (nat_lt i 4294967296 && nat_eq (slot_key o i) (slot_key x j)) ≡ takes_slot (object_at dump o) s edit =
-      same_test (nat_lt i 4294967296 && nat_eq (slot_key o i) (slot_key x j)) (takes_slot (object_at dump o) s edit)
-      (λ h. let both = key-cases (nat_lt i 4294967296) o i x j refl small h in
-      only.passes o i s (is ∙ ap (λ (n : ℕ). Some (n, j)) (sym both.0) ∙ ap (λ (n : ℕ). Some (o, n)) (sym both.1)) at)
+none-by : (b : Bool) → (b ≡ true → ⊥) → b ≡ false
+none-by true h = absurd (h refl)
+none-by false h = refl
+
+-- the key of the slot that an edit takes the reference from
+module _ (dump : Dump) (edit : Edit) (p : Option (ℕ × ℕ)) (only : IsOnlySlot dump (λ x s. takes_slot x s edit) p) where
+  key-of : (x j : ℕ) → p ≡ Some (x, j) → j < 4294967296 → IsEditedKey dump edit (Some (slot_key x j))
+  key-of x j is small o i s lt at =
+      same_test (takes_slot (object_at dump o) s edit) (nat_lt i 4294967296 && nat_eq (slot_key o i) (slot_key x j))
       (λ h. let same : some_of x j ≡ some_of o i = sym is ∙ only.only o i s lt at h in
       let object : x ≡ o = first-of x j o i same in
       let index : j ≡ i = second-of x j o i same in
       key-same i j (slot_key o i) (slot_key x j) (ap (λ (n : ℕ). slot_key n i) (sym object) ∙ ap (slot_key x) (sym index)) (sym index) small)
-      in
-      ap (λ (ks : List ℕ). has_slot ks o i) new ∙ slot-inserted keys o i x j ∙ ap (λ (b : Bool). has_slot keys o i || b) test
+      (λ h. let both = key-cases (nat_lt i 4294967296) o i x j refl small h in
+      only.passes o i s (is ∙ ap (λ (n : ℕ). Some (n, j)) (sym both.0) ∙ ap (λ (n : ℕ). Some (o, n)) (sym both.1)) at)
+
+  pub edited_key : (x j key : ℕ) → p ≡ Some (x, j) → j < 4294967296 → key ≡ slot_key x j → IsEditedKey dump edit (Some key)
+  edited_key x j key is small same = subst (λ (k : ℕ). IsEditedKey dump edit (Some k)) (sym same) (key-of x j is small)
+
+  pub no_key : p ≡ None → IsEditedKey dump edit None
+  no_key none o i s lt at =
+      none-by (takes_slot (object_at dump o) s edit) (λ h. let clash : None ≡ some_of o i = sym none ∙ only.only o i s lt at h in absurd cc) ∙ sym (and-false (nat_lt i 4294967296))
+
+-- the number of the root that an edit drops
+pub same_number : (root r : ℕ) → (r == root) ≡ (root == r)
+same_number root r = same_test (r == root) (root == r) (λ e. eq-eqb root r (sym (eqb-true r root e))) (λ e. eq-eqb r root (sym (eqb-true root r e)))
 
 -- an edit of a slot of the object with an ID, by the object
 module _ (dump : Dump) (edit : Edit) (id : ℕ) (name : Object → Option Slot) (m : Option ℕ)
@@ -179,29 +164,82 @@ module _ (log : List Event) (k : ℕ) (r : Option Edit) (lt : k < length log) (i
   pub no_edit : r ≡ None → edits_before log (k + 1) ≡ edits_before log k
   no_edit none = edits_by ∙ ap (λ (o : Option Edit). edits_before log k ++ cons_option o []) none ∙ append-nil (edits_before log k)
 
-  any-more : (p : Edit → Bool) (edit : Edit) → r ≡ Some edit → list_any p (edits_before log (k + 1)) ≡ (list_any p (edits_before log k) || p edit)
-  any-more p edit some = ap (list_any p) (edits_by ∙ ap (λ (o : Option Edit). edits_before log k ++ cons_option o []) some) ∙ list_any-append p (edits_before log k) (edit ∷ []) ∙ ap (λ (b : Bool). list_any p (edits_before log k) || b) (or-false_right (p edit))
+  pub one_more : (edit : Edit) → r ≡ Some edit → AreOneMore (edits_before log k) (edits_before log (k + 1)) edit
+  one_more edit some test =
+      ap (count_by test) (edits_by ∙ ap (λ (o : Option Edit). edits_before log k ++ cons_option o []) some)
+      ∙ sum_by_push (λ (x : Edit). cond (test x) 1 0) (edits_before log k) edit
 
-  pub more_slots : (dump : Dump) (edit : Edit) (keys keys' : List ℕ) → r ≡ Some edit → AreSlots dump (edits_before log k) keys
-      → ((o i : ℕ) (s : SlotEntry) → o < length dump.objects → slice_get (object_at dump o).slots i ≡ Some s → has_slot keys' o i ≡ (has_slot keys o i || takes_slot (object_at dump o) s edit))
-      → AreSlots dump (edits_before log (k + 1)) keys'
-  more_slots dump edit keys keys' some so_far new o i s o_lt at =
-      new o i s o_lt at ∙ ap (λ (b : Bool). b || takes_slot (object_at dump o) s edit) (so_far o i s o_lt at) ∙ sym (any-more (takes_slot (object_at dump o) s) edit some)
+-- a slot's count, once its key is added or taken out
+slot-more : (small is takes : Bool) (m n c d : ℕ) → takes ≡ (small && is) → n ≡ m + (cond is 1 0) → d ≡ c + (cond takes 1 0) → (cond small m 0) ≡ c
+    → (cond small n 0) ≡ d
+slot-more true is takes m n c d same keys edits so_far = omega (arith, keys, edits, so_far, ap {B = ℕ} (λ (b : Bool). cond b 1 0) same)
+slot-more false is takes m n c d same keys edits so_far = omega (arith, edits, so_far, ap {B = ℕ} (λ (b : Bool). cond b 1 0) same)
 
-  pub more_roots : (edit : Edit) (numbers numbers' : List ℕ) → r ≡ Some edit → AreRoots (edits_before log k) numbers → ((n : ℕ) → has_root numbers' n ≡ (has_root numbers n || drops n edit)) → AreRoots (edits_before log (k + 1)) numbers'
-  more_roots edit numbers numbers' some so_far new n = new n ∙ ap (λ (b : Bool). b || drops n edit) (so_far n) ∙ sym (any-more (drops n) edit some)
+slot-fewer : (small is takes : Bool) (m n c d : ℕ) → takes ≡ (small && is) → n ≡ m - (cond is 1 0) → c ≡ d + (cond takes 1 0) → (cond small m 0) ≡ c
+    → (cond small n 0) ≡ d
+slot-fewer true is takes m n c d same keys edits so_far = omega (arith, keys, edits, so_far, ap {B = ℕ} (λ (b : Bool). cond b 1 0) same)
+slot-fewer false is takes m n c d same keys edits so_far = omega (arith, edits, so_far, ap {B = ℕ} (λ (b : Bool). cond b 1 0) same)
 
-  pub more_kinds : (edit : Edit) (cleared cleared' : Cleared) → r ≡ Some edit → AreKinds (edits_before log k) cleared → ((kind : EdgeKind) → is_cleared cleared' kind ≡ (is_cleared cleared kind || clears kind edit)) → AreKinds (edits_before log (k + 1)) cleared'
-  more_kinds edit cleared cleared' some so_far new kind = new kind ∙ ap (λ (b : Bool). b || clears kind edit) (so_far kind) ∙ sym (any-more (clears kind) edit some)
+-- the same of a number
+number-more : (is takes : Bool) (m n c d : ℕ) → is ≡ takes → n ≡ m + (cond is 1 0) → d ≡ c + (cond takes 1 0) → m ≡ c → n ≡ d
+number-more is takes m n c d same keys edits so_far = omega (arith, keys, edits, so_far, ap {B = ℕ} (λ (b : Bool). cond b 1 0) same)
+
+number-fewer : (is takes : Bool) (m n c d : ℕ) → is ≡ takes → n ≡ m - (cond is 1 0) → c ≡ d + (cond takes 1 0) → m ≡ c → n ≡ d
+number-fewer is takes m n c d same keys edits so_far = omega (arith, keys, edits, so_far, ap {B = ℕ} (λ (b : Bool). cond b 1 0) same)
+
+-- what one edit more takes away
+module _ (es fs : List Edit) (edit : Edit) (one : AreOneMore es fs edit) where
+  pub slots_more : (dump : Dump) (key : Option ℕ) (keys keys' : List ℕ) → IsEditedKey dump edit key
+      → ((n : ℕ) → multiplicity n keys' ≡ multiplicity n keys + (cond (is_number key n) 1 0)) → AreSlots dump es keys → AreSlots dump fs keys'
+  slots_more dump key keys keys' is new are o i s lt at =
+      let test : Edit → Bool = takes_slot (object_at dump o) s in
+      let k : ℕ = slot_key o i in
+      slot-more (nat_lt i 4294967296) (is_number key k) (test edit) (multiplicity k keys) (multiplicity k keys') (count_by test es) (count_by test fs) (is o i s lt at) (new k) (one test) (are o i s lt at)
+
+  pub kinds_more : (old new : Cleared) → ((kind : EdgeKind) → clear_count new kind ≡ clear_count old kind + (cond (clears kind edit) 1 0)) → AreKinds es old
+      → AreKinds fs new
+  kinds_more old new counts are kind =
+      number-more (clears kind edit) (clears kind edit) (clear_count old kind) (clear_count new kind) (count_by (clears kind) es) (count_by (clears kind) fs) refl (counts kind) (one (clears kind)) (are kind)
+
+  pub roots_more : (root : Option ℕ) (numbers numbers' : List ℕ) → ((r : ℕ) → is_number root r ≡ drops r edit)
+      → ((n : ℕ) → multiplicity n numbers' ≡ multiplicity n numbers + (cond (is_number root n) 1 0)) → AreRoots es numbers → AreRoots fs numbers'
+  roots_more root numbers numbers' is new are r =
+      number-more (is_number root r) (drops r edit) (multiplicity r numbers) (multiplicity r numbers') (count_by (drops r) es) (count_by (drops r) fs) (is r) (new r) (one (drops r)) (are r)
+
+-- and one fewer
+module _ (es fs : List Edit) (edit : Edit) (one : AreOneMore fs es edit) where
+  pub slots_fewer : (dump : Dump) (key : Option ℕ) (keys keys' : List ℕ) → IsEditedKey dump edit key
+      → ((n : ℕ) → multiplicity n keys' ≡ multiplicity n keys - (cond (is_number key n) 1 0)) → AreSlots dump es keys → AreSlots dump fs keys'
+  slots_fewer dump key keys keys' is new are o i s lt at =
+      let test : Edit → Bool = takes_slot (object_at dump o) s in
+      let k : ℕ = slot_key o i in
+      slot-fewer (nat_lt i 4294967296) (is_number key k) (test edit) (multiplicity k keys) (multiplicity k keys') (count_by test es) (count_by test fs) (is o i s lt at) (new k) (one test) (are o i s lt at)
+
+  pub kinds_fewer : (old new : Cleared) → ((kind : EdgeKind) → clear_count new kind ≡ clear_count old kind - (cond (clears kind edit) 1 0)) → AreKinds es old
+      → AreKinds fs new
+  kinds_fewer old new counts are kind =
+      number-fewer (clears kind edit) (clears kind edit) (clear_count old kind) (clear_count new kind) (count_by (clears kind) es) (count_by (clears kind) fs) refl (counts kind) (one (clears kind)) (are kind)
+
+  pub roots_fewer : (root : Option ℕ) (numbers numbers' : List ℕ) → ((r : ℕ) → is_number root r ≡ drops r edit)
+      → ((n : ℕ) → multiplicity n numbers' ≡ multiplicity n numbers - (cond (is_number root n) 1 0)) → AreRoots es numbers → AreRoots fs numbers'
+  roots_fewer root numbers numbers' is new are r =
+      number-fewer (is_number root r) (drops r edit) (multiplicity r numbers) (multiplicity r numbers') (count_by (drops r) es) (count_by (drops r) fs) (is r) (new r) (one (drops r)) (are r)
 
 -- before any event
 pub no_slots : (dump : Dump) (keys : List ℕ) → keys ≡ [] → AreSlots dump [] keys
-unfolding has_slot
-no_slots dump keys none o i s lt at = ap (λ (ks : List ℕ). has_slot ks o i) none ∙ and-false (nat_lt i 4294967296)
+no_slots dump keys none o i s lt at = ap (λ (ks : List ℕ). slot_count ks o i) none ∙ none-counted (nat_lt i 4294967296)
 
 pub no_roots : (numbers : List ℕ) → numbers ≡ [] → AreRoots [] numbers
-unfolding has_root
-no_roots numbers none r = ap (λ (ns : List ℕ). has_root ns r) none
+no_roots numbers none r = ap (multiplicity r) none
+
+-- once numbers are sorted
+pub slots_sorted : (dump : Dump) (es : List Edit) (keys sorted : List ℕ) → ((n : ℕ) → multiplicity n sorted ≡ multiplicity n keys) → AreSlots dump es keys
+    → AreSlots dump es sorted
+slots_sorted dump es keys sorted same are o i s lt at = ap (λ (n : ℕ). cond (nat_lt i 4294967296) n 0) (same (slot_key o i)) ∙ are o i s lt at
+
+pub roots_sorted : (es : List Edit) (numbers sorted : List ℕ) → ((n : ℕ) → multiplicity n sorted ≡ multiplicity n numbers) → AreRoots es numbers
+    → AreRoots es sorted
+roots_sorted es numbers sorted same are r = same r ∙ are r
 
 -- an edit takes away by the slot, or by the kind
 takes-parts : (x : Object) (s : SlotEntry) (edit : Edit) → takes_away x s edit ≡ (takes_slot x s edit || clears s.kind edit)
@@ -223,21 +261,44 @@ any-parts p q r parts [] = refl
 any-parts p q r parts (e ∷ es) =
     ap (λ (b : Bool). b || list_any p es) (parts e) ∙ ap (λ (b : Bool). (q e || r e) || b) (any-parts p q r parts es) ∙ or-mixed (q e) (r e) (list_any q es) (list_any r es)
 
--- after all events
-pub is_removed_by : (dump : Dump) (log : List Event) (k : ℕ) (slots roots : List ℕ) (cleared : Cleared) → k ≡ length log → AreSlots dump (edits_before log k) slots → AreKinds (edits_before log k) cleared → AreRoots (edits_before log k) roots
-    → IsRemovedBy dump log (record { slots = slots; cleared = cleared; roots = roots })
-is_removed_by dump log k slots roots cleared end by_slot by_kind by_root =
-    let all : edits_before log k ≡ live_edits log = ap (λ (es : List Event). filter_map (live_edit log) (enumerate_from 0 es)) (take_all k log (omega arith)) in
+-- the keys have that of a slot where it is counted
+small-counted : (small any : Bool) (n : ℕ) → any ≡ nat_lt 0 n → (small && any) ≡ nat_lt 0 (cond small n 0)
+small-counted true any n is = is
+small-counted false any n is = refl
+
+slot-any : (dump : Dump) (es : List Edit) (keys : List ℕ) → AreSlots dump es keys → (o i : ℕ) (s : SlotEntry) → o < length dump.objects
+    → slice_get (object_at dump o).slots i ≡ Some s → has_slot keys o i ≡ list_any (takes_slot (object_at dump o) s) es
+unfolding has_slot
+slot-any dump es keys are o i s lt at =
+    small-counted (nat_lt i 4294967296) (list_any (nat_eq (slot_key o i)) keys) (multiplicity (slot_key o i) keys) (any_counted (nat_eq (slot_key o i)) keys)
+    ∙ ap (nat_lt 0) (are o i s lt at)
+    ∙ sym (any_counted (takes_slot (object_at dump o) s) es)
+
+root-any : (es : List Edit) (numbers : List ℕ) → AreRoots es numbers → (r : ℕ) → has_root numbers r ≡ list_any (drops r) es
+unfolding has_root
+root-any es numbers are r = any_counted (nat_eq r) numbers ∙ ap (nat_lt 0) (are r) ∙ sym (any_counted (drops r) es)
+
+-- what the live edits of a log take away, by their counts
+pub is_removed_by : (dump : Dump) (log : List Event) (t : Removals) → AreSlots dump (live_edits log) t.slots → AreKinds (live_edits log) t.cleared
+    → AreRoots (live_edits log) t.roots → IsRemovedBy dump log t
+is_removed_by dump log t by_slot by_kind by_root =
+    let es : List Edit = live_edits log in
     record {
       slots = λ o i s lt at.
           let x = object_at dump o in
-          ap (λ (b : Bool). b || is_cleared cleared s.kind) (by_slot o i s lt at)
-          ∙ ap (λ (b : Bool). list_any (takes_slot x s) (edits_before log k) || b) (by_kind s.kind)
-          ∙ sym (any-parts (takes_away x s) (takes_slot x s) (clears s.kind) (takes-parts x s) (edits_before log k))
-          ∙ ap (list_any (takes_away x s)) all
-          ∙ sym (not-not (list_any (takes_away x s) (live_edits log)));
-      roots = λ n. by_root n ∙ ap (list_any (drops n)) all;
+          ap (λ (b : Bool). b || is_cleared t.cleared s.kind) (slot-any dump es t.slots by_slot o i s lt at)
+          ∙ ap (λ (b : Bool). list_any (takes_slot x s) es || b) (ap (nat_lt 0) (by_kind s.kind) ∙ sym (any_counted (clears s.kind) es))
+          ∙ sym (any-parts (takes_away x s) (takes_slot x s) (clears s.kind) (takes-parts x s) es)
+          ∙ sym (not-not (list_any (takes_away x s) es));
+      roots = λ r. root-any es t.roots by_root r;
+      slot_counts = by_slot;
+      kind_counts = by_kind;
+      root_counts = by_root;
     }
+
+-- all events are before the end
+pub all_before : (log : List Event) (k : ℕ) → k ≡ length log → edits_before log k ≡ live_edits log
+all_before log k end = ap (λ (es : List Event). filter_map (live_edit log) (enumerate_from 0 es)) (take_all k log (omega (arith, end)))
 
 -- the flag of an event
 flag-at : (log : List Event) (k : ℕ) (e : Event) (d : Bool) → slice_get log k ≡ Some e → get_or (live_flags log) k d ≡ is_live log (k, e)

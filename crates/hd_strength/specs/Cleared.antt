@@ -1,6 +1,6 @@
 -- Kinds of references that are cleared everywhere.
 -- Source: this project.
-use Rattle.std.specs.Prelude.{Bool, false}
+use Rattle.std.specs.Prelude.{ℕ, Bool, false, nat_lt}
 use Rattle.hd_terms.specs.declared.EdgeKind.{EdgeKind}
 use Rattle.hd_terms.specs.declared.EdgeKind.TheVariants as kinds
 use Rattle.hd_terms.specs.declared.Edit.{Edit}
@@ -16,10 +16,14 @@ clears kind (edits.Drop r) = false
 clears kind (edits.Add id) = false
 clears kind (edits.ClearAll references) = same_kind kind (kind_of_references references)
 
+-- how many edits clear all references of a kind
+abbrev pub clear_count : Cleared → EdgeKind → ℕ
+clear_count cleared kinds.Strong = 0
+clear_count cleared kinds.Soft = cleared.soft
+clear_count cleared kinds.Weak = cleared.weak
+clear_count cleared kinds.Final = cleared.finals
+clear_count cleared kinds.Phantom = cleared.phantom
+
 -- all references of a kind are cleared
 abbrev pub is_cleared : Cleared → EdgeKind → Bool
-is_cleared cleared kinds.Strong = false
-is_cleared cleared kinds.Soft = cleared.soft
-is_cleared cleared kinds.Weak = cleared.weak
-is_cleared cleared kinds.Final = cleared.finals
-is_cleared cleared kinds.Phantom = cleared.phantom
+is_cleared cleared kind = nat_lt 0 (clear_count cleared kind)

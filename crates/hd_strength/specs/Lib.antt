@@ -1,4 +1,6 @@
 pub mod Cleared
+pub mod Multiset
+pub mod OneMore
 pub mod Buckets
 pub mod Removed
 pub mod Rows

@@ -2,8 +2,9 @@
 //!
 //! Callers see three functions (`scratch.rt`). `from_removed` and `from_scratch` give settled supports, in pages or in
 //! a flat list; `strengths_alone` gives only the strengths, for `stat`. `Removed` (`removed.rt`) is what the live edits
-//! of a log take away: slots and roots one by one, and a flag for each kind whose references are all cleared
-//! (`cleared.rt`). `edited.rt` has what stands, slot by slot and root by root.
+//! of a log take away: slots and roots one by one (`multiset.rt`), and the kinds whose references are all cleared
+//! (`cleared.rt`). It has each as often as live edits take it away, so `with` and `without` move it by one edit.
+//! `edited.rt` has what stands, slot by slot and root by root.
 //!
 //! **The algorithm** is Dijkstra's for the widest path: a path is as wide as the least strength on it. There are few
 //! strengths, so offers wait in one bucket for each instead of a heap (`buckets.rt`). `begin` (`roots.rt`) makes the
@@ -57,6 +58,7 @@ mod buckets;
 mod cleared;
 mod edited;
 mod found;
+mod multiset;
 mod part;
 mod queue;
 mod relaxing;

@@ -1,26 +1,29 @@
 //! What the live edits of a log take away, found once, so that a slot or a root is one look-up. Where all references of
-//! a kind are cleared, the kind is noted, and none of its slots.
-ghost use Rattle.std.specs.Prelude.{◌≡◌, ℕ, ◌||◌, ◌<◌, length, slice_get, Some, IfOk, OnOk};
+//! a kind are cleared, the kind is noted, and none of its slots. Two edits may take away the same, so each is noted as
+//! often as edits take it away: an undo takes back one of them.
+ghost use Rattle.std.specs.Prelude.{◌≡◌, ℕ, ◌<◌, List, length, slice_get, Some, IfOk};
 ghost use Rattle.hd_terms.specs.declared.Event.{Event as OneEvent};
-ghost use Rattle.hd_terms.specs.Dump.{SlotEntry, object_at};
+ghost use Rattle.hd_terms.specs.Dump.{object_at};
 ghost use Rattle.hd_terms.specs.EditedDump.{drops};
 ghost use Rattle.hd_terms.specs.Log.{live_edit, live_flags};
 ghost use Rattle.hd_strength.specs.Cleared.{is_cleared};
-ghost use Rattle.hd_strength.specs.Removed.{has_slot, has_root, is_root_removed, is_removed, slot_key, takes_slot, IsNamedSlot, IsOnlySlot, IsRemovedBy};
+ghost use Rattle.hd_strength.specs.Multiset.{is_number};
+ghost use Rattle.hd_strength.specs.OneMore.{HasEditMore};
+ghost use Rattle.hd_strength.specs.Removed.{is_root_removed, is_removed, slot_key, takes_slot, IsEditedKey, IsNamedSlot, IsOnlySlot, IsRemovedBy};
 
 use crate::cleared::Cleared;
+use crate::multiset::{Multiset, push_number};
 use hd_graph::Graph;
 use hd_log::Front;
 use hd_terms::{EdgeKind, Edit, NoMemory, Slot, What};
-use indexmap::IndexSet;
 use std::alloc::Global;
 use std::marker::Model;
 
-/// What the live edits of a log take away from a graph: references in slots, and roots.
+/// What the live edits of a log take away from a graph: references in slots, and roots, each as often as edits take it away.
 pub struct Removed {
-    slots: IndexSet<u64>,
+    slots: Multiset,
     cleared: Cleared,
-    roots: IndexSet<u64>,
+    roots: Multiset,
 }
 
 impl Drop for Removed {
@@ -39,7 +42,7 @@ impl Model for Removed {
 
     ghost Value = { Removals };
 
-    ghost view = { λ t. record { slots = t.slots.keys; cleared = t.cleared; roots = t.roots.keys } };
+    ghost view = { λ t. record { slots = t.slots; cleared = t.cleared; roots = t.roots } };
 }
 
 /// The key of a slot, by its object and its index.
@@ -92,25 +95,22 @@ pub fn edited_slot(graph: &Graph, edit: Edit) -> Option<(u32, u32)>
     }
 }
 
-/// Adds the one slot from which an edit takes the reference, if there is one.
-fn take_slot(slots: &mut IndexSet<u64>, graph: &Graph, edit: Edit) -> Result<(), NoMemory>
-    ensures { OnOk result ((o i : ℕ) (s : SlotEntry) → o < length graph.now.objects → slice_get (object_at graph.now o).slots i ≡ Some s
-        → has_slot slots.new.keys o i ≡ (has_slot slots.old.keys o i || takes_slot (object_at graph.now o) s edit)) }
+/// The key of the one slot from which an edit takes the reference, if there is one.
+fn edited_key(graph: &Graph, edit: Edit) -> Option<u64>
+    ensures { IsEditedKey graph.now edit result }
 {
-    if let Some((o, index)) = edited_slot(graph, edit) {
-        slots.insert(slot_key(o, index))?;
-    }
-    Ok(())
+    let (o, index) = edited_slot(graph, edit)?;
+    Some(slot_key(o, index))
 }
 
-/// Adds the root that an edit drops.
-fn take_root(roots: &mut IndexSet<u64>, edit: Edit) -> Result<(), NoMemory>
-    ensures { OnOk result ((r : ℕ) → has_root roots.new.keys r ≡ (has_root roots.old.keys r || drops r edit)) }
+/// The number of the root that an edit drops, if it drops one.
+fn dropped_root(edit: Edit) -> Option<u64>
+    ensures { (r : ℕ) → is_number result r ≡ drops r edit }
 {
-    if let Edit::Drop(root) = edit {
-        roots.insert(root)?;
+    match edit {
+        Edit::Drop(root) => Some(root),
+        Edit::Cut(_, _) | Edit::Clear(_) | Edit::Add(_) | Edit::ClearAll(_) => None,
     }
-    Ok(())
 }
 
 impl Removed {
@@ -122,17 +122,53 @@ impl Removed {
     pub fn of(alloc: Global, graph: &Graph, front: &Front) -> Result<Removed, NoMemory>
         ensures { IfOk result (λ t. IsRemovedBy graph.now front.now t) }
     {
-        let live = front.live(alloc)?;
-        let mut slots = IndexSet::new(alloc);
+        let live = front.flags();
+        let mut slots = Vec::new(alloc);
         let mut cleared = Cleared::none();
-        let mut roots = IndexSet::new(alloc);
+        let mut roots = Vec::new(alloc);
         for k in 0..front.len() {
-            if let Some(edit) = live_edit(front, &live, k) {
-                take_slot(&mut slots, graph, edit)?;
-                cleared = cleared.with(edit);
-                take_root(&mut roots, edit)?;
+            if let Some(edit) = live_edit(front, live, k) {
+                push_number(&mut slots, edited_key(graph, edit))?;
+                cleared = cleared.with(edit)?;
+                push_number(&mut roots, dropped_root(edit))?;
             }
         }
+        Ok(Removed {
+            slots: Multiset::of(slots),
+            cleared,
+            roots: Multiset::of(roots),
+        })
+    }
+
+    /// What is taken away once one more edit is live.
+    ///
+    /// # Errors
+    ///
+    /// Memory ran out, or 2^32 edits clear one kind of references, which no log has.
+    pub fn with(&self, alloc: Global, graph: &Graph, edit: Edit) -> Result<Removed, NoMemory>
+        ensures { IfOk result (λ t. (before after : List OneEvent) → IsRemovedBy graph.now before self.now → HasEditMore before after edit → IsRemovedBy graph.now after t) }
+    {
+        let slots = self.slots.with(alloc, edited_key(graph, edit))?;
+        let cleared = self.cleared.with(edit)?;
+        let roots = self.roots.with(alloc, dropped_root(edit))?;
+        Ok(Removed {
+            slots,
+            cleared,
+            roots,
+        })
+    }
+
+    /// What is taken away once one of the live edits is taken back.
+    ///
+    /// # Errors
+    ///
+    /// Memory ran out.
+    pub fn without(&self, alloc: Global, graph: &Graph, edit: Edit) -> Result<Removed, NoMemory>
+        ensures { IfOk result (λ t. (before after : List OneEvent) → IsRemovedBy graph.now before self.now → HasEditMore after before edit → IsRemovedBy graph.now after t) }
+    {
+        let slots = self.slots.without(alloc, edited_key(graph, edit))?;
+        let cleared = self.cleared.without(edit);
+        let roots = self.roots.without(alloc, dropped_root(edit))?;
         Ok(Removed {
             slots,
             cleared,
@@ -145,14 +181,14 @@ impl Removed {
     pub fn slot(&self, o: u32, index: u32, kind: EdgeKind) -> bool
         ensures { result ≡ is_removed self.now o index kind }
     {
-        self.cleared.has(kind) || self.slots.contains(&slot_key(o, index))
+        self.cleared.has(kind) || self.slots.contains(slot_key(o, index))
     }
 
     /// Whether the root of a number is taken away.
     pub fn root(&self, r: u64) -> bool
         ensures { result ≡ is_root_removed self.now r }
     {
-        self.roots.contains(&r)
+        self.roots.contains(r)
     }
 
     /// Whether all references of a kind are taken away.
@@ -160,36 +196,5 @@ impl Removed {
         ensures { result ≡ is_cleared self.now.cleared kind }
     {
         self.cleared.has(kind)
-    }
-
-    /// How many slots lose their references one by one.
-    pub fn slots_len(&self) -> usize
-        ensures { result ≡ length self.now.slots }
-    {
-        self.slots.len()
-    }
-
-    /// One of the slots that lose their references one by one: the object, and the index of the slot.
-    pub fn slot_at(&self, j: usize) -> (u32, u32)
-        requires { j < length self.now.slots }
-        ensures { slice_get self.now.slots j ≡ Some (slot_key result.0 result.1) }
-    {
-        let key = self.slots.as_slice()[j];
-        ((key / 4_294_967_296) as u32, (key % 4_294_967_296) as u32)
-    }
-
-    /// How many roots are taken away. A number that is no root's can be among them.
-    pub fn roots_len(&self) -> usize
-        ensures { result ≡ length self.now.roots }
-    {
-        self.roots.len()
-    }
-
-    /// The number of a root that is taken away.
-    pub fn root_at(&self, j: usize) -> u64
-        requires { j < length self.now.roots }
-        ensures { slice_get self.now.roots j ≡ Some result }
-    {
-        self.roots.as_slice()[j]
     }
 }

@@ -1,10 +1,13 @@
-use Rattle.std.proofs.Common.{◌<◌, length, arith}
-use Rattle.hd_strength.proofs.RemovedLemmas.{no_slots, no_roots, more_slots, more_kinds, more_roots, no_edit, is_removed_by}
+use Rattle.std.proofs.Common.{◌+◌, ◌<◌, length, subst, arith}
+use Rattle.hd_terms.specs.Log.{live_edits}
+use Rattle.hd_strength.specs.Removed.{AreSlots, AreKinds, AreRoots}
+use Rattle.hd_strength.proofs.RemovedLemmas.{no_slots, no_roots, slots_more, kinds_more, roots_more, slots_sorted, roots_sorted, one_more, no_edit, all_before, edits_before, is_removed_by}
 use Rattle.hd_strength.proofs.removed.Removed.of.Goals as goal
-use Rattle.hd_strength.proofs.removed.Removed.of.Goals.{in-Some+in_ok-take_slot+in_ok-take_root, in_default}
+use Rattle.hd_strength.proofs.removed.Removed.of.Goals.{in-Some+in_ok-push_number+in_ok-cleared+in_ok-push_number-2, in_default}
 
 pub loop-k-init : goal.loop-k-init
-loop-k-init c = record { slots = no_slots c.args.graph.now _ c.new-slots.ensures.empty; cleared = c.none-cleared.ensures; roots = no_roots _ c.new-roots.ensures.empty }
+loop-k-init c =
+    record { slots = no_slots c.args.graph.now _ c.new-slots.ensures.items; cleared = c.none-cleared.ensures; roots = no_roots _ c.new-roots.ensures.items }
 
 pub loop-k-preserved : goal.loop-k-preserved
 loop-k-preserved c =
@@ -13,13 +16,26 @@ loop-k-preserved c =
     let r = c.live_edit.result in
     let lt : k < length log = omega (arith, c.len-k-end.ensures.len, c.loop-k-test.true) in
     elim c.match-live_edit.branch [
-      | in-Some+in_ok-take_slot+in_ok-take_root w ↦ rw (w.slots-is, w.cleared-is, w.roots-is) (record {
-        slots = more_slots log k r lt c.live_edit.ensures c.args.graph.now w.in-Some.edit c.loop-k.slots.keys w.take_slot.new.slots.keys w.in-Some.is c.loop-k.invariant.slots w.in_ok-take_slot.ensures;
-        cleared = more_kinds log k r lt c.live_edit.ensures w.in-Some.edit c.loop-k.cleared w.with-cleared.result w.in-Some.is c.loop-k.invariant.cleared w.with-cleared.ensures;
-        roots = more_roots log k r lt c.live_edit.ensures w.in-Some.edit c.loop-k.roots.keys w.take_root.new.roots.keys w.in-Some.is c.loop-k.invariant.roots w.in_ok-take_root.ensures;
-      })
+      | in-Some+in_ok-push_number+in_ok-cleared+in_ok-push_number-2 w ↦
+          let edit = w.in-Some.edit in
+          let one = one_more log k r lt c.live_edit.ensures edit w.in-Some.is in
+          rw (w.slots-is, w.cleared-is, w.roots-is) (record {
+            slots =
+                slots_more (edits_before log k) (edits_before log (k + 1)) edit one c.args.graph.now w.edited_key.result c.loop-k.slots.items w.push_number.new.numbers.items w.edited_key.ensures w.in_ok-push_number.ensures c.loop-k.invariant.slots;
+            cleared =
+                kinds_more (edits_before log k) (edits_before log (k + 1)) edit one c.loop-k.cleared w.in_ok-cleared.cleared w.in_ok-cleared.ensures c.loop-k.invariant.cleared;
+            roots =
+                roots_more (edits_before log k) (edits_before log (k + 1)) edit one w.dropped_root.result c.loop-k.roots.items w.push_number-in-Some.new.numbers.items w.dropped_root.ensures w.in_ok-push_number-2.ensures c.loop-k.invariant.roots;
+          })
       | in_default w ↦ rw (w.slots-is, w.cleared-is, w.roots-is, no_edit log k r lt c.live_edit.ensures w.in_default.is) (record { slots = c.loop-k.invariant.slots; cleared = c.loop-k.invariant.cleared; roots = c.loop-k.invariant.roots })
     ]
 
 pub returns : goal.returns
-returns c = is_removed_by c.args.graph.now c.args.front.now c.loop-k.k c.loop-k.slots.keys c.loop-k.roots.keys c.loop-k.cleared (omega arith) c.loop-k.invariant.slots c.loop-k.invariant.cleared c.loop-k.invariant.roots
+returns c =
+    let dump = c.args.graph.now in
+    let log = c.args.front.now in
+    let all = all_before log c.loop-k.k (omega arith) in
+    is_removed_by dump log _
+    (slots_sorted dump (live_edits log) c.loop-k.slots.items c.of.result c.of.ensures (subst (λ es. AreSlots dump es c.loop-k.slots.items) all c.loop-k.invariant.slots))
+    (subst (λ es. AreKinds es c.loop-k.cleared) all c.loop-k.invariant.cleared)
+    (roots_sorted (live_edits log) c.loop-k.roots.items c.of-2.result c.of-2.ensures (subst (λ es. AreRoots es c.loop-k.roots.items) all c.loop-k.invariant.roots))

@@ -5,7 +5,7 @@ use Rattle.hd_strength.proofs.removed.Removed.of.Given as goal
 -- what the live edits so far take away
 abbrev pub invariant-loop-k : goal.invariant-loop-k
 invariant-loop-k l = record {
-  slots : AreSlots l.fn.graph (edits_before l.fn.front l.k) l.slots.keys;
+  slots : AreSlots l.fn.graph (edits_before l.fn.front l.k) l.slots.items;
   cleared : AreKinds (edits_before l.fn.front l.k) l.cleared;
-  roots : AreRoots (edits_before l.fn.front l.k) l.roots.keys;
+  roots : AreRoots (edits_before l.fn.front l.k) l.roots.items;
 }

@@ -4,4 +4,4 @@ use Rattle.hd_strength.proofs.RemovedLemmas.{root_found}
 use Rattle.hd_strength.proofs.removed.Removed.root.Goals as goal
 
 pub returns : goal.returns
-returns c = root_found c.self.inside.roots.keys c.args.r c.contains.result c.contains.ensures ∙ ap (λ (t : Removals). is_root_removed t c.args.r) c.self.view_is
+returns c = root_found c.self.inside.roots c.args.r c.contains.result c.contains.ensures ∙ ap (λ (t : Removals). is_root_removed t c.args.r) c.self.view_is
