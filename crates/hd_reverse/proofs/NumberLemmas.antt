@@ -2,18 +2,19 @@
 use Rattle.std.proofs.Common.{◌≡◌, ◌∙◌, inl, inr, ℕ, ◌+◌, ◌-◌, ◌<◌, ◌≤◌, ◌==◌, nat_lt, nat_le, List, [], ◌∷◌, ◌++◌, length, map, take, drop, get_or, cond, not, Bool, true, false, Option, Some, None, refl, sym, ap, arith, append-nil, add-zero, slice_get}
 use Rattle.std.specs.Prelude.{◌&&◌}
 use Rattle.std.specs.Option.{option_map, option_map_or}
-use Rattle.std.specs.List.{filter, filter_map, cons_option, enumerate_from, All}
-use Rattle.std.specs.List.Sorted.{IsPartitionPoint, IsStableByKey, ties}
+use Rattle.std.specs.List.{filter, filter_map, cons_option, enumerate_from, insert, All}
+use Rattle.std.specs.List.Sorted.{IsNonDecreasingBy, IsPartitionPoint, IsStableByKey, ties}
 use Rattle.std.specs.Ordering.{is_lt, nat_cmp}
-use Rattle.std.proofs.lemmas.Bool.{cases_lt, cases_order, eq-eqb, ne_eqb, lt-ltb, le-ltb, ltb-true, ltb-false, leb-true, leb-false}
-use Rattle.std.proofs.lemmas.List.{take-append-drop, length-take-le, length-drop, get_or-take, get_or-drop, drop-drop, take_more, length_push}
+use Rattle.std.proofs.lemmas.Bool.{cases_lt, cases_order, eq-eqb, eqb-true, ne_eqb, lt-ltb, le-ltb, ltb-true, ltb-false, leb-true, leb-false}
+use Rattle.std.proofs.lemmas.List.Sorted.{IsNonDecreasingBy-insert}
+use Rattle.std.proofs.lemmas.List.{map-append, take-append-drop, length-take-le, length-drop, get_or-take, get_or-drop, drop-drop, take_more, length_push}
 use Rattle.std.proofs.lemmas.List.Elements.{filter-append, filter_map-append, filter_agree, All-head, All-tail}
 use Rattle.std.proofs.lemmas.Option.{get_or_from_slice_get, slice_get_within}
 use Rattle.hd_terms.specs.Dump.{Root, Dump}
 use Rattle.hd_terms.specs.Edges.{index_of}
 use Rattle.hd_reverse.specs.declared.numbers.NumberOn.{NumberOn}
 use Rattle.hd_reverse.specs.Referrers.{is_root_on}
-use Rattle.hd_reverse.specs.Numbers.{numbers_on, root_number, IsRow}
+use Rattle.hd_reverse.specs.Numbers.{numbers_on, root_number, IsEnd, IsRow}
 
 module _ {X : Type 0} (p : X → Bool) where
   -- where none passes
@@ -93,6 +94,54 @@ row_found pairs o start end start_le end_le below upto =
           (λ k d le lt. eq-eqb (get_or pairs k d).object o (omega (arith, ltb-false (get_or pairs k d).object o (below.1 k d le (omega arith)), leb-true (get_or pairs k d).object o (upto.0 k d (omega arith) lt))))
           (λ k d le lt. ne_eqb (get_or pairs k d).object o (λ e. omega (arith, leb-false (get_or pairs k d).object o (upto.1 k d le lt)))));
     }
+
+-- where the numbers of an object end, by the place that a search found
+pub end_found : (pairs : List NumberOn) (o at : ℕ) → at ≤ length pairs
+    → IsPartitionPoint (λ (n : NumberOn). (nat_le n.object o) ≡ true) (λ (n : NumberOn). (nat_le n.object o) ≡ false) pairs at
+    → IsEnd pairs o at
+end_found pairs o at within found = record {
+  within = within;
+  upto = λ k d lt. leb-true (get_or pairs k d).object o (found.0 k d (omega arith) lt);
+  behind = λ k d le lt. leb-false (get_or pairs k d).object o (found.1 k d le lt);
+}
+
+-- one more pair, behind those of its object
+module _ (pairs : List NumberOn) (pair : NumberOn) (at : ℕ) (end : IsEnd pairs pair.object at) where
+  pub pair_sorted : IsNonDecreasingBy (λ (n : NumberOn). n.object) pairs → IsNonDecreasingBy (λ (n : NumberOn). n.object) (insert pairs at pair)
+  pair_sorted rise =
+      IsNonDecreasingBy-insert (λ (n : NumberOn). n.object) pairs at pair rise end.within end.upto (λ k d le lt. omega (arith, end.behind k d le lt))
+
+  -- those of its object have it last, and those of others stay
+  own-numbers : (o : ℕ) (b : Bool) → (pair.object == o) ≡ b
+      → filter (λ (n : NumberOn). n.object == o) (insert pairs at pair) ≡ filter (λ (n : NumberOn). n.object == o) pairs ++ (cond b (pair ∷ []) [])
+  own-numbers o true is =
+      let p : NumberOn → Bool = λ n. n.object == o in
+      let none : filter p (drop at pairs) ≡ [] =
+      filter_fails p (drop at pairs) (λ k d lt. ap p (get_or-drop at pairs k d) ∙ ne_eqb (get_or pairs (at + k) d).object o (λ e. omega (arith, eqb-true pair.object o is, end.behind (at + k) d (omega arith) (omega (arith, length-drop at pairs))))) in
+      let all : filter p pairs ≡ filter p (take at pairs) =
+      ap (filter p) (sym (take-append-drop at pairs)) ∙ filter-append p (take at pairs) (drop at pairs) ∙ ap (λ (ys : List NumberOn). filter p (take at pairs) ++ ys) none ∙ append-nil (filter p (take at pairs)) in
+      filter-append p (take at pairs) (pair ∷ drop at pairs)
+      ∙ ap (λ (b : Bool). filter p (take at pairs) ++ cond b (pair ∷ filter p (drop at pairs)) (filter p (drop at pairs))) is
+      ∙ ap (λ (ys : List NumberOn). filter p (take at pairs) ++ pair ∷ ys) none
+      ∙ ap (λ (ys : List NumberOn). ys ++ pair ∷ []) (sym all)
+  own-numbers o false is =
+      let p : NumberOn → Bool = λ n. n.object == o in
+      filter-append p (take at pairs) (pair ∷ drop at pairs)
+      ∙ ap (λ (b : Bool). filter p (take at pairs) ++ cond b (pair ∷ filter p (drop at pairs)) (filter p (drop at pairs))) is
+      ∙ sym (ap (filter p) (sym (take-append-drop at pairs)) ∙ filter-append p (take at pairs) (drop at pairs))
+      ∙ sym (append-nil (filter p pairs))
+
+  pub pair_numbers : (o : ℕ) → numbers_on (insert pairs at pair) o ≡ numbers_on pairs o ++ (cond (pair.object == o) (pair.number ∷ []) [])
+  pair_numbers o =
+      let number : NumberOn → ℕ = λ n. n.number in
+      let own : List NumberOn = filter (λ (n : NumberOn). n.object == o) pairs in
+      ap (map number) (own-numbers o (pair.object == o) refl)
+      ∙ map-append number own (cond (pair.object == o) (pair ∷ []) [])
+      ∙ ap (λ (ns : List ℕ). map number own ++ ns) (one-mapped (pair.object == o))
+    where
+      one-mapped : (b : Bool) → map (λ (n : NumberOn). n.number) (cond b (pair ∷ []) []) ≡ cond b (pair.number ∷ []) []
+      one-mapped true = refl
+      one-mapped false = refl
 
 abbrev pub number_of : ℕ → ℕ → NumberOn
 number_of r target = record { object = target; number = r }

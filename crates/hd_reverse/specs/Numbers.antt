@@ -1,6 +1,6 @@
 -- Numbers that belong to objects.
 -- Source: this project.
-use Rattle.std.specs.Prelude.{◌≡◌, ℕ, ◌-◌, ◌<◌, ◌≤◌, ◌^◌, ◌==◌, List, length, map, take, drop, Option}
+use Rattle.std.specs.Prelude.{◌≡◌, ℕ, ◌-◌, ◌<◌, ◌≤◌, ◌^◌, ◌==◌, List, length, map, take, drop, Option, slice_index_or}
 use Rattle.std.specs.Option.{option_map}
 use Rattle.std.specs.List.{filter}
 use Rattle.std.specs.List.Sorted.{IsNonDecreasingBy}
@@ -30,3 +30,9 @@ pub record IsRow (pairs : List NumberOn) (o start end : ℕ) : Type 0 where
   pub order : start ≤ end
   pub within : end ≤ length pairs
   pub is : numbers_on pairs o ≡ map (λ (p : NumberOn). p.number) (take (end - start) (drop start pairs))
+
+-- where the numbers of an object end: no object before that place is higher, and each from it on is
+pub record IsEnd (pairs : List NumberOn) (o at : ℕ) : Type 0 where
+  pub within : at ≤ length pairs
+  pub upto : (k : ℕ) (d : NumberOn) → k < at → (slice_index_or pairs k d).object ≤ o
+  pub behind : (k : ℕ) (d : NumberOn) → at ≤ k → k < length pairs → o < (slice_index_or pairs k d).object

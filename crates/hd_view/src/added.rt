@@ -1,6 +1,8 @@
 //! The roots that events add, by the objects that they are on.
-ghost use Rattle.std.specs.Prelude.{◌≡◌, ◌<◌, ◌^◌, length, slice_get, Some, IfOk};
+ghost use Rattle.std.specs.Prelude.{◌≡◌, ◌<◌, ◌^◌, List, [], ◌∷◌, ◌++◌, length, slice_get, Some, IfOk};
+ghost use Rattle.std.specs.Arc.{arc_value};
 ghost use Rattle.std.specs.List.{filter_map, enumerate_from};
+ghost use Rattle.hd_terms.specs.declared.Event.{Event as OneEvent};
 ghost use Rattle.hd_reverse.specs.Numbers.{numbers_on};
 ghost use Rattle.hd_view.specs.Added.{event_number, object_added, IsAddedBy};
 
@@ -10,6 +12,7 @@ use hd_reverse::{NumberOn, NumbersByObject};
 use hd_terms::{Edit, NoMemory, What};
 use std::alloc::Global;
 use std::marker::Model;
+use std::sync::Arc;
 
 /// The roots that the events of a log add, live or not, by the objects that they are on.
 #[derive(Drop)]
@@ -64,6 +67,32 @@ impl AddedRoots {
         }
         let events = NumbersByObject::of(event_numbers(alloc, graph, front)?)?;
         Ok(AddedRoots { events })
+    }
+
+    /// The roots that events add, once there is one more event: a log's last, where `added` has those of the events before
+    /// it. An event that adds no root on an object shares them.
+    ///
+    /// # Errors
+    ///
+    /// Memory ran out, or the dump's roots and the events are 2^32 or more, which no file has.
+    pub fn with_last(
+        added: &Arc<AddedRoots>,
+        alloc: Global,
+        graph: &Graph,
+        front: &Front,
+    ) -> Result<Arc<AddedRoots>, NoMemory>
+        requires { 0 < length front.now }
+        ensures { IfOk result (λ a. (before : List OneEvent) (event : OneEvent) → front.now ≡ before ++ event ∷ [] → IsAddedBy graph.now before (arc_value added.now) → IsAddedBy graph.now front.now (arc_value a)) }
+    {
+        if front.len() > u32::MAX - graph.roots_len() {
+            return Err(NoMemory);
+        }
+        let number = front.len() - 1;
+        let Some(object) = object_added(graph, front.event(number).what) else {
+            return Ok(Arc::try_clone(added)?);
+        };
+        let events = added.events.with(alloc, object, number)?;
+        Ok(Arc::new(alloc, AddedRoots { events })?)
     }
 
     /// How many events add a root on an object.

@@ -13,7 +13,7 @@
 //!   time.
 //! - `edited.rt`: whether one edge or one root stands. `Edited` is a graph, a log and what the log takes away.
 //! - `added.rt`: the roots that the events of a log add, by object. Live or not, they have the numbers of their events,
-//!   counted on from the dump's roots.
+//!   counted on from the dump's roots. One more event adds one root at most, and else shares them (`with_last`).
 //! - `lost.rt`: `lost_by_edit`, for what stands under the log `more` and not under the log `less`. It goes over neither
 //!   the graph nor the logs. Two logs that follow one another differ by one live edit, and what is lost is all by it: the
 //!   edge of the one slot that it cuts or clears, the references of the kind that it clears (by the lists of
