@@ -1,2 +1,3 @@
 pub mod MovedLemmas
 pub mod RepairLemmas
+pub mod NextLemmas

@@ -1,9 +1,7 @@
 -- One event more is one live edit more, or one fewer.
 use Rattle.std.proofs.Common.{◌≡◌, ◌∙◌, inl, inr, ℕ, ◌<◌, ◌≤◌, ◌==◌, ◌||◌, Bool, true, false, cond, not, List, [], ◌∷◌, ◌++◌, length, Option, Some, None, slice_get, refl, sym, ap, subst, arith, length-append}
 use Rattle.std.specs.Option.{option_and_then, option_or}
-use Rattle.std.specs.List.{list_any}
 use Rattle.std.proofs.lemmas.Bool.{cases_lt, cases_eq, eq-eqb, eqb-true}
-use Rattle.std.proofs.lemmas.List.Folds.{list_any-append}
 use Rattle.std.proofs.lemmas.Option.{option_and_then_some}
 use Rattle.hd_terms.specs.declared.Edit.{Edit}
 use Rattle.hd_terms.specs.declared.Edit.TheVariants as edits
@@ -12,22 +10,15 @@ use Rattle.hd_terms.specs.declared.What.{What}
 use Rattle.hd_terms.specs.declared.What.TheVariants as whats
 use Rattle.hd_terms.specs.declared.errors.LogFault.{LogFault}
 use Rattle.hd_terms.specs.EditedDump.{adds_root, live_edit_at}
-use Rattle.hd_terms.specs.Log.{undoes_what, stays, edit_of, live_edit, undo_fault, full_fault, log_fault_of, log_fault}
+use Rattle.hd_terms.specs.Log.{undoes_what, stays, edit_of, live_edit, undo_fault, full_fault, log_fault_of, log_fault, IsLawful}
+use Rattle.hd_strength.specs.OneMore.{HasEditMore}
+use Rattle.hd_strength.proofs.OneMoreLemmas.{stays-not, stays-still, edit_more, edit_fewer}
 use Rattle.hd_terms.proofs.LawfulLogs.{IsOwnLive, get-before, get-last, own_live_event}
 use Rattle.hd_view.specs.OneEdit.{HasOneMore}
 use Rattle.hd_view.proofs.OneEditLemmas.{place-within, under-test}
 use Rattle.hd_state.specs.declared.repairing.Moved.{Moved}
-use Rattle.hd_state.specs.Moves.{IsEdit, IsMovedBack, Moves}
+use Rattle.hd_state.specs.Moves.{ChangesEdits, IsEdit, IsMovedBack, Moves}
 use Rattle.hd_state.specs.Next.{IsNextLog}
-
--- tests
-or-last-true : (b : Bool) → not (b || true) ≡ false
-or-last-true true = refl
-or-last-true false = refl
-
-or-last-false : (b : Bool) → not (b || false) ≡ not b
-or-last-false true = refl
-or-last-false false = refl
 
 -- an undo takes back no event but its own
 other-event : (k t : ℕ) (b : Bool) → (t == k) ≡ b → (k ≡ t → ⊥) → b ≡ false
@@ -42,23 +33,17 @@ module _ (log : List Event) (event : Event) where
   abbrev undoes : ℕ → Event → Bool
   undoes k e = undoes_what k e.what
 
-  stays-not : (k : ℕ) → undoes k event ≡ true → stays after k ≡ false
-  stays-not k is = ap not (list_any-append (undoes k) log (event ∷ [])) ∙ ap (λ (b : Bool). not (list_any (undoes k) log || (b || false))) is ∙ or-last-true (list_any (undoes k) log)
-
-  stays-still : (k : ℕ) → undoes k event ≡ false → stays after k ≡ stays log k
-  stays-still k is = ap not (list_any-append (undoes k) log (event ∷ [])) ∙ ap (λ (b : Bool). not (list_any (undoes k) log || (b || false))) is ∙ or-last-false (list_any (undoes k) log)
-
   -- at an earlier place that the event doesn't take back
   at-before : (k : ℕ) → k < length log → undoes k event ≡ false → live_edit_at after k ≡ live_edit_at log k
   at-before k lt other =
       ap (option_and_then (λ (e : Event). live_edit after (k, e))) (get-before log event k lt)
-      ∙ ap (λ (b : Bool). option_and_then (λ (e : Event). cond b (edit_of e.what) None) (slice_get log k)) (stays-still k other)
+      ∙ ap (λ (b : Bool). option_and_then (λ (e : Event). cond b (edit_of e.what) None) (slice_get log k)) (stays-still log event k other)
 
   -- at the one that it takes back
   at-undone : (k : ℕ) (x : Edit) → undoes k event ≡ true → live_edit_at after k ≡ Some x → ⊥
   at-undone k x is live =
       option_and_then_some (λ (e : Event). live_edit after (k, e)) (slice_get after k) x live
-      (λ e at here. let clash : false ≡ true = sym (stays-not k is) ∙ (under-test (stays after k) (edit_of e.what) x here).0 in absurd cc)
+      (λ e at here. let clash : false ≡ true = sym (stays-not log event k is) ∙ (under-test (stays after k) (edit_of e.what) x here).0 in absurd cc)
 
   -- at its own
   at-last : (k : ℕ) (x : Edit) → length log ≤ k → live_edit_at after k ≡ Some x → edit_of event.what ≡ Some x
@@ -169,3 +154,15 @@ module _ (before later : List Event) (next : IsNextLog before later) (e : Event)
       let fewer : HasOneMore later before k (own k is).edit = subst (λ (log : List Event). HasOneMore log before k (own k is).edit) later-is (edit-fewer before e k e.who (own k is) is) in
       let undone : Moves before later (adds_root (Some moved.edit)) k moved.edit = undone-by before later k moved.edit (subst (λ (y : Edit). HasOneMore later before k y) (sym edit) fewer) in
       subst (λ (n : ℕ). Moves before later moved.loses n moved.edit) (sym back.event) (subst (λ (b : Bool). Moves before later b k moved.edit) (sym back.loses) undone)
+
+  -- an edit that is done is one live edit more
+  pub edits_done : (edit : Edit) → IsLawful before → e.what ≡ whats.Do edit → ChangesEdits before later true edit
+  edits_done edit lawful is = subst (λ (log : List Event). HasEditMore before log edit) later-is (edit_more before e edit lawful is)
+
+  -- and one that is taken back one fewer
+  pub edits_back : (k : ℕ) (moved : Moved) → e.what ≡ whats.Undo k → IsMovedBack before k moved → ChangesEdits before later moved.done moved.edit
+  edits_back k moved is back =
+      let edit : moved.edit ≡ (own k is).edit = back.is e.who (own k is).edit (own k is).own in
+      let fewer : HasEditMore later before (own k is).edit =
+      subst (λ (log : List Event). HasEditMore log before (own k is).edit) later-is (edit_fewer before e k e.who (own k is) is) in
+      subst (λ (b : Bool). ChangesEdits before later b moved.edit) (sym back.done) (subst (λ (y : Edit). HasEditMore later before y) (sym edit) fewer)

@@ -15,7 +15,8 @@
 //! 1. `open` makes the state of the empty log. The supports come from a search (`hd_strength`), the totals and last
 //!    changes from these. The reverse rows (`hd_reverse`) are made by another thread beside that, since neither needs
 //!    the other (`parts.rt`).
-//! 2. `step` extends the log, and computes what it takes away and the roots that it adds (`LogParts`).
+//! 2. `step` extends the log; `follow` takes a log that has one more event. What the log takes away and the roots that it
+//!    adds (`LogParts`) are moved by that event, from what the log before it takes away and adds.
 //! 3. `repaired` (`repairing.rt`) shares the supports and finds what the event took away or what it gave, from the one
 //!    edit that it does or takes back (`lost_by_edit` of `hd_view`). An event takes away or gives, never both: what is
 //!    taken away goes to `lose` of `hd_repair`, and what is given to `gain`.

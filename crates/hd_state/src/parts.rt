@@ -1,11 +1,15 @@
 //! What states are made of: a log with what its live edits take away and add, what is kept of the objects, and reverse rows.
-ghost use Rattle.std.specs.Prelude.{◌≡◌, [], IfOk};
+ghost use Rattle.std.specs.Prelude.{◌≡◌, [], List, IfOk};
 ghost use Rattle.std.specs.Arc.{arc_value};
+ghost use Rattle.hd_terms.specs.declared.Event.{Event as OneEvent};
 ghost use Rattle.hd_reverse.specs.Reverse.{IsReverseOf};
 ghost use Rattle.hd_strength.specs.Removed.{IsRemovedBy};
 ghost use Rattle.hd_view.specs.Added.{IsAddedBy};
+ghost use Rattle.hd_state.specs.Moves.{ChangesEdits};
+ghost use Rattle.hd_state.specs.Next.{IsNextLog};
 ghost use Rattle.hd_state.specs.Opening.{IsKeptOf};
 
+use crate::repairing::{Moved, adds_root, moved_by};
 use hd_graph::Graph;
 use hd_log::Front;
 use hd_reverse::ReverseRows;
@@ -51,6 +55,44 @@ impl LogParts {
             added,
         })
     }
+}
+
+/// What the live edits of a log take away, by what those of the log before it take away, and the edit by which the two differ.
+fn moved_removed(
+    alloc: Global,
+    graph: &Graph,
+    removed: &Removed,
+    moved: Moved,
+) -> Result<Removed, NoMemory>
+    ensures { IfOk result (λ t. (before after : List OneEvent) → IsRemovedBy graph.now before removed.now → ChangesEdits before after moved.done moved.edit → IsRemovedBy graph.now after t) }
+{
+    if moved.done {
+        let more = removed.with(alloc, graph, moved.edit)?;
+        return Ok(more);
+    }
+    let fewer = removed.without(alloc, graph, moved.edit)?;
+    Ok(fewer)
+}
+
+/// What the live edits of a log take away, by what those of the log before it take away, which has one event fewer. Where that
+/// event adds a root, or takes one back that does, the two are one and shared.
+pub(crate) fn next_removed(
+    alloc: Global,
+    graph: &Graph,
+    removed: &Arc<Removed>,
+    before: &Front,
+    after: &Front,
+) -> Result<Arc<Removed>, NoMemory>
+    requires next { IsNextLog before.now after.now }
+    requires removed { IsRemovedBy graph.now before.now (arc_value removed.now) }
+    ensures { IfOk result (λ t. IsRemovedBy graph.now after.now (arc_value t)) }
+{
+    let moved = moved_by(before, after);
+    if adds_root(moved.edit) {
+        return Ok(Arc::try_clone(removed)?);
+    }
+    let next = moved_removed(alloc, graph, removed, moved)?;
+    Ok(Arc::new(alloc, next)?)
 }
 
 impl KeptParts {

@@ -10,7 +10,7 @@ ghost use Rattle.hd_view.specs.Added.{IsAddedBy};
 ghost use Rattle.hd_terms.specs.Kept.{AreKept};
 ghost use Rattle.hd_terms.specs.EditedDump.{adds_root};
 ghost use Rattle.hd_state.specs.Next.{IsNextLog};
-ghost use Rattle.hd_state.specs.Moves.{IsEdit, IsMovedBack, Moves};
+ghost use Rattle.hd_state.specs.Moves.{ChangesEdits, IsEdit, IsMovedBack, Moves};
 
 use hd_edges::Edges;
 use hd_log::Front;
@@ -30,17 +30,18 @@ pub struct Repair {
     pub looks: u64,
 }
 
-/// The one live edit by which two logs differ that follow one another: the event that does it, the edit, and whether by it
-/// something stands no more that stood; else something stands that didn't.
+/// The one live edit by which two logs differ that follow one another: the event that does it, the edit, whether it is done or
+/// else taken back, and whether by it something stands no more that stood; else something stands that didn't.
 #[derive(Clone, Copy)]
 pub(crate) struct Moved {
-    event: u32,
-    edit: Edit,
-    loses: bool,
+    pub(crate) event: u32,
+    pub(crate) edit: Edit,
+    pub(crate) done: bool,
+    pub(crate) loses: bool,
 }
 
 /// Whether an edit adds a root.
-fn adds_root(edit: Edit) -> bool
+pub(crate) fn adds_root(edit: Edit) -> bool
     ensures { result ≡ adds_root (Some edit) }
 {
     matches!(edit, Edit::Add(_))
@@ -55,6 +56,7 @@ fn moved_back(front: &Front, k: u32) -> Moved
         What::Do(edit) => Moved {
             event: k,
             edit,
+            done: false,
             loses: adds_root(edit),
         },
         What::Undo(_) => unreachable!(),
@@ -62,15 +64,17 @@ fn moved_back(front: &Front, k: u32) -> Moved
 }
 
 /// What the last event of a log changes, by the log before it.
-fn moved_by(before: &Front, after: &Front) -> Moved
+pub(crate) fn moved_by(before: &Front, after: &Front) -> Moved
     requires { IsNextLog before.now after.now }
-    ensures { Moves before.now after.now result.loses result.event result.edit }
+    ensures moves { Moves before.now after.now result.loses result.event result.edit }
+    ensures edits { ChangesEdits before.now after.now result.done result.edit }
 {
     let last = before.len();
     match after.event(last).what {
         What::Do(edit) => Moved {
             event: last,
             edit,
+            done: true,
             loses: !adds_root(edit),
         },
         What::Undo(k) => moved_back(before, k),

@@ -24,7 +24,7 @@ ghost use Rattle.hd_totals.specs.LastChanges.{AreLastChanges};
 ghost use Rattle.hd_totals.specs.Totals.{AreTotals};
 
 use crate::mark::Mark;
-use crate::parts::{KeptParts, LogParts, kept_and_reverse};
+use crate::parts::{KeptParts, LogParts, kept_and_reverse, next_removed};
 use crate::repairing::{Repair, repaired};
 use hd_graph::Graph;
 use hd_log::Front;
@@ -138,7 +138,26 @@ impl State {
         ensures done { IfOk result (λ r. IsDone self.now.dump self.now.log (self.now.log ++ event ∷ []) r.1) }
         ensures outside { IfOk result (λ r. (o : ℕ) → (InEventRegion self.now.dump self.now.log (self.now.log ++ event ∷ []) self.now.kept r.0.kept o → ⊥) → reached_at r.0.kept o ≡ reached_at self.now.kept o) }
     {
-        let next = self.next_log(alloc, event)?;
+        let Ok(front) = self.front.extend(alloc, event) else {
+            return Err(NoMemory);
+        };
+        let followed = self.follow(alloc, front)?;
+        Ok(followed)
+    }
+
+    /// The state of a log that has one more event, and what that event did. This state stays as it is.
+    ///
+    /// # Errors
+    ///
+    /// Memory ran out.
+    pub fn follow(&self, alloc: Global, front: Front) -> Result<(State, Done), NoMemory>
+        requires { IsNextLog self.now.log front }
+        ensures dump { IfOk result (λ r. r.0.dump ≡ self.now.dump) }
+        ensures log { IfOk result (λ r. r.0.log ≡ front) }
+        ensures done { IfOk result (λ r. IsDone self.now.dump self.now.log front r.1) }
+        ensures outside { IfOk result (λ r. (o : ℕ) → (InEventRegion self.now.dump self.now.log front self.now.kept r.0.kept o → ⊥) → reached_at r.0.kept o ≡ reached_at self.now.kept o) }
+    {
+        let next = self.next_parts(alloc, front)?;
         let (moved, done) = self.moved(alloc, &next)?;
         let state = State {
             graph: Arc::try_clone(&self.graph)?,
@@ -153,18 +172,21 @@ impl State {
         Ok((state, done))
     }
 
-    /// The log with one more event, with what its live edits take away and the roots that its events add.
-    fn next_log(&self, alloc: Global, event: Event) -> Result<LogParts, NoMemory>
-        requires { log_fault self.now.log event ≡ None }
-        ensures log { IfOk result (λ n. n.front ≡ self.now.log ++ event ∷ []) }
+    /// A log that has one more event, with what its live edits take away and the roots that its events add. These are moved by
+    /// that event, and shared where it changes nothing of them.
+    fn next_parts(&self, alloc: Global, front: Front) -> Result<LogParts, NoMemory>
+        requires { IsNextLog self.now.log front }
+        ensures log { IfOk result (λ n. n.front ≡ front) }
         ensures removed { IfOk result (λ n. IsRemovedBy self.now.dump n.front (arc_value n.removed)) }
         ensures added { IfOk result (λ n. IsAddedBy self.now.dump n.front (arc_value n.added)) }
     {
-        let Ok(front) = self.front.extend(alloc, event) else {
-            return Err(NoMemory);
-        };
-        let parts = LogParts::of(alloc, &self.graph, front)?;
-        Ok(parts)
+        let removed = next_removed(alloc, &self.graph, &self.removed, &self.front, &front)?;
+        let added = AddedRoots::with_last(&self.added, alloc, &self.graph, &front)?;
+        Ok(LogParts {
+            front,
+            removed,
+            added,
+        })
     }
 
     /// What is kept of the objects, repaired for the log with one more event, and what the event did.

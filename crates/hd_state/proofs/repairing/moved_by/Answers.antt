@@ -1,11 +1,11 @@
 use Rattle.std.proofs.Common.{◌≡◌, ◌∙◌, ℕ, Bool, not, List, Some, length, slice_get, sym, ap, subst}
 use Rattle.hd_terms.specs.declared.Event.{Event}
 use Rattle.hd_state.specs.Moves.{Moves}
-use Rattle.hd_state.proofs.MovedLemmas.{moves_done, moves_back, undo_edit}
+use Rattle.hd_state.proofs.MovedLemmas.{moves_done, moves_back, edits_done, edits_back, undo_edit}
 use Rattle.hd_state.proofs.repairing.moved_by.Goals as goal
 
-pub returns-in-Do : goal.returns-in-Do
-returns-in-Do c =
+pub returns-in-Do-clause-moves : goal.returns-in-Do-clause-moves
+returns-in-Do-clause-moves c =
     let before : List Event = c.args.before.now in
     let later : List Event = c.args.after.now in
     let at : slice_get later (length before) ≡ Some c.event.result = ap (slice_get later) (sym c.len-last.ensures.len) ∙ c.event.ensures in
@@ -19,9 +19,23 @@ moved_back-requires c =
     let at : slice_get later (length before) ≡ Some c.event.result = ap (slice_get later) (sym c.len-last.ensures.len) ∙ c.event.ensures in
     undo_edit before later c.requires c.event.result at c.in-Undo.k c.in-Undo.is
 
-pub returns-in-Undo : goal.returns-in-Undo
-returns-in-Undo c =
+pub returns-in-Undo-clause-moves : goal.returns-in-Undo-clause-moves
+returns-in-Undo-clause-moves c =
     let before : List Event = c.args.before.now in
     let later : List Event = c.args.after.now in
     let at : slice_get later (length before) ≡ Some c.event.result = ap (slice_get later) (sym c.len-last.ensures.len) ∙ c.event.ensures in
     moves_back before later c.requires c.event.result at c.in-Undo.k c.moved_back.result c.in-Undo.is c.moved_back.ensures
+
+pub returns-in-Do-clause-edits : goal.returns-in-Do-clause-edits
+returns-in-Do-clause-edits c =
+    let before : List Event = c.args.before.now in
+    let later : List Event = c.args.after.now in
+    let at : slice_get later (length before) ≡ Some c.event.result = ap (slice_get later) (sym c.len-last.ensures.len) ∙ c.event.ensures in
+    edits_done before later c.requires c.event.result at c.in-Do.edit c.len-last.ensures.lawful c.in-Do.is
+
+pub returns-in-Undo-clause-edits : goal.returns-in-Undo-clause-edits
+returns-in-Undo-clause-edits c =
+    let before : List Event = c.args.before.now in
+    let later : List Event = c.args.after.now in
+    let at : slice_get later (length before) ≡ Some c.event.result = ap (slice_get later) (sym c.len-last.ensures.len) ∙ c.event.ensures in
+    edits_back before later c.requires c.event.result at c.in-Undo.k c.moved_back.result c.in-Undo.is c.moved_back.ensures

@@ -15,7 +15,8 @@ lose-requires-clause-settled c =
     let moved = c.moved_by-moved.result in
     let lost : AreLost dump before after c.in_ok-lost.lost.items = subst (λ (d : Dump). AreLost d before after c.in_ok-lost.lost.items) (sym c.requires.same) c.in_ok-lost.ensures in
     let settled : Settled (standing dump before) c.args.supports.now = subst (λ (d : Dump). Settled (standing d before) c.args.supports.now) (sym c.requires.same) c.requires.kept.settled in
-    let loses : LosesBy before after moved.event moved.edit = moves_loss before after moved.loses moved.event moved.edit c.moved_by-moved.ensures c.if-moved.true in
+    let loses : LosesBy before after moved.event moved.edit =
+    moves_loss before after moved.loses moved.event moved.edit c.moved_by-moved.ensures.moves c.if-moved.true in
     rw (c.new-view.ensures, c.in_ok-supports.ensures, c.deref.ensures.value) (before_loss dump before after moved.event moved.edit c.in_ok-lost.lost.items c.args.supports.now loses lost settled)
 
 pub gain-requires-clause-settled : goal.gain-requires-clause-settled
@@ -25,7 +26,8 @@ gain-requires-clause-settled c =
     let after = c.args.after.front.now in
     let moved = c.moved_by-moved.result in
     let settled : Settled (standing dump before) c.args.supports.now = subst (λ (d : Dump). Settled (standing d before) c.args.supports.now) (sym c.requires.same) c.requires.kept.settled in
-    let gains : LosesBy after before moved.event moved.edit = moves_gain before after moved.loses moved.event moved.edit c.moved_by-moved.ensures c.if-moved.false in
+    let gains : LosesBy after before moved.event moved.edit =
+    moves_gain before after moved.loses moved.event moved.edit c.moved_by-moved.ensures.moves c.if-moved.false in
     rw (c.new-view.ensures, c.in_ok-supports.ensures, c.deref-2.ensures.value) (before_gain dump before after moved.event moved.edit c.in_ok-gained.gained.items c.args.supports.now gains c.in_ok-gained.ensures settled)
 
 pub returns-then-moved-clause-outside : goal.returns-then-moved-clause-outside
