@@ -18,7 +18,7 @@ use std::time::Instant;
 const EACH: u32 = 256;
 
 /// What took how long since a moment, in microseconds; answers the moment now.
-fn lap(rt: &(impl Print + Clock), name: &str, start: Instant) -> Result<Instant> {
+pub(crate) fn lap(rt: &(impl Print + Clock), name: &str, start: Instant) -> Result<Instant> {
     let micros = start.elapsed(rt)?.as_micros();
     println!(rt; "{name} {micros}")?;
     Ok(Instant::now(rt)?)

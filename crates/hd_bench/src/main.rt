@@ -1,10 +1,11 @@
-//! Measures what `hdesk` itself doesn't tell. `hd_bench FILE boards 16` opens a board of so many desks over a dump and lets
-//! them append (`boards.rt`). `hd_bench FILE looks 40` tells how many edges and roots the repairs of so many cuts look at
-//! (`looks.rt`). With fewer words it does nothing.
+//! Measures what `hdesk` itself doesn't tell. `hd_bench FILE boards 16` opens a board of 16 desks over a dump and lets them
+//! append (`boards.rt`). `hd_bench FILE looks 40` tells how many edges and roots the repairs of 40 cuts look at (`looks.rt`).
+//! `hd_bench FILE search 5` times five searches afresh (`search.rt`). With fewer words it does nothing.
 #![tactic(auto)]
 
 mod boards;
 mod looks;
+mod search;
 
 use anyhow::{Result, anyhow};
 use boards::measure_boards;
@@ -13,6 +14,7 @@ use hd_graph::{Graph, open_dump};
 use hd_records::check_size;
 use hd_terms::Mode;
 use looks::measure_looks;
+use search::measure_search;
 use std::env;
 use std::fs::{self, File};
 use std::io::Read;
@@ -65,6 +67,7 @@ fn main(rt: HostRuntime) -> Result<()> {
     match what.as_str() {
         "boards" => measure_boards(&rt, graph, count.as_str()),
         "looks" => measure_looks(&rt, graph, count.as_str()),
-        _ => Err(anyhow!("the words are FILE boards N, or FILE looks N")),
+        "search" => measure_search(&rt, graph, count.as_str()),
+        _ => Err(anyhow!("the words are FILE boards N, FILE looks N, or FILE search N")),
     }
 }
