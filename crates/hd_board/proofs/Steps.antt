@@ -1,5 +1,5 @@
 -- A desk's state on the way to what the desk has seen.
-use Rattle.std.proofs.Common.{◌≡◌, ◌∙◌, ℕ, ◌+◌, ◌<◌, ◌≤◌, List, [], ◌∷◌, length, take, drop, length-append, Option, None, Some, Result, slice_get, subst, refl, sym, ap, arith}
+use Rattle.std.proofs.Common.{◌≡◌, ◌∙◌, ℕ, ◌+◌, ◌<◌, ◌≤◌, List, [], ◌∷◌, ◌++◌, length, take, drop, length-append, Option, None, Some, Result, slice_get, subst, refl, sym, ap, arith}
 use Rattle.std.specs.Result.{IsErr, OnErr}
 use Rattle.std.proofs.lemmas.Result.{MatchResult-from_err}
 use Rattle.std.proofs.lemmas.List.{length-take-le, take-append-drop}
@@ -9,10 +9,11 @@ use Rattle.hd_terms.specs.Dump.{Dump}
 use Rattle.hd_terms.specs.declared.errors.LogFault.{LogFault}
 use Rattle.hd_terms.specs.Log.{IsEvent, IsLawful, begins_with, log_fault}
 use Rattle.hd_terms.specs.Sessions.{with_event}
-use Rattle.hd_terms.proofs.Beginnings.{begins_itself, begins_trans, begins_shorter, begins_next, lawful_beginning}
+use Rattle.hd_terms.proofs.Beginnings.{begins_itself, begins_trans, begins_shorter, begins_next, begins_get, lawful_beginning}
 use Rattle.hd_terms.proofs.LawfulLogs.{refuses, get-last}
 use Rattle.hd_state.specs.declared.state.Done.{Done}
 use Rattle.hd_state.specs.Done.{IsDone}
+use Rattle.hd_state.specs.Next.{IsNextLog}
 use Rattle.hd_board.specs.Replicas.{Replica, IsAt, IsBehindAt}
 use Rattle.hd_board.specs.Stepping.{StepsOnce, ComesTo}
 
@@ -23,6 +24,27 @@ no_fault front e (Some f) is law = absurd (refuses front e f is law)
 
 pub takes_next : (log front : List Event) (e : Event) → IsLawful log → begins_with log front → IsEvent log (length front) e → log_fault front e ≡ None
 takes_next log front e law begins next = no_fault front e (log_fault front e) refl (lawful_beginning log (with_event front e) (begins_next log front e begins next) law)
+
+-- the log of a state with the next event of what was seen, where that is all that was seen
+all-next : (log front more : List Event) → IsLawful log → log ≡ front ++ more → length more ≡ 1 → IsNextLog front log
+all-next log front [] law is one = absurd (omega (arith, one))
+all-next log front (e ∷ []) law is one = record { event = e; takes = no_fault front e (log_fault front e) refl (subst IsLawful is law); is = is }
+all-next log front (e ∷ x ∷ more) law is one = absurd (omega (arith, one))
+
+pub next_all : (log front : List Event) → IsLawful log → begins_with log front → length log ≡ length front + 1 → IsNextLog front log
+next_all log front law begins one = all-next log front begins.0 law begins.1 (omega (arith, one, ap length begins.1, length-append front begins.0))
+
+-- the desk's state comes to that log
+pub steps_to : (old new : Replica) (next : List Event) (done : Done) (one : IsNextLog old.front next)
+    → begins_with old.seen next → IsAt old new old.seen next → IsDone old.dump old.front next done → StepsOnce old new done
+steps_to old new next done one within at is = record {
+  event = one.event;
+  next =
+      begins_get old.seen next (length old.front) one.event within
+      (ap (λ (es : List Event). slice_get es (length old.front)) one.is ∙ get-last old.front one.event);
+  at = record { who = at.who; dump = at.dump; seen = at.seen; front = at.front ∙ one.is };
+  done_is = subst (λ (f : List Event). IsDone old.dump old.front f done) one.is is;
+}
 
 -- beginnings of a log
 pub begins_take : (log : List Event) (n : ℕ) → begins_with log (take n log)

@@ -4,6 +4,7 @@ ghost use Rattle.hd_terms.specs.declared.Event.{Event as OneEvent};
 ghost use Rattle.hd_terms.specs.declared.What.TheVariants as whats;
 ghost use Rattle.hd_terms.specs.Log.{begins_with, last_live};
 ghost use Rattle.hd_terms.specs.Sessions.{with_event};
+ghost use Rattle.hd_state.specs.Next.{IsNextLog};
 ghost use Rattle.hd_board.specs.Replicas.{IsAt, IsBehindAt};
 ghost use Rattle.hd_board.specs.Stepping.{ComesTo, StepsOnce, Unfinishes};
 ghost use Rattle.hd_board.specs.Opening.{desk_at};
@@ -343,6 +344,26 @@ impl Desk {
         Ok(())
     }
 
+    /// The log of the state with the next event of what was seen. Where that is all that was seen, the two share their events.
+    fn next_log(&self, alloc: Global) -> Result<Front, NoMemory>
+        requires { length self.now.front < length self.now.seen }
+        ensures next { IfOk result (IsNextLog self.now.front) }
+        ensures within { IfOk result (begins_with self.now.seen) }
+    {
+        let reached = self.state.front().len();
+        let count = self.seen.len();
+        prove!(reached < count);
+        if count - reached == 1 {
+            let seen = self.seen.share()?;
+            return Ok(seen);
+        }
+        let event = self.seen.event(reached);
+        match self.state.front().extend(alloc, event) {
+            Ok(longer) => Ok(longer),
+            Err(_) => Err(NoMemory),
+        }
+    }
+
     /// Steps the state by the next event of what was seen, and answers what this event did.
     ///
     /// # Errors
@@ -353,11 +374,8 @@ impl Desk {
         ensures ok { IfOk result (StepsOnce self.old self.new) }
         ensures err { OnErr result (IsAt self.old self.new self.old.seen self.old.front) }
     {
-        let reached = self.state.front().len();
-        let count = self.seen.len();
-        prove!(reached < count);
-        let event = self.seen.event(reached);
-        let (state, done) = self.state.step(alloc, event)?;
+        let next = self.next_log(alloc)?;
+        let (state, done) = self.state.follow(alloc, next)?;
         self.state = state;
         Ok(done)
     }
