@@ -10,22 +10,21 @@ use hd_log::Front;
 use hd_terms::Event;
 use std::alloc::Global;
 
-/// Whether a board of so many desks, whose numbers go from a first one on, has a desk of this number.
+/// Whether a board of `count` desks, numbered from `first` on, has a desk of this number.
 pub fn is_member(first: u8, count: u8, who: u8) -> bool
     ensures { IsTrue result ↔ Contains (numbers_from first count) who }
 {
     first <= who && who - first < count
 }
 
-/// Whether an analyst who has seen one log can find another, on a board of so many desks whose numbers go from a first one on.
+/// Whether an analyst who has seen one log can find another, on a board of `count` desks numbered from `first` on.
 pub fn is_found(first: u8, count: u8, who: u8, seen: &Front, log: &Front) -> bool
     ensures { MatchBool result (IsFound (numbers_from first count) who seen.now log.now) (IsForeign (numbers_from first count) who seen.now log.now) }
 {
     is_member(first, count, who) && log.continues(seen, who)
 }
 
-/// Appends an event to a log, on a board of so many desks whose numbers go from a first one on, over a dump of so many
-/// roots. The analyst has seen an earlier log. The answer is the log with the event; a refusal leaves the log.
+/// Appends an event to a log, on a board of `count` desks numbered from `first` on, over a dump of `roots` roots. The analyst has seen an earlier log. The answer is the log with the event; a refusal leaves the log.
 ///
 /// # Errors
 ///

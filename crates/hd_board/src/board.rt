@@ -56,7 +56,7 @@ impl Model for Board {
     ghost invariant = { IsBoard };
 }
 
-/// A board over a dump's graph with so many desks, from 1 to 16, whose log is empty. Desk i is that of analyst i. The desks
+/// A board over a dump's graph with `n` desks, from 1 to 16, whose log is empty. Desk i is that of analyst i. The desks
 /// share the graph and its strengths.
 ///
 /// # Errors
@@ -86,7 +86,7 @@ pub fn open<R: Threads + Sync>(
     Ok((board, desks))
 }
 
-/// So many desks, numbered from 0 on, that have come to a state.
+/// `n` desks, numbered from 0 on, that have come to a state.
 fn opened_desks(alloc: Global, state: &State, n: u8) -> Result<Vec<Desk>, NoMemory>
     requires { state.now.log ≡ [] }
     ensures { IfOk result (λ v. v.items ≡ opened_desks state.now.dump n) }

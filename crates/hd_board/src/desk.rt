@@ -327,7 +327,7 @@ impl Desk {
         Ok(done)
     }
 
-    /// Steps the state to so many events of what was seen.
+    /// Steps the state to the first `count` events of what was seen.
     ///
     /// # Errors
     ///

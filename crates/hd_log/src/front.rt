@@ -121,15 +121,6 @@ impl Front {
         &self.live
     }
 
-    /// Of each event, whether it is live: an edit that no event takes back.
-    pub fn live(&self, alloc: Global) -> Result<Vec<bool>, NoMemory>
-        ensures { IfOk result (λ v. v.items ≡ live_flags self.now) }
-    {
-        let mut flags = Vec::with_capacity(alloc, self.live.len())?;
-        flags.extend_from_slice(&self.live)?;
-        Ok(flags)
-    }
-
     /// The number of an analyst's last live event, if there is one. It takes no memory.
     pub fn last_live(&self, who: u8) -> Option<u32>
         ensures { result ≡ last_live self.now who }

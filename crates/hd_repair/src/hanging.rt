@@ -24,7 +24,7 @@ pub(crate) fn is_before(kept: &Supports, a: u32, b: u32) -> bool
     kept.stamp(a) < kept.stamp(b)
 }
 
-/// Whether the stored chain of an object is seen to lead to a root, within so many steps. It counts them down.
+/// Whether the stored chain of an object is seen to lead to a root, within the `steps` that are left. It counts them down.
 pub(crate) fn is_hung(kept: &Supports, o: u32, steps: &mut u64) -> bool
     requires object { o < length kept.now }
     requires in_order { AreInOrder kept.now NoneLate }

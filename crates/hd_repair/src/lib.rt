@@ -18,15 +18,19 @@
 //!    meet an object that waits. Where the new source comes later, stamps are lifted below the object (`lifting.rt`).
 //! 2. An object that finds no such source is detached: it is unreachable for the time being, and the objects that it
 //!    supports wait in its place. Walks along chains are bounded; an object beyond the bound is detached, which is right
-//!    too.
-//! 3. `offer_each` (`best.rt`) finds the best offer to each detached object, over the roots on it and the edges to it.
-//!    Detached objects offer nothing.
+//!    too. An object to which nothing led but an edge from a detached one is alone: it waits before the others, and is
+//!    detached without a search.
+//! 3. `offer_each` (`best.rt`) finds the best offer to each detached object that isn't alone, over the roots on it and the
+//!    edges to it. Detached objects offer nothing.
 //! 4. `spread` (`spreading.rt`) accepts offers, the greatest first. An offer that gives more than its target has
 //!    becomes the target's support. What the target then gives along its own edges is offered in turn.
 //! 5. `changes_of` compares the strengths of the detached objects with those that they had.
 //!
-//! A gain (`gaining.rt`) takes the targets of what was gained, each once (`targets.rt`), finds the best offer to each,
-//! and spreads them in the same way. Nothing is detached, since a gain weakens nothing.
+//! A gain (`gaining.rt`) takes the targets of what was gained, each once (`targets.rt`), and finds the best offer to each.
+//! One that gives more than its target has is spread in the same way. One that gives the same from an earlier source
+//! becomes the support, so that chains stay short. Nothing is detached, since a gain weakens nothing.
+//!
+//! What the next objects of a queue need is read ahead for many of them at once (`ahead.rt`).
 //!
 //! Offers wait in `Offers` (`offers.rt`), which has one queue for each strength, so the greatest is found without a
 //! heap. An offer is checked when it is taken out, so an outdated one is dropped then. With no offer left the supports

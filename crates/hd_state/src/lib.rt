@@ -23,8 +23,8 @@
 //! 4. The changes that the repair returns move the totals, mark their pages as changed, and tell how many objects
 //!    became unreachable and how many came back (`Done`).
 //!
-//! So a step costs by what its event affects and by the length of the log. It doesn't compute the strengths again. By
-//! the size of the dump it only adds an owner to each group of pages.
+//! So a step costs by what its event affects. It doesn't compute the strengths again. By the size of the dump it only adds
+//! an owner to each group of pages, and by the length of the log it copies 17 bytes an event and 8 bytes a live edit.
 //!
 //! Queries are those of `hd_queries`; the methods of `State` hand them its parts. `view` gives the edges as a repair
 //! sees them, for measurements and tests.

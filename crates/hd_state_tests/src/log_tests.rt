@@ -30,8 +30,7 @@ fn live_events(rt: HostRuntime) {
     assert_eq!(rt; front.len(), 3);
     assert_eq!(rt; front.event(1), by(1, CUT));
     assert_eq!(rt; front.event(2), by(0, What::Undo(0)));
-    let live = front.live(rt.alloc()).expect(&rt, "live events are listed");
-    assert_eq!(rt; live.as_slice(), [false, true, false].as_slice());
+    assert_eq!(rt; front.flags(), [false, true, false].as_slice());
     for (who, last) in [(0, None), (1, Some(1)), (2, None)] {
         assert_eq!(rt; front.last_live(who), last, "of {who}");
     }
