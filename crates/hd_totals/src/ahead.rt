@@ -6,31 +6,33 @@ use hd_repair::Change;
 /// How many objects are read together.
 const BATCH: usize = 32;
 
-/// How many changes were read ahead, and how many of them are still to come.
+/// Where the changes are that are read ahead.
 #[derive(Clone, Copy)]
 pub(crate) struct Ahead {
-    read: usize,
-    left: usize,
+    /// The index of the next change.
+    at: usize,
+    /// The index of the first change that wasn't read ahead.
+    unread: usize,
 }
 
 impl Ahead {
     /// Nothing was read yet.
     pub(crate) fn none() -> Ahead {
-        Ahead { read: 0, left: 0 }
+        Ahead { at: 0, unread: 0 }
     }
 
     /// Reads the groups and bytes of the next changed objects, once for each batch of them. Call it before each change. The
     /// sum decides only when the next ones are read, so that a compiler doesn't leave the reads out.
     pub(crate) fn read(&mut self, graph: &Graph, changes: &[Change]) {
-        if self.left > 0 {
-            self.left -= 1;
+        let at = self.at;
+        self.at = at.saturating_add(1);
+        if at < self.unread {
             return;
         }
-        let coming = changes.get(self.read..).unwrap_or(changes);
+        let coming = changes.get(at..).unwrap_or(changes);
         let coming = coming.get(..BATCH).unwrap_or(coming);
         let sum = read_objects(graph, coming);
-        self.read = self.read.saturating_add(BATCH);
-        self.left = BATCH - 1 - (sum % 2) as usize;
+        self.unread = at.saturating_add(BATCH - (sum % 2) as usize);
     }
 }
 
