@@ -64,7 +64,7 @@ impl LastChanges {
     fn touch(&mut self, page: u32, events: u32) -> Result<(), NoMemory>
         ensures { OnOk result (self.new ≡ slice_set self.old page events) }
     {
-        if page < self.events.len() {
+        if page < self.events.len() && self.events.get(page) != events {
             self.events.with(page, events)?;
         }
         Ok(())
