@@ -32,7 +32,7 @@ fn array_line(text: &mut String, i: u64, shape: u64, random: u64) -> Result<(), 
 }
 
 /// The lines of the reference objects, one of each kind, each with a random referent.
-fn reference_lines(text: &mut String, random: u64) -> Result<(), NoMemory> {
+pub fn reference_lines(text: &mut String, random: u64) -> Result<(), NoMemory> {
     let mut x = random;
     for i in 1..5u64 {
         x = next_random(x);

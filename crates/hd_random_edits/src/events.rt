@@ -1,6 +1,18 @@
 //! Random edits and undos.
 use crate::dumps::random_id;
+use hd_log::Front;
 use hd_terms::{Edit, Event, RefKind, Slot, What};
+
+/// A cut of a random slot: an element, in some cases the reference to the class, or a slot of one of the two classes.
+fn random_cut(x: u64) -> Edit {
+    let class = 0x41 + (x >> 20) % 2;
+    match (x >> 24) % 8 {
+        0 => Edit::Cut(random_id(x >> 8), Slot::OfClass),
+        1 => Edit::Cut(class, Slot::Loader),
+        2 => Edit::Cut(random_id(x >> 8), Slot::Element(((x >> 16) % 40) as u32)),
+        _ => Edit::Cut(random_id(x >> 8), Slot::Element(((x >> 16) % 4) as u32)),
+    }
+}
 
 /// A random edit: a cut in every second case.
 fn random_edit(x: u64) -> Edit {
@@ -16,7 +28,7 @@ fn random_edit(x: u64) -> Edit {
         1 => Edit::Drop((x >> 16) % 8),
         2 => Edit::Clear(0x21 + (x >> 16) % 4),
         3 => Edit::ClearAll(kinds[((x >> 16) % 4) as usize]),
-        _ => Edit::Cut(id, Slot::Element(((x >> 16) % 4) as u32)),
+        _ => random_cut(x),
     }
 }
 
@@ -27,5 +39,20 @@ pub fn random_event(x: u64) -> Event {
     } else {
         What::Do(random_edit(x))
     };
+    Event { who: 0, what }
+}
+
+/// A random edit, or the undo of the last event that is live or of a random one. Of 256 events at a time undos are fewer than
+/// edits, and of the next 256 they are more, so that few edits are live at a time.
+pub fn random_event_of_long_log(front: &Front, x: u64) -> Event {
+    let most = if front.len() / 256 % 2 == 0 { 7 } else { 10 };
+    let mut what = What::Do(random_edit(x));
+    if (x >> 32) % 16 < most {
+        if let Some(last) = front.last_live(0) {
+            what = What::Undo(last);
+        }
+    } else if (x >> 32) % 16 == 15 && front.len() > 0 {
+        what = What::Undo(((x >> 40) % u64::from(front.len())) as u32);
+    }
     Event { who: 0, what }
 }

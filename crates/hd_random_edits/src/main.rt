@@ -1,39 +1,50 @@
-//! Random edits and undos of random dumps, in both modes: after each, what is kept is settled, and strengths and totals are
-//! those that a search from scratch gives. The stored output says that this held of each dump.
+//! Random edits and undos of random dumps, in both modes: after each, what is kept is settled, strengths and totals are
+//! those that a search from scratch gives, and what fell and came back is what they say. One log is filled. The stored output says
+//! that this held of each dump.
 #![tactic(auto)]
 
 mod afresh;
 mod dumps;
 mod events;
+mod fallen;
+mod long_log;
+mod shapes;
 
 use afresh::is_as_afresh;
-use dumps::random_dump;
 use events::random_event;
+use fallen::step_and_compare;
 use hd_queries::edit_refusal;
 use hd_state::State;
 use hd_state_tests::dumps::graph_in;
 use hd_state_tests::random::next_random;
 use hd_terms::{Event, Mode, What};
+use long_log::events_of_long_log;
+use shapes::{SHAPES, Shape, shaped_dump};
 use std::alloc::Global;
 use std::io;
 use std::random::RandomSource;
 use std::thread::Threads;
 
-/// How many random dumps there are.
-const DUMPS: u32 = 30;
+/// How many random dumps there are of a shape.
+fn dumps_of(shape: Shape) -> u32 {
+    match shape {
+        Shape::Mixed => 30,
+        _ => 6,
+    }
+}
 
 /// How many random events a dump gets. Some are refused.
 const EVENTS: u32 = 30;
 
 /// Whether the dump refuses what an event edits.
-fn is_refused(state: &State, event: Event) -> bool {
+pub fn is_refused(state: &State, event: Event) -> bool {
     match event.what {
         What::Do(edit) => edit_refusal(state.graph(), edit).is_some(),
         What::Undo(_) => false,
     }
 }
 
-/// The state after one more event, or the same where the event may not be made.
+/// The state after one more event, if what is told of it is right, or the same where the event may not be made.
 fn stepped(alloc: Global, state: State, event: Event) -> Option<State> {
     if is_refused(&state, event) {
         return Some(state);
@@ -41,9 +52,12 @@ fn stepped(alloc: Global, state: State, event: Event) -> Option<State> {
     if let Some(_fault) = state.front().next_fault(&event) {
         return Some(state);
     }
-    let Ok((next, _)) = state.step(alloc, event) else {
+    let Ok((next, is_right)) = step_and_compare(alloc, &state, event) else {
         return None;
     };
+    if !is_right {
+        return None;
+    }
     Some(next)
 }
 
@@ -70,33 +84,58 @@ fn taken_events<R: Threads + Sync>(
 fn taken_by_dump<R: RandomSource + Threads + Sync>(
     rt: &R,
     alloc: Global,
+    shape: Shape,
     random: u64,
     mode: Mode,
 ) -> Option<u32> {
-    let text = random_dump(alloc, random).ok()?;
+    let text = shaped_dump(alloc, shape, random).ok()?;
     let graph = graph_in(rt, alloc, text.as_str(), mode)?;
     let state = State::open(rt, alloc, graph).ok()?;
     taken_events(rt, alloc, state, random)
 }
 
-/// Prints whether each state of each random dump was as one computed afresh, in a mode. A dump that takes few events shows
-/// nothing.
+/// Prints whether each state of each random dump of a shape was as one computed afresh, in a mode. A dump that takes few
+/// events shows nothing.
+fn print_shape<R: Print + AllocGlobal + RandomSource + Threads + Sync>(
+    rt: &R,
+    mode: Mode,
+    shape: Shape,
+) -> io::Result<()> {
+    let mut x = 0x9E37_79B9_7F4A_7C15u64;
+    let dumps = dumps_of(shape);
+    for _ in 0..dumps {
+        x = next_random(x);
+        match taken_by_dump(rt, rt.alloc(), shape, x, mode) {
+            Some(taken) if taken > 5 => {}
+            _ => println!(rt; "{mode:?}, {shape:?}: the dump of {x:#x} went wrong")?,
+        }
+    }
+    println!(rt; "{mode:?}, {shape:?}: {dumps} dumps were gone through")
+}
+
+/// Prints whether each state of each random dump was as one computed afresh, in a mode.
 fn print_mode<R: Print + AllocGlobal + RandomSource + Threads + Sync>(
     rt: &R,
     mode: Mode,
 ) -> io::Result<()> {
-    let mut x = 0x9E37_79B9_7F4A_7C15u64;
-    for _ in 0..DUMPS {
-        x = next_random(x);
-        match taken_by_dump(rt, rt.alloc(), x, mode) {
-            Some(taken) if taken > 5 => {}
-            _ => println!(rt; "{mode:?}: the dump of {x:#x} went wrong")?,
-        }
+    for shape in SHAPES {
+        print_shape(rt, mode, shape)?;
     }
-    println!(rt; "{mode:?}: {DUMPS} dumps were gone through")
+    Ok(())
+}
+
+/// Prints how many events a log was filled with.
+fn print_long_log<R: Print + AllocGlobal + RandomSource + Threads + Sync>(
+    rt: &R,
+) -> io::Result<()> {
+    match events_of_long_log(rt, rt.alloc(), Shape::Mixed, 0x9E37_79B9_7F4A_7C15) {
+        Some(events) => println!(rt; "A log was filled with {events} events"),
+        None => println!(rt; "A long log went wrong"),
+    }
 }
 
 fn main(rt: HostRuntime) -> io::Result<()> {
     print_mode(&rt, Mode::Direct)?;
-    print_mode(&rt, Mode::Closure)
+    print_mode(&rt, Mode::Closure)?;
+    print_long_log(&rt)
 }

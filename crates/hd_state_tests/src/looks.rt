@@ -1,4 +1,4 @@
-//! How many edges and roots a repair looks at.
+//! Repairs for one event of a log: what changes, and how many edges and roots are looked at.
 ghost use Rattle.std.specs.Prelude.{◌≡◌};
 ghost use Rattle.hd_state.specs.Next.{IsNextLog};
 ghost use Rattle.hd_strength.specs.Removed.{IsRemovedBy};
@@ -6,21 +6,21 @@ ghost use Rattle.hd_strength.specs.Removed.{IsRemovedBy};
 use hd_graph::Graph;
 use hd_log::Front;
 use hd_reverse::ReverseRows;
-use hd_state::repaired;
+use hd_state::{Repair, repaired};
 use hd_strength::{Removed, from_scratch};
 use hd_supports::Supports;
-use hd_terms::{Event, NoMemory};
+use hd_terms::{Event, NoMemory, Strength};
 use hd_view::{AddedRoots, Edited};
 use std::alloc::Global;
 use std::thread::Threads;
 
-/// How many looks the repair takes from a graph under one log to the graph under the next.
-fn looks_over<R: Threads + Sync>(
+/// The repair from a graph under one log to the graph under the next.
+fn repair_over<R: Threads + Sync>(
     rt: &R,
     alloc: Global,
     before: Edited<'_>,
     after: Edited<'_>,
-) -> Result<u64, NoMemory>
+) -> Result<Repair, NoMemory>
     requires same { after.graph.now ≡ before.graph.now }
     requires next { IsNextLog before.front.now after.front.now }
     requires before { IsRemovedBy before.graph.now before.front.now before.removed.now }
@@ -32,17 +32,17 @@ fn looks_over<R: Threads + Sync>(
     supports.are_few();
     let added = AddedRoots::of(alloc, after.graph, after.front)?;
     let repair = repaired(alloc, &reverse, before, after, &added, &supports)?;
-    Ok(repair.looks)
+    Ok(repair)
 }
 
-/// How many looks the repair from one log of a graph to the next takes.
-fn looks_between<R: Threads + Sync>(
+/// The repair from one log of a graph to the next.
+fn repair_between<R: Threads + Sync>(
     rt: &R,
     alloc: Global,
     graph: &Graph,
     before: &Front,
     after: &Front,
-) -> Result<u64, NoMemory>
+) -> Result<Repair, NoMemory>
     requires { IsNextLog before.now after.now }
 {
     let taken_before = Removed::of(alloc, graph, before)?;
@@ -57,7 +57,21 @@ fn looks_between<R: Threads + Sync>(
         front: after,
         removed: &taken_after,
     };
-    looks_over(rt, alloc, before, after)
+    repair_over(rt, alloc, before, after)
+}
+
+/// The repair for one more event of a log, where the log takes the event.
+fn repair_of_event<R: Threads + Sync>(
+    rt: &R,
+    alloc: Global,
+    graph: &Graph,
+    log: &Front,
+    event: Event,
+) -> Option<Repair> {
+    let Ok(next) = log.extend(alloc, event) else {
+        return None;
+    };
+    repair_between(rt, alloc, graph, log, &next).ok()
 }
 
 /// How many looks the repair for one more event of a log takes, where the log takes the event.
@@ -68,8 +82,31 @@ pub fn looks_of_event<R: Threads + Sync>(
     log: &Front,
     event: Event,
 ) -> Option<u64> {
-    let Ok(next) = log.extend(alloc, event) else {
-        return None;
-    };
-    looks_between(rt, alloc, graph, log, &next).ok()
+    let repair = repair_of_event(rt, alloc, graph, log, event)?;
+    Some(repair.looks)
+}
+
+/// The ID of an object and its strength before and after an event.
+pub type IdChange = (u64, Strength, Strength);
+
+/// What the repair for one more event of a log changes, where the log takes the event.
+pub fn changes_of_event<R: Threads + Sync>(
+    rt: &R,
+    alloc: Global,
+    graph: &Graph,
+    log: &Front,
+    event: Event,
+) -> Option<Vec<IdChange>> {
+    let repair = repair_of_event(rt, alloc, graph, log, event)?;
+    let mut changes = Vec::new(alloc);
+    for change in &repair.changes {
+        let o = change.object();
+        if o >= graph.objects() {
+            return None;
+        }
+        changes
+            .push((graph.id_of(o), change.before(), change.after()))
+            .ok()?;
+    }
+    Some(changes)
 }

@@ -1,8 +1,11 @@
 //! Repairs look at what an event concerns, and at nothing else. The bounds are the degrees of the regions, counted by hand.
-use crate::dumps::{CYCLE, SOFT_THEN_WEAK, graph_of};
-use crate::looks::looks_of_event;
+use crate::dumps::{CYCLE, SOFT_THEN_WEAK, WEAK_AND_FINAL, graph_of};
+use crate::looks::{IdChange, changes_of_event, looks_of_event};
+use hd_edges::Edges;
 use hd_graph::Graph;
 use hd_log::Front;
+use hd_state::State;
+use hd_terms::Strength::{Final, Soft, Strong, Unreachable, Weak};
 use hd_terms::{Edit, Event, RefKind, Slot, What};
 use std::alloc::Global;
 use std::fmt::Write as _;
@@ -76,8 +79,27 @@ fn looks_of_a_repair(rt: HostRuntime) {
     let alloc = rt.alloc();
     let graph = graph_of(&rt, alloc, CYCLE).expect(&rt, "the dump opens");
     let (lost, gained) = looks_of_cut(&rt, alloc, &graph, 0);
-    assert!(rt; lost > 0 && lost <= 24);
-    assert!(rt; gained > 0 && gained <= 24);
+    assert!(rt; lost > 0 && lost <= 22);
+    assert!(rt; gained > 0 && gained <= 11);
+}
+
+/// The degree of an object: of its edges, of those to it and of the roots on it.
+fn degree_of(state: &State, id: u64) -> Option<u32> {
+    let o = state.graph().index_of(id)?;
+    let view = state.view();
+    let edges = view.out_len(o).checked_add(view.into_len(o))?;
+    edges.checked_add(view.root_len(o))
+}
+
+/// The cut of the first reference affects the arrays 2 to 5, of degree 11: the array 2 has one reference and two to it, the
+/// array 3 two and one, the array 4 one and two, and the array 5 one and one. The array 1 has one and a root on it.
+#[test]
+fn degrees_of_a_region(rt: HostRuntime) {
+    let graph = graph_of(&rt, rt.alloc(), CYCLE).expect(&rt, "the dump opens");
+    let state = State::open(&rt, rt.alloc(), graph).expect(&rt, "the state opens");
+    for (id, degree) in [(1, 2), (2, 3), (3, 3), (4, 3), (5, 2)] {
+        assert_eq!(rt; degree_of(&state, id), Some(degree), "of {id}");
+    }
 }
 
 #[test]
@@ -113,4 +135,81 @@ fn looks_of_a_cleared_kind(rt: HostRuntime) {
     let (lost, gained) = looks_of_both(&rt, alloc, &graph, event);
     assert!(rt; lost > 0 && lost <= 22);
     assert!(rt; gained > 0 && gained <= 22);
+}
+
+/// Whether these are all of some changes, in any order.
+fn are_all(changes: &[IdChange], expected: &[IdChange]) -> bool {
+    if changes.len() != expected.len() {
+        return false;
+    }
+    for change in expected {
+        if !changes.contains(change) {
+            return false;
+        }
+    }
+    true
+}
+
+/// Whether an event of an empty log changes this, and its undo changes that back.
+fn changes_and_back<R: Abort + Threads + Sync>(
+    rt: &R,
+    alloc: Global,
+    graph: &Graph,
+    event: Event,
+    expected: &[IdChange],
+) -> bool {
+    let empty = Front::empty(alloc).expect(rt, "a log is made");
+    let with_event = empty
+        .extend(alloc, event)
+        .expect(rt, "the log takes the event");
+    let lost = changes_of_event(rt, alloc, graph, &empty, event).expect(rt, "it is repaired");
+    let gained = changes_of_event(rt, alloc, graph, &with_event, UNDO).expect(rt, "it is repaired");
+    let mut back = Vec::new(alloc);
+    for (id, before, after) in expected {
+        back.push((*id, *after, *before))
+            .expect(rt, "there is memory");
+    }
+    are_all(&lost, expected) && are_all(&gained, &back)
+}
+
+/// A clearing of all references of a kind.
+fn clear_all(kind: RefKind) -> Event {
+    Event {
+        who: 0,
+        what: What::Do(Edit::ClearAll(kind)),
+    }
+}
+
+#[test]
+fn changes_of_a_cut(rt: HostRuntime) {
+    let graph = graph_of(&rt, rt.alloc(), CYCLE).expect(&rt, "the dump opens");
+    let expected = [
+        (2, Strong, Unreachable),
+        (3, Strong, Unreachable),
+        (4, Strong, Unreachable),
+        (5, Strong, Unreachable),
+    ];
+    assert!(rt; changes_and_back(&rt, rt.alloc(), &graph, cut(0), &expected));
+}
+
+/// The array 4 is soft by the array 5, and the class 0x13 by the reference 0x22.
+#[test]
+fn changes_of_cleared_soft_references(rt: HostRuntime) {
+    let graph = graph_of(&rt, rt.alloc(), SOFT_THEN_WEAK).expect(&rt, "the dump opens");
+    let expected = [
+        (0x22, Soft, Unreachable),
+        (0x13, Soft, Unreachable),
+        (3, Weak, Unreachable),
+        (4, Soft, Unreachable),
+        (5, Soft, Unreachable),
+    ];
+    assert!(rt; changes_and_back(&rt, rt.alloc(), &graph, clear_all(RefKind::Soft), &expected));
+}
+
+/// The array 5 stays final, by the finalizer.
+#[test]
+fn changes_of_a_cleared_weak_reference(rt: HostRuntime) {
+    let graph = graph_of(&rt, rt.alloc(), WEAK_AND_FINAL).expect(&rt, "the dump opens");
+    let expected = [(5, Weak, Final)];
+    assert!(rt; changes_and_back(&rt, rt.alloc(), &graph, clear_all(RefKind::Weak), &expected));
 }
