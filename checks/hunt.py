@@ -8,7 +8,9 @@ It checks that
 - its chain holds, link by link: the root stands on the first object, each link stands in a slot of the object before,
   no object comes twice, and the weakest link is the object's strength;
 - a cut of the one reference to the leaked session lets fall that session and what it alone holds, and nothing else,
-  and an undo brings all of it back.
+  and an undo brings all of it back;
+- `freed` and `moved` count what that cut let fall, and `top` has the lines of `classes`, most bytes first;
+- with names on, the end of the session's chain names the fields and classes of Planted.java that hold it.
 
 It ends at the first check that doesn't hold.
 """
@@ -94,6 +96,36 @@ def held_by(analyst: Session, session: str) -> list[str]:
     return sorted(held, key=lambda text: int(text, 16))
 
 
+def check_counts(analyst: Session, report: Report, fallen: int) -> None:
+    total, *groups = analyst.rows("freed 0")
+    sums = [str(sum(int(row[column]) for row in groups)) for column in (1, 2)]
+    report.check(total == ["total", str(fallen), sums[1]] and sums[0] == str(fallen), f"freed adds up to {fallen} objects")
+    report.check(["STRONG", "UNREACHABLE", *sums] in analyst.rows("moved 0"), "moved counts them as they fell")
+
+
+def check_names(analyst: Session, report: Report) -> None:
+    session = only_member(analyst, "Session", "STRONG")
+    plain = analyst.rows(f"chain {session}")
+    report.check(analyst.rows("names on") == [], "names are put on")
+    named = analyst.rows(f"chain {session}")
+    report.check([row[:len(short)] for row, short in zip(named, plain)] == plain, "lines with names begin as those without")
+    places = [row[4] for row in named[-4:]]
+    report.check(places[0] == "Listeners.byTopic" and places[2:] == ["java/util/ArrayList.elementData", "-"],
+                 "the chain names the static, the list's field, and an element without a name")
+    names = [row[3] for row in named[-3:]]
+    report.check(names == ["java/util/ArrayList", "[Ljava/lang/Object;", "Session"], "it names the classes on the way")
+    report.check([row[3] for row in analyst.rows(f"object {session}")] == ["Session"], "object names the session's class")
+    report.check(analyst.rows("names off") == [] and analyst.rows(f"chain {session}") == plain, "names are put off again")
+
+
+def check_top(analyst: Session, report: Report) -> None:
+    top = analyst.rows("top STRONG")
+    sizes = [(int(row[2]), int(row[1])) for row in top]
+    report.check(sizes == sorted(sizes, reverse=True), "top lists most bytes first")
+    report.check(sorted(top) == sorted(analyst.rows("classes STRONG")), "it has the lines of classes")
+    report.check(analyst.rows("head 3 top STRONG") == top[:3], "head shows the first of them")
+
+
 def check_leak(analyst: Session, report: Report) -> None:
     session = only_member(analyst, "Session", "STRONG")
     holders = analyst.rows(f"into {session}")
@@ -105,6 +137,7 @@ def check_leak(analyst: Session, report: Report) -> None:
     done = analyst.rows(f"cut {source} {slot}")
     report.check(done == [["event", "0", "fell", str(len(held)), "back", "0"]], f"without it {len(held)} objects fall")
     report.check(ids(analyst, "fell 0") == held, "they are the session and what it alone holds")
+    check_counts(analyst, report, len(held))
     done = analyst.rows("undo")
     report.check(done == [["event", "1", "fell", "0", "back", str(len(held))]], "an undo brings them back")
     report.check(ids(analyst, "fell 0") == [], "nothing has fallen then")
@@ -117,6 +150,8 @@ def hunt(given: argparse.Namespace, report: Report) -> None:
         check_totals(analyst, report, stat)
         check_planted(analyst, report)
         check_leak(analyst, report)
+        check_names(analyst, report)
+        check_top(analyst, report)
         analyst.quit()
 
 

@@ -128,14 +128,16 @@ class Sample(Model):
 
     LINES = [
         "strength 0x2", "cut 0x1 e0", "strength 0x2", "slots 0x1", "undo", "strength 0x2", "mark", "chain 0x2", "into 0x2",
-        "classes STRONG", "members 0x0 STRONG", "fell 0", "fell 1", "private", "cut 0x1 e0", "strength 0x2", "events", "back",
-        "back", "strength 0x2", "roots", "quit",
+        "classes STRONG", "members 0x0 STRONG", "fell 0", "fell 1", "private", "cut 0x1 e0", "strength 0x2", "events",
+        "freed 0", "moved 0", "names on", "slots 0x1", "back", "chain 0x2", "into 0x2", "names off", "back", "strength 0x2",
+        "top STRONG", "object 0x2", "head 1 slots 0x1", "freed 1", "moved 1", "roots", "quit",
     ]
     OBJECT = "0x2"
 
     def __init__(self) -> None:
         super().__init__()
         self.home: list[int | str] | None = None  # the log before a private part
+        self.names = False
 
     def strength(self) -> str:
         return "UNREACHABLE" if self.live() else "STRONG"
@@ -147,7 +149,26 @@ class Sample(Model):
         if line == "back" and self.home is not None:
             count, self.log, self.home = len(self.log) - len(self.home), self.home, None
             return [f"back {count}"]
+        if line.startswith("names"):
+            self.names = line == "names on"
+            return []
+        if line.startswith(("freed", "moved")):
+            word, mark = line.split()
+            return self.since(word, int(mark))
         return super().query(line)
+
+    def since(self, word: str, mark: int) -> list[str]:
+        """The lines of `freed` or `moved` for a mark."""
+        if mark >= len(self.marks):
+            return ["no NoSuchMark"]
+        before, after = self.marks[mark], self.is_up()
+        if word == "freed":
+            return ["total 1 0", "0x0 1 0 ?"] if before and not after else ["total 0 0"]
+        return [] if before == after else ["STRONG UNREACHABLE 1 0" if before else "UNREACHABLE STRONG 1 0"]
+
+    def named(self, *lines: tuple[str, str]) -> list[str]:
+        """Lines, each with its further columns where names are on."""
+        return [f"{line} {columns}" if self.names else line for line, columns in lines]
 
     def event_lines(self) -> list[str]:
         live = self.live()
@@ -160,10 +181,14 @@ class Sample(Model):
     def answers(self) -> dict[str, list[str]]:
         up, mode = self.is_up(), "stands" if self.is_up() else "cut"
         return {
-            "slots 0x1": [f"e0 strong 0x2 {mode}", "e1 strong 0x0 null", "e2 strong 0x9 absent", "class strong 0x0 null"],
-            "chain 0x2": ["root 0 unknown 0x1", "e0 strong 0x2"] if up else [],
-            "into 0x2": [f"0x1 e0 strong {mode}"],
+            "slots 0x1": self.named((f"e0 strong 0x2 {mode}", "? -"), ("e1 strong 0x0 null", "- -"),
+                                    ("e2 strong 0x9 absent", "- -"), ("class strong 0x0 null", "- -")),
+            "head 1 slots 0x1": self.named((f"e0 strong 0x2 {mode}", "? -")),
+            "chain 0x2": self.named(("root 0 unknown 0x1", "?"), ("e0 strong 0x2", "? -")) if up else [],
+            "into 0x2": self.named((f"0x1 e0 strong {mode}", "? -")),
+            "object 0x2": [f"0x0 0 {self.strength()} ?"],
             "classes STRONG": [f"0x0 {1 + up} 12 ?"],
+            "top STRONG": [f"0x0 {1 + up} 12 ?"],
             "members 0x0 STRONG": ["0x1"] + ["0x2"] * up,
             "events": self.event_lines(),
             "back": ["no NotPrivate"],

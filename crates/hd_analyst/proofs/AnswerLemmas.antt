@@ -1,20 +1,22 @@
 -- Lemmas on what a line is answered that spells something.
 use Rattle.std.proofs.Common.{◌≡◌, ◌∙◌, ℕ, inl, inr, true, false, List, ◌∷◌, [], codes, Option, Some, Result, Ok, Err, refl, sym, ap, subst, append-nil}
-use Rattle.std.specs.Prelude.{not}
+use Rattle.std.specs.Prelude.{Bool, not}
 use Rattle.hd_terms.specs.declared.Event.{Event}
 use Rattle.hd_terms.specs.declared.What.{What}
-use Rattle.hd_terms.specs.declared.commands.Command.{Command}
-use Rattle.hd_terms.specs.declared.commands.Command.TheVariants as commands
-use Rattle.hd_terms.specs.declared.commands.LineFault.{LineFault}
+use Rattle.hd_lines.specs.declared.commands.Command.{Command}
+use Rattle.hd_lines.specs.declared.commands.Command.TheVariants as commands
+use Rattle.hd_lines.specs.declared.commands.LineFault.{LineFault}
 use Rattle.hd_terms.specs.declared.errors.LogFault.TheVariants as faults
 use Rattle.hd_terms.specs.declared.errors.Refusal.{Refusal}
 use Rattle.hd_terms.specs.declared.errors.Refusal.TheVariants as refusals
-use Rattle.hd_terms.specs.Asking.{asked}
-use Rattle.hd_terms.specs.Lines.{command_of, is_quit_command}
+use Rattle.hd_lines.specs.Asking.{asked}
+use Rattle.hd_lines.specs.Lines.{command_of, is_quit_command}
+use Rattle.hd_lines.specs.Memory.{with_names}
 use Rattle.hd_terms.specs.Log.{IsLawful}
-use Rattle.hd_terms.specs.Replies.{RepliesTo, RefusesPrivate, RefusesBack, IsUnserved, answered, event_line, line_fault_name, refused, refusal_name, refreshes}
-use Rattle.hd_terms.specs.Sessions.{Analyst, IsLater, IsRefreshed, IsTurn, event_by, with_event}
-use Rattle.hd_terms.specs.Sessions as sessions
+use Rattle.hd_lines.specs.Replies.{RepliesTo, RefusesPrivate, RefusesBack, IsUnserved, answered, event_line, line_fault_name, refused, refusal_name, refreshes}
+use Rattle.hd_lines.specs.Sessions.{Analyst, IsLater, IsRefreshed, IsTurn}
+use Rattle.hd_terms.specs.Appending.{event_by, with_event}
+use Rattle.hd_lines.specs.Sessions as sessions
 use Rattle.hd_state.specs.declared.state.Done.{Done}
 use Rattle.hd_analyst.specs.declared.edit.NotDone.{NotDone}
 use Rattle.hd_analyst.specs.declared.edit.NotDone.TheVariants as not_done
@@ -119,6 +121,12 @@ mark_ran old new (Err r) (same, inl memory) = isn't_run old new (Ok commands.Mar
 mark_ran old new (Err r) (same, inr full) =
     changes_nothing old new (Ok commands.Mark) (refused (refusal_name r)) same (record { full = full.1; reply_is = ap (λ (q : Refusal). refused (refusal_name q)) full.0 })
 
+-- replies show names from here on, or no longer
+pub names_ran : (old new : Work) (on : Bool) (reply : List ℕ) → Remembers old new (with_names old.memory on) → reply ≡ answered_head 0 → IsRun old new (Ok (commands.Names on)) reply
+names_ran old new on reply h is =
+    between old new (commands.Names on) reply h.same_analyst
+    (λ line spells. sessions.renamed on spells (is ∙ sym (append-nil (answered_head 0))) refl h.memory_is)
+
 -- a private part begins, or not
 pub private_ran : (old new : Work) (ended : Result ℕ Refusal) → PrivateEnds old new ended → IsRun old new (Ok commands.Private) (numbered_reply (codes "private ") ended)
 private_ran old new (Ok n) h =
@@ -165,18 +173,18 @@ answered_as old new reading reading' reply reply' same_reading same_reply h = rw
 
 -- all commands but one are not `quit`
 pub not_quit : (c : Command) → (c ≡ commands.Quit → ⊥) → is_quit_command (Ok c) ≡ false
-not_quit (commands.Strength id) other = refl
-not_quit (commands.Chain id) other = refl
-not_quit (commands.Slots id) other = refl
-not_quit (commands.Into id) other = refl
-not_quit commands.Roots other = refl
-not_quit (commands.Classes s) other = refl
-not_quit (commands.Members group s) other = refl
+not_quit (commands.Ask most query) other = refl
+not_quit (commands.Names on) other = refl
 not_quit (commands.Edit edit) other = refl
 not_quit (commands.Undo number) other = refl
 not_quit commands.Mark other = refl
-not_quit (commands.Fell m) other = refl
-not_quit commands.Events other = refl
 not_quit commands.Private other = refl
 not_quit commands.Back other = refl
 not_quit commands.Quit other = absurd (other refl)
+
+-- a command that isn't `quit` is none
+no_truth : true ≡ false → ⊥
+no_truth h = absurd cc
+
+pub never_quit : (c : Command) → is_quit_command (Ok c) ≡ false → c ≡ commands.Quit → ⊥
+never_quit c h is = no_truth (subst (λ (x : Command). is_quit_command (Ok x) ≡ false) is h)

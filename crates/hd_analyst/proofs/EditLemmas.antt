@@ -7,11 +7,13 @@ use Rattle.hd_terms.specs.declared.What.TheVariants as whats
 use Rattle.hd_terms.specs.declared.errors.Refusal.{Refusal}
 use Rattle.hd_terms.specs.declared.errors.Refusal.TheVariants as refusals
 use Rattle.hd_terms.specs.Appending.{append_refusal}
-use Rattle.hd_terms.specs.Asking.{edit_refusal, undo_asked, undo_of_last, unless_refused}
+use Rattle.hd_lines.specs.Asking.{undo_asked, undo_of_last, unless_refused}
+use Rattle.hd_terms.specs.Refusals.{edit_refusal}
 use Rattle.hd_terms.specs.Log.{IsLawful, last_live}
-use Rattle.hd_terms.specs.Replies.{IsUnserved, refused, refusal_name}
+use Rattle.hd_lines.specs.Replies.{IsUnserved, refused, refusal_name}
 use Rattle.hd_terms.specs.Schedule.{Board}
-use Rattle.hd_terms.specs.Sessions.{event_by, roots_at, with_event}
+use Rattle.hd_lines.specs.Sessions.{roots_at}
+use Rattle.hd_terms.specs.Appending.{event_by, with_event}
 use Rattle.hd_terms.proofs.Beginnings.{lawful_beginning}
 use Rattle.hd_state.specs.declared.state.Done.{Done}
 use Rattle.hd_board.specs.declared.faults.AppendFault.{AppendFault}
@@ -33,7 +35,7 @@ use Rattle.hd_analyst.specs.Work.{Work, analyst_at, memory_at}
 
 -- the same with another desk
 abbrev pub with_desk : Inside → Replica → Inside
-with_desk a new = record { board = a.board; desk = new; marks = a.marks; private = a.private }
+with_desk a new = record a { desk = new }
 
 -- the board on which commands run
 abbrev pub board_of : Inside → Board
@@ -65,7 +67,7 @@ adds a new what want log asked part taken who dump seen law = record {
   };
   taken = subst (λ (n : ℕ). append_refusal n log (event_by a.desk.who what) ≡ None) (roots-in a.board.now a.desk a.private part) taken.accepts;
   same_analyst = same_at a.board.now a.desk new who dump;
-  added = ap (λ (l : List Event). memory_at l a.marks.items (home_of a.private)) seen;
+  added = ap (λ (l : List Event). memory_at l a.marks.items (home_of a.private) a.names) seen;
 }
 
 -- nothing is appended, and nothing more is seen
@@ -76,7 +78,7 @@ stays a new want r who dump seen law why = record {
   later = record { more = []; begins = sym (append-nil a.desk.seen); same_own = refl; lawful = subst IsLawful seen law };
   why = inl (refl, why);
   same_analyst = same_at a.board.now a.desk new who dump;
-  left = ap (λ (l : List Event). memory_at l a.marks.items (home_of a.private)) seen;
+  left = ap (λ (l : List Event). memory_at l a.marks.items (home_of a.private) a.names) seen;
 }
 
 -- the log doesn't take an event, or isn't reached
@@ -100,7 +102,7 @@ adds_not a new what want (append_faults.Refused r found) asked part h law =
         refuses = subst (λ (n : ℕ). append_refusal n h.log (event_by a.desk.who what) ≡ Some r) (roots-in a.board.now a.desk a.private part) h.refused.2;
       });
       same_analyst = same_at a.board.now a.desk new h.at.who h.at.dump;
-      left = ap (λ (l : List Event). memory_at l a.marks.items (home_of a.private)) (h.at.seen ∙ is);
+      left = ap (λ (l : List Event). memory_at l a.marks.items (home_of a.private) a.names) (h.at.seen ∙ is);
     }
 
 -- an event is appended, and the state has come to it

@@ -6,9 +6,9 @@ use Rattle.std.proofs.lemmas.List.{get_or-map, length-map, map-append, take_more
 use Rattle.std.proofs.lemmas.Simd.{map-map}
 use Rattle.hd_terms.specs.declared.Event.{Event}
 use Rattle.hd_terms.specs.Log.{is_live, live_flags}
-use Rattle.hd_terms.specs.Replies.{log_lines}
+use Rattle.hd_lines.specs.Replies.{log_lines}
 use Rattle.hd_words.specs.EventLines.{event_line}
-use Rattle.hd_words.specs.declared.row_lines.EventRow.{EventRow}
+use Rattle.hd_words.specs.declared.event_lines.EventRow.{EventRow}
 use Rattle.hd_analyst.specs.EventRows.{event_row, event_rows}
 
 -- an event with its number

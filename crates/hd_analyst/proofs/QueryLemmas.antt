@@ -1,72 +1,72 @@
 -- Replies to queries, by the object or the mark that they name, and as turns of a session.
-use Rattle.std.proofs.Common.{◌≡◌, ◌∙◌, ℕ, true, List, [], Option, Some, Result, Ok, sym, ap, subst, refl, append-nil}
-use Rattle.std.specs.Prelude.{slice_get}
+use Rattle.std.proofs.Common.{◌≡◌, ◌∙◌, ℕ, zero, suc, List, [], ◌∷◌, Option, Some, None, Result, Ok, inl, inr, sym, ap, subst, refl, append-nil}
+use Rattle.std.specs.Prelude.{Bool, All, slice_get}
 use Rattle.std.specs.Option.{option_map}
-use Rattle.std.proofs.lemmas.Option.{slice_get-map}
+use Rattle.std.proofs.lemmas.Option.{slice_get_cases, slice_get-map}
+use Rattle.hd_terms.specs.declared.errors.Refusal.TheVariants as refusals
 use Rattle.hd_terms.specs.declared.Event.{Event}
-use Rattle.hd_terms.specs.declared.commands.Command.{Command}
-use Rattle.hd_terms.specs.declared.commands.Command.TheVariants as commands
-use Rattle.hd_terms.specs.declared.commands.LineFault.{LineFault}
-use Rattle.hd_terms.specs.Edges.{index_of}
-use Rattle.hd_terms.specs.Lines.{command_of}
-use Rattle.hd_terms.specs.Memory.{Memory}
-use Rattle.hd_terms.specs.Replies.{IsUnserved, RepliesChain, RepliesFell, RepliesInto, RepliesSlots, RepliesTo, refreshes}
-use Rattle.hd_terms.specs.Sessions.{IsTurn, answered, unserved}
+use Rattle.hd_lines.specs.declared.commands.Command.{Command}
+use Rattle.hd_lines.specs.declared.commands.Command.TheVariants as commands
+use Rattle.hd_lines.specs.declared.commands.LineFault.{LineFault}
+use Rattle.hd_lines.specs.declared.commands.Query.{Query}
+use Rattle.hd_lines.specs.declared.commands.Query.TheVariants as queries
+use Rattle.hd_terms.specs.Dump.{Dump}
+use Rattle.hd_lines.specs.Lines.{command_of}
+use Rattle.hd_lines.specs.Memory.{Memory}
+use Rattle.hd_lines.specs.Replies.{Answer, IsUnserved, RepliesTo, first_lines, no_such_mark, no_such_object, refused, refusal_name, refreshes}
+use Rattle.hd_lines.specs.Sessions.{IsTurn, answered, unserved}
 use Rattle.hd_state.specs.Situation.{Situation}
 use Rattle.hd_state.specs.Solution.{Solution}
+use Rattle.hd_analyst.specs.declared.texts.Showing.{Showing}
 use Rattle.hd_analyst.specs.Answering.{IsRun, turn_of}
-use Rattle.hd_analyst.specs.Replying.{IsQueryReply, is_query}
+use Rattle.hd_analyst.specs.Replying.{IsQueryReply, IsWritten}
 use Rattle.hd_analyst.specs.Work.{Work, logs_of, memory_at}
 
--- the reply to another command that is the same
-pub answers_as : (state : Solution) (marks : List Situation) (command same : Command) (reply told : List ℕ) → command ≡ same → reply ≡ told
-    → IsQueryReply state marks same told → IsQueryReply state marks command reply
-answers_as state marks command same reply told p q h =
-    subst (λ (c : Command). IsQueryReply state marks c reply) (sym p) (subst (IsQueryReply state marks same) (sym q) h)
+-- the reply to another query that is the same
+pub answers_as : (state : Solution) (marks : List Situation) (showing : Showing) (query same : Query) (reply told : List ℕ) → query ≡ same → reply ≡ told
+    → IsQueryReply state marks showing same told → IsQueryReply state marks showing query reply
+answers_as state marks showing query same reply told p q h =
+    subst (λ (c : Query). IsQueryReply state marks showing c reply) (sym p) (subst (IsQueryReply state marks showing same) (sym q) h)
 
--- replies about an object that is found
-pub answers_chain : (state : Solution) (marks : List Situation) (id o : ℕ) (reply : List ℕ) → index_of state.dump.objects id ≡ Some o
-    → RepliesChain state.dump state.log (Some o) reply → IsQueryReply state marks (commands.Chain id) reply
-answers_chain state marks id o reply is h home = subst (λ (x : Option ℕ). RepliesChain state.dump state.log x reply) (sym is) h
+module _ (Answers : Option ℕ → Answer → Type 0) (most : Option ℕ) where
+  -- an answer about an object that is found, or about none
+  pub about_object : (found : Option ℕ) (o : ℕ) (reply : List ℕ) → found ≡ Some o → IsWritten (Answers (Some o)) most reply → IsWritten (Answers found) most reply
+  about_object found o reply is h = subst (λ (x : Option ℕ). IsWritten (Answers x) most reply) (sym is) h
 
-pub answers_slots : (state : Solution) (marks : List Situation) (id o : ℕ) (reply : List ℕ) → index_of state.dump.objects id ≡ Some o
-    → RepliesSlots state.dump state.log (Some o) reply → IsQueryReply state marks (commands.Slots id) reply
-answers_slots state marks id o reply is h home = subst (λ (x : Option ℕ). RepliesSlots state.dump state.log x reply) (sym is) h
+  pub about_none : (found : Option ℕ) (reply : List ℕ) → Answers None no_such_object → found ≡ None → reply ≡ refused (refusal_name refusals.NoSuchObject) → IsWritten (Answers found) most reply
+  about_none found reply none is says = subst (λ (x : Option ℕ). IsWritten (Answers x) most reply) (sym is) (no_such_object, none, says)
 
-pub answers_into : (state : Solution) (marks : List Situation) (id o : ℕ) (reply : List ℕ) → index_of state.dump.objects id ≡ Some o
-    → RepliesInto state.dump state.log (Some o) reply → IsQueryReply state marks (commands.Into id) reply
-answers_into state marks id o reply is h home = subst (λ (x : Option ℕ). RepliesInto state.dump state.log x reply) (sym is) h
+-- of one line the first ones are that line, unless none is wanted
+pub first_of_one : (most : Option ℕ) (line : List ℕ) → (most ≡ Some 0 → ⊥) → first_lines most (line ∷ []) ≡ line ∷ []
+first_of_one None line some = refl
+first_of_one (Some zero) line some = absurd (some refl)
+first_of_one (Some (suc zero)) line some = refl
+first_of_one (Some (suc (suc n))) line some = refl
 
 -- the log of a mark by its number
 log_of : (marks : List Situation) (k : ℕ) (at : Option Situation) → slice_get marks k ≡ at → slice_get (logs_of marks) k ≡ option_map (λ (mark : Situation). mark.log) at
 log_of marks k at is = slice_get-map (λ (mark : Situation). mark.log) marks k ∙ ap (option_map (λ (mark : Situation). mark.log)) is
 
--- replies about a mark
-pub answers_fell : (state : Solution) (marks : List Situation) (k : ℕ) (at : Option Situation) (reply : List ℕ) → slice_get marks k ≡ at
-    → RepliesFell state.dump state.log (option_map (λ (mark : Situation). mark.log) at) reply → IsQueryReply state marks (commands.Fell k) reply
-answers_fell state marks k at reply is h home = subst (λ (x : Option (List Event)). RepliesFell state.dump state.log x reply) (sym (log_of marks k at is)) h
+module _ (Answers : Option (List Event) → Answer → Type 0) (most : Option ℕ) (marks : List Situation) (k : ℕ) (reply : List ℕ) where
+  -- an answer about a mark that there is, or about none
+  pub about_mark : (mark : Situation) → slice_get marks k ≡ Some mark → IsWritten (Answers (Some mark.log)) most reply → IsWritten (Answers (slice_get (logs_of marks) k)) most reply
+  about_mark mark is h = subst (λ (x : Option (List Event)). IsWritten (Answers x) most reply) (sym (log_of marks k (Some mark) is)) h
+
+  pub about_no_mark : Answers None no_such_mark → slice_get marks k ≡ None → reply ≡ refused (refusal_name refusals.NoSuchMark) → IsWritten (Answers (slice_get (logs_of marks) k)) most reply
+  about_no_mark none is says = subst (λ (x : Option (List Event)). IsWritten (Answers x) most reply) (sym (log_of marks k None is)) (no_such_mark, none, says)
+
+-- what holds of all marks holds of each
+pub of_mark : (marks : List Situation) (dump : Dump) (k : ℕ) (mark : Situation) → All (λ (m : Situation). m.dump ≡ dump) marks → slice_get marks k ≡ Some mark → mark.dump ≡ dump
+of_mark marks dump k mark all is = elim (slice_get_cases marks k).1 [
+  | inl (found, within, at, get) ↦
+      let same : found ≡ mark = cc in
+      subst (λ (m : Situation). m.dump ≡ dump) (get ∙ same) (all k found within)
+  | inr (past, none) ↦ absurd cc
+]
 
 -- a memory
-abbrev memory_of : List Event → List (List Event) → Option (List Event) → Memory
-memory_of log marks home = record { log = log; marks = marks; home = home }
-
--- queries refresh the desk
-query-refreshes : (c : Command) → is_query c ≡ true → refreshes (Ok c) ≡ true
-query-refreshes (commands.Strength id) h = refl
-query-refreshes (commands.Chain id) h = refl
-query-refreshes (commands.Slots id) h = refl
-query-refreshes (commands.Into id) h = refl
-query-refreshes commands.Roots h = refl
-query-refreshes (commands.Classes s) h = refl
-query-refreshes (commands.Members group s) h = refl
-query-refreshes (commands.Edit edit) h = absurd cc
-query-refreshes (commands.Undo number) h = absurd cc
-query-refreshes commands.Mark h = absurd cc
-query-refreshes (commands.Fell m) h = refl
-query-refreshes commands.Events h = refl
-query-refreshes commands.Private h = absurd cc
-query-refreshes commands.Back h = absurd cc
-query-refreshes commands.Quit h = absurd cc
+abbrev memory_of : List Event → List (List Event) → Option (List Event) → Bool → Memory
+memory_of log marks home names = record { log = log; marks = marks; home = home; names = names }
 
 -- a reading that changes nothing
 leaves : (w : Work) (reading : Result Command LineFault) (reply : List ℕ)
@@ -79,21 +79,22 @@ leaves w reading reply turn = record {
 }
 
 -- what is remembered under a log and marks
-memory_is : (log : List Event) (marks : List Situation) (m : Memory) → log ≡ m.log → logs_of marks ≡ m.marks → memory_at log marks m.home ≡ m
-memory_is log marks m p q =
-    ap (λ (l : List Event). memory_of l (logs_of marks) m.home) p ∙ ap (λ (ks : List (List Event)). memory_of m.log ks m.home) q
+memory_is : (log : List Event) (marks : List Situation) (names : Bool) (m : Memory) → log ≡ m.log → logs_of marks ≡ m.marks → names ≡ m.names → memory_at log marks m.home names ≡ m
+memory_is log marks names m p q r =
+    ap (λ (l : List Event). memory_of l (logs_of marks) m.home names) p ∙ ap (λ (ks : List (List Event)). memory_of m.log ks m.home names) q
+    ∙ ap (memory_of m.log m.marks m.home) r
 
 -- a query is answered
-pub query_run : (w : Work) (state : Solution) (marks : List Situation) (c : Command) (reply : List ℕ) → state.dump ≡ w.analyst.dump → state.log ≡ w.front → w.front ≡ w.memory.log
-    → logs_of marks ≡ w.memory.marks → IsQueryReply state marks c reply → IsRun w w (Ok c) reply
-query_run w state marks c reply dump log front logs h =
-    leaves w (Ok c) reply (λ line spells.
-    let m : memory_at state.log marks w.memory.home ≡ w.memory = memory_is state.log marks w.memory (log ∙ front) logs in
-    let r : RepliesTo w.analyst.dump w.memory (Ok c) reply =
-    subst (λ d. RepliesTo d w.memory (Ok c) reply) dump (subst (λ x. RepliesTo state.dump x (Ok c) reply) m (h w.memory.home)) in
+pub query_run : (w : Work) (state : Solution) (marks : List Situation) (showing : Showing) (query : Query) (reply : List ℕ) → state.dump ≡ w.analyst.dump → state.log ≡ w.front → w.front ≡ w.memory.log
+    → logs_of marks ≡ w.memory.marks → showing.names ≡ w.memory.names → IsQueryReply state marks showing query reply → IsRun w w (Ok (commands.Ask showing.most query)) reply
+query_run w state marks showing query reply dump log front logs names h =
+    leaves w (Ok (commands.Ask showing.most query)) reply (λ line spells.
+    let c : Result Command LineFault = Ok (commands.Ask showing.most query) in
+    let m : memory_at state.log marks w.memory.home showing.names ≡ w.memory = memory_is state.log marks showing.names w.memory (log ∙ front) logs names in
+    let r : RepliesTo w.analyst.dump w.memory c reply = subst (λ d. RepliesTo d w.memory c reply) dump (subst (λ x. RepliesTo state.dump x c reply) m (h w.memory.home)) in
     answered (subst (λ x. RepliesTo w.analyst.dump w.memory x reply) (sym spells) r) refl refl)
 
 -- a query isn't run
-pub query_unserved : (w : Work) (c : Command) (reply : List ℕ) → is_query c ≡ true → IsUnserved reply → IsRun w w (Ok c) reply
-query_unserved w c reply query h =
-    leaves w (Ok c) reply (λ line spells. unserved (subst (λ x. refreshes x ≡ true) (sym spells) (query-refreshes c query)) h refl refl)
+pub query_unserved : (w : Work) (most : Option ℕ) (query : Query) (reply : List ℕ) → IsUnserved reply → IsRun w w (Ok (commands.Ask most query)) reply
+query_unserved w most query reply h =
+    leaves w (Ok (commands.Ask most query)) reply (λ line spells. unserved (ap refreshes spells) h refl refl)

@@ -2,7 +2,7 @@
 -- Source: this project.
 use Rattle.std.specs.Prelude.{◌≡◌, ◌≤◌, List, length, All, Option, None, Some}
 use Rattle.hd_terms.specs.declared.Event.{Event}
-use Rattle.hd_terms.specs.Memory.{most_marks}
+use Rattle.hd_lines.specs.Memory.{most_marks}
 use Rattle.hd_terms.specs.Schedule.{Board}
 use Rattle.hd_board.specs.Replicas.{Replica}
 use Rattle.hd_state.specs.Situation.{Situation}
@@ -21,7 +21,7 @@ board_in board None = board
 board_in board (Some part) = part.board
 
 abbrev pub work_of : Inside → Work
-work_of a = record { analyst = analyst_at a.board.now a.desk; memory = memory_at a.desk.seen a.marks.items (home_of a.private); front = a.desk.front }
+work_of a = record { analyst = analyst_at a.board.now a.desk; memory = memory_at a.desk.seen a.marks.items (home_of a.private) a.names; front = a.desk.front }
 
 -- a private part is the desk's: its home is a desk of the same analyst over the same dump, whose roots its board counts
 abbrev pub IsPartOf : Replica → Option PrivatePart → Type 0

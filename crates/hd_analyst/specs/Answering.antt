@@ -2,12 +2,12 @@
 -- Source: this project.
 use Rattle.std.specs.Prelude.{◌≡◌, ℕ, List, Result}
 use Rattle.hd_terms.specs.declared.Event.{Event}
-use Rattle.hd_terms.specs.declared.commands.Command.{Command}
-use Rattle.hd_terms.specs.declared.commands.LineFault.{LineFault}
-use Rattle.hd_terms.specs.Lines.{command_of}
+use Rattle.hd_lines.specs.declared.commands.Command.{Command}
+use Rattle.hd_lines.specs.declared.commands.LineFault.{LineFault}
+use Rattle.hd_lines.specs.Lines.{command_of}
 use Rattle.hd_terms.specs.Log.{IsLawful}
-use Rattle.hd_terms.specs.Memory.{Memory}
-use Rattle.hd_terms.specs.Sessions.{Turn, IsLater, IsTurn}
+use Rattle.hd_lines.specs.Memory.{Memory}
+use Rattle.hd_lines.specs.Sessions.{Turn, IsLater, IsTurn}
 use Rattle.hd_analyst.specs.Marking.{Refreshes}
 use Rattle.hd_analyst.specs.Work.{Work}
 

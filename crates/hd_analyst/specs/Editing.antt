@@ -13,9 +13,10 @@ use Rattle.hd_board.specs.declared.faults.EditFault.TheVariants as edit_faults
 use Rattle.hd_board.specs.declared.faults.UndoFault.{UndoFault}
 use Rattle.hd_board.specs.declared.faults.UndoFault.TheVariants as undo_faults
 use Rattle.hd_terms.specs.Appending.{append_refusal}
-use Rattle.hd_terms.specs.Memory.{at_log}
-use Rattle.hd_terms.specs.Replies.{IsUnserved, accepted_reply, answered, refused, event_line, refusal_name}
-use Rattle.hd_terms.specs.Sessions.{IsLater, event_by, roots_at, with_event}
+use Rattle.hd_lines.specs.Memory.{at_log}
+use Rattle.hd_lines.specs.Replies.{IsUnserved, accepted_reply, answered, refused, event_line, refusal_name}
+use Rattle.hd_lines.specs.Sessions.{IsLater, roots_at}
+use Rattle.hd_terms.specs.Appending.{event_by, with_event}
 use Rattle.hd_state.specs.declared.state.Done.{Done}
 use Rattle.hd_state.specs.Done.{IsDone}
 use Rattle.hd_analyst.specs.declared.edit.NotDone.{NotDone}

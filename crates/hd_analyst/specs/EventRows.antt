@@ -4,7 +4,7 @@ use Rattle.std.specs.Prelude.{ℕ, List, map}
 use Rattle.std.specs.List.{enumerate_from}
 use Rattle.hd_terms.specs.declared.Event.{Event}
 use Rattle.hd_terms.specs.Log.{is_live}
-use Rattle.hd_words.specs.declared.row_lines.EventRow.{EventRow}
+use Rattle.hd_words.specs.declared.event_lines.EventRow.{EventRow}
 
 -- an event of a log, by its number
 abbrev pub event_row : List Event → ℕ × Event → EventRow

@@ -5,9 +5,9 @@ use Rattle.hd_terms.specs.declared.Event.{Event}
 use Rattle.hd_terms.specs.declared.errors.LogFault.TheVariants as faults
 use Rattle.hd_terms.specs.declared.errors.Refusal.{Refusal}
 use Rattle.hd_terms.specs.declared.errors.Refusal.TheVariants as refusals
-use Rattle.hd_terms.specs.Memory.{Memory, most_marks, with_mark, gone_private, gone_back}
-use Rattle.hd_terms.specs.Replies.{IsUnserved, answered, refused, refusal_name}
-use Rattle.hd_terms.specs.Sessions.{IsRefreshed}
+use Rattle.hd_lines.specs.Memory.{Memory, most_marks, with_mark, gone_private, gone_back}
+use Rattle.hd_lines.specs.Replies.{IsUnserved, answered, refused, refusal_name}
+use Rattle.hd_lines.specs.Sessions.{IsRefreshed}
 use Rattle.hd_analyst.specs.Work.{Work}
 
 -- the same analyst, whose session remembers something else now

@@ -1,10 +1,10 @@
 -- What an analyst works on.
 -- Source: this project.
-use Rattle.std.specs.Prelude.{List, map, Option}
+use Rattle.std.specs.Prelude.{Bool, List, map, Option}
 use Rattle.hd_terms.specs.declared.Event.{Event}
-use Rattle.hd_terms.specs.Memory.{Memory, beginning}
+use Rattle.hd_lines.specs.Memory.{Memory, beginning}
 use Rattle.hd_terms.specs.Schedule.{Board}
-use Rattle.hd_terms.specs.Sessions.{Analyst}
+use Rattle.hd_lines.specs.Sessions.{Analyst}
 use Rattle.hd_board.specs.Replicas.{Replica}
 use Rattle.hd_state.specs.Situation.{Situation}
 
@@ -18,9 +18,9 @@ pub record Work : Type 0 where
 abbrev pub logs_of : List Situation → List (List Event)
 logs_of marks = map (λ (mark : Situation). mark.log) marks
 
--- what a session remembers under the log of a state, with marks, and in a private part if it has a home
-abbrev pub memory_at : List Event → List Situation → (home : Option (List Event)) → Memory
-memory_at log marks home = record { log = log; marks = logs_of marks; home = home }
+-- what a session remembers under the log of a state, with marks, in a private part if it has a home, and with names or without
+abbrev pub memory_at : List Event → List Situation → (home : Option (List Event)) → (names : Bool) → Memory
+memory_at log marks home names = record { log = log; marks = logs_of marks; home = home; names = names }
 
 -- the analyst of a desk at a board
 abbrev pub analyst_at : Board → Replica → Analyst

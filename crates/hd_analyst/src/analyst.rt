@@ -1,11 +1,11 @@
 //! An analyst at work: the desk, the marks, and the private part where one is open.
 ghost use Rattle.std.specs.Prelude.{◌≡◌, ◌∷◌, [], All, IfOk, OnOk, OnErr, IfErr};
 ghost use Rattle.hd_terms.specs.Log.{IsLawful};
-ghost use Rattle.hd_terms.specs.Memory.{board_log};
+ghost use Rattle.hd_lines.specs.Memory.{board_log, with_names};
 ghost use Rattle.hd_terms.specs.Schedule.{Board as ScheduledBoard};
 ghost use Rattle.hd_state.specs.Situation.{Situation};
 ghost use Rattle.hd_analyst.specs.AnalystInside.{board_in};
-ghost use Rattle.hd_analyst.specs.Marking.{BackEnds, MarkEnds, PrivateEnds, RefreshEnds};
+ghost use Rattle.hd_analyst.specs.Marking.{BackEnds, MarkEnds, PrivateEnds, RefreshEnds, Remembers};
 ghost use Rattle.hd_analyst.specs.Work.{logs_of, situation_of, work_begun};
 
 use hd_board::{Board, Desk, RefreshFault};
@@ -33,6 +33,8 @@ pub struct Analyst<'a> {
     pub(crate) desk: Desk,
     pub(crate) marks: Vec<Mark>,
     pub(crate) private: Option<PrivatePart>,
+    /// Whether replies show names.
+    pub(crate) names: bool,
 }
 
 impl Drop for Analyst<'_> {
@@ -43,6 +45,7 @@ impl Drop for Analyst<'_> {
             desk,
             marks,
             private,
+            names: _,
         } = self;
     }
 }
@@ -101,6 +104,7 @@ impl<'a> Analyst<'a> {
             desk,
             marks,
             private: None,
+            names: false,
         }
     }
 
@@ -115,6 +119,7 @@ impl<'a> Analyst<'a> {
             desk,
             marks,
             private,
+            names: _,
         } = self;
         drop(marks);
         match private {
@@ -144,6 +149,20 @@ impl<'a> Analyst<'a> {
         ensures dumps { All (λ (mark : Situation). mark.dump ≡ self.now.analyst.dump) result.now }
     {
         self.marks.as_slice()
+    }
+
+    /// Whether replies show names.
+    pub(crate) fn names(&self) -> bool
+        ensures { result ≡ self.now.memory.names }
+    {
+        self.names
+    }
+
+    /// From here on replies show names, or they don't.
+    pub(crate) fn show_names(&mut self, on: bool)
+        ensures { Remembers self.old self.new (with_names self.old.memory on) }
+    {
+        self.names = on;
     }
 
     /// Refreshes the desk, before a command is run.

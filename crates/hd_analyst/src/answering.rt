@@ -1,9 +1,9 @@
 //! Lines that spell something are run and answered.
-ghost use Rattle.std.specs.Prelude.{◌≡◌, MatchOption, Ok, false, string_bytes, true};
-ghost use Rattle.hd_terms.specs.Lines.{is_quit_command};
+ghost use Rattle.std.specs.Prelude.{◌≡◌, MatchOption, Ok, false, string_bytes};
+ghost use Rattle.hd_lines.specs.declared.commands.Command.TheVariants as commands;
+ghost use Rattle.hd_lines.specs.Lines.{is_quit_command};
 ghost use Rattle.hd_terms.specs.Log.{IsLawful};
 ghost use Rattle.hd_analyst.specs.Answering.{IsAnswered, IsRun};
-ghost use Rattle.hd_analyst.specs.Replying.{is_query};
 
 use crate::analyst::Analyst;
 use crate::fixed_buffer::FixedBuffer;
@@ -11,7 +11,9 @@ use crate::query::answer_query;
 use crate::reply::{
     LONGEST_REPLY, fault_name, put_edit, put_head, put_numbered, put_refused, refusal_text,
 };
-use hd_terms::{Command, LineFault, LogFault, Refusal};
+use crate::texts::Showing;
+use hd_lines::{Command, LineFault, Query};
+use hd_terms::{LogFault, Refusal};
 use std::alloc::Global;
 use std::sync::Wait;
 
@@ -74,29 +76,38 @@ fn run_command(
         (λ text. IsRun analyst.old analyst.new (Ok command) (string_bytes text)) }
 {
     match command {
+        Command::Ask(most, query) => return run_query(alloc, analyst, query, most, out),
+        Command::Names(on) => {
+            analyst.show_names(on);
+            put_head(out, 0);
+        }
         Command::Edit(edit) => put_edit(out, analyst.edit(rt, alloc, edit)),
         Command::Undo(number) => put_edit(out, analyst.undo(rt, alloc, number)),
         Command::Mark => put_numbered(out, b"mark ", analyst.mark()),
         Command::Private => put_numbered(out, b"private ", analyst.go_private()),
         Command::Back => put_numbered(out, b"back ", analyst.go_back()),
-        query => return run_query(alloc, analyst, query, out),
+        Command::Quit => put_head(out, 0),
     }
     None
 }
 
-/// Runs a query for an analyst whose desk is refreshed, and answers it.
+/// Runs a query for an analyst whose desk is refreshed, and answers it with at most so many lines.
 fn run_query(
     alloc: Global,
     analyst: &Analyst<'_>,
-    query: Command,
+    query: Query,
+    most: Option<u32>,
     out: &mut FixedBuffer<LONGEST_REPLY>,
 ) -> Option<String>
-    requires query { is_query query ≡ true }
-    requires refreshed { analyst.now.front ≡ analyst.now.memory.log }
-    ensures { MatchOption result (IsRun analyst.now analyst.now (Ok query) out.new)
-        (λ text. IsRun analyst.now analyst.now (Ok query) (string_bytes text)) }
+    requires { analyst.now.front ≡ analyst.now.memory.log }
+    ensures { MatchOption result (IsRun analyst.now analyst.now (Ok (commands.Ask most query)) out.new)
+        (λ text. IsRun analyst.now analyst.now (Ok (commands.Ask most query)) (string_bytes text)) }
 {
-    match answer_query(alloc, analyst.state(), analyst.marks(), query, out) {
+    let showing = Showing {
+        names: analyst.names(),
+        most,
+    };
+    match answer_query(alloc, analyst.state(), analyst.marks(), query, showing, out) {
         Ok(text) => text,
         Err(_) => {
             put_refused(out, refusal_text(Refusal::Log(LogFault::OutOfMemory)));

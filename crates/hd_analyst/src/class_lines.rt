@@ -1,10 +1,10 @@
 //! Groups as lines.
 ghost use Rattle.std.specs.Prelude.{◌≡◌, ◌++◌, string_bytes, OnOk};
-ghost use Rattle.hd_terms.specs.Names.{group_name};
+ghost use Rattle.hd_lines.specs.Names.{group_name};
 
 use hd_graph::Graph;
 use hd_terms::{ClassRow, Group};
-use hd_words::{LineFormat, array_text, put_class_name, put_group};
+use hd_words::{LineFormat, array_text, put_group, put_name};
 use std::alloc::AllocError;
 use std::fmt::Write;
 
@@ -19,7 +19,7 @@ impl LineFormat for ClassLines<'_> {
 
     ghost can_write = { λ _ _. Unit {0} };
 
-    ghost use Rattle.hd_terms.specs.Replies.{class_line};
+    ghost use Rattle.hd_lines.specs.Replies.{class_line};
 
     ghost line = { λ lines row. class_line lines.graph.now row };
 
@@ -37,7 +37,7 @@ fn put_group_name(text: &mut String, graph: &Graph, group: Group) -> Result<(), 
     ensures { OnOk result (string_bytes text.new ≡ string_bytes text.old ++ group_name graph.now group) }
 {
     match group {
-        Group::Class(id) => put_class_name(text, graph.name_of(id)),
+        Group::Class(id) => put_name(text, graph.name_of(id)),
         Group::Prim(element) => text.push_str(array_text(element)),
         Group::Classes => text.push_str("classes"),
     }

@@ -1,7 +1,8 @@
 //! Edits and undos: what they ask of the log, and what they come to.
 ghost use Rattle.std.specs.Prelude.{◌≡◌};
 ghost use Rattle.hd_terms.specs.declared.What.TheVariants as whats;
-ghost use Rattle.hd_terms.specs.Asking.{edit_refusal, undo_asked, unless_refused};
+ghost use Rattle.hd_lines.specs.Asking.{undo_asked, unless_refused};
+ghost use Rattle.hd_terms.specs.Refusals.{edit_refusal};
 ghost use Rattle.hd_analyst.specs.Editing.{EditEnds, append_reason, edit_not_done, undo_not_done};
 
 use crate::analyst::{Analyst, board_in, lawful_seen};

@@ -9,8 +9,10 @@
 //!   (`Board::fork`) and the desk to which the analyst goes back. Mark 0 is the state as the session began.
 //! - `edit.rt`: edits and undos. `query.rt`: queries, which need only a state and the marks.
 //! - `reply.rt`: short replies of at most 256 bytes, and the names of refusals and faults.
-//! - `texts.rt`: replies of many lines, and `log_text`, the lines of a log alone, for the server to print.
-//! - `class_lines.rt`, `link_lines.rt`: the two line formats that need the graph, for names and IDs.
+//! - `texts.rt`: answers of many lines, and `log_text`, the lines of a log alone, for the server to print. A `Showing` says
+//!   whether lines show names, and how many are written at most.
+//! - `row_lines.rt`, `link_lines.rt`, `class_lines.rt`, `object_lines.rt`: the line formats that need the graph, for names and
+//!   IDs. `naming.rt` puts the name of an object and the place of a slot.
 #![tactic(auto)]
 
 mod analyst;
@@ -19,8 +21,11 @@ mod class_lines;
 mod edit;
 mod fixed_buffer;
 mod link_lines;
+mod naming;
+mod object_lines;
 mod query;
 mod reply;
+mod row_lines;
 mod texts;
 
 pub use analyst::{Analyst, first_marks};
@@ -28,4 +33,4 @@ pub use answering::answer;
 pub use fixed_buffer::FixedBuffer;
 pub use query::reply_text;
 pub use reply::LONGEST_REPLY;
-pub use texts::log_text;
+pub use texts::{Showing, log_text};

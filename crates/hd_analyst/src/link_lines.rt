@@ -1,37 +1,46 @@
 //! Chains as lines: the root, and then the links.
-ghost use Rattle.std.specs.Prelude.{◌≡◌, ◌<◌, ◌++◌, length, string_bytes, OnOk};
-ghost use Rattle.hd_terms.specs.Replies.{chain_start, root_kind, with_newline};
+ghost use Rattle.std.specs.Prelude.{◌≡◌, ◌<◌, length, string_bytes, IfOk};
+ghost use Rattle.hd_lines.specs.Replies.{chain_start, root_kind};
 ghost use Rattle.hd_queries.specs.ChainFound.{root_of};
 
+use crate::naming::{put_object_name, put_place};
 use hd_graph::Graph;
 use hd_queries::{Chain, Link};
 use hd_terms::RootKind;
 use hd_words::{LineFormat, kind_text, put_slot, root_text};
-use std::alloc::AllocError;
+use std::alloc::{AllocError, Global};
 use std::fmt::Write;
 
-/// Links as lines: `SLOT KIND ID`. The IDs are those of a graph.
+/// Links as lines: `SLOT KIND ID`, and with names `NAME PLACE`. The IDs are those of a graph.
 #[derive(Drop)]
 pub(crate) struct LinkLines<'a> {
     pub(crate) graph: &'a Graph,
+    pub(crate) names: bool,
 }
 
 impl LineFormat for LinkLines<'_> {
     type Row = Link;
 
-    ghost use Rattle.std.specs.Prelude.{◌<◌, length};
+    ghost use Rattle.std.specs.Prelude.{length};
+    ghost use Rattle.hd_queries.specs.ChainFound.{IsWithin};
 
-    ghost can_write = { λ lines link. link.target < length lines.graph.now.objects };
+    ghost can_write = { λ lines link. IsWithin (length lines.graph.now.objects) link };
 
     ghost use Rattle.hd_analyst.specs.ChainLines.{link_text};
 
-    ghost line = { λ lines link. link_text lines.graph.now link };
+    ghost line = { λ lines link. link_text lines.graph.now lines.names link };
 
     fn put(&self, text: &mut String, row: &Link) -> Result<(), AllocError> {
         put_slot(text, row.slot)?;
         let kind = kind_text(row.kind);
         let id = self.graph.id_of(row.target);
         write!(text, " {kind} 0x{id:x}")?;
+        if self.names {
+            text.push(' ')?;
+            put_object_name(text, self.graph, row.target)?;
+            text.push(' ')?;
+            put_place(text, self.graph, row.source, row.slot)?;
+        }
         Ok(())
     }
 }
@@ -46,14 +55,24 @@ fn kind_of_root(graph: &Graph, root: u64) -> Option<RootKind>
     Some(graph.roots(root as u32).kind)
 }
 
-/// Puts the line of a chain's root behind a text, with its newline.
-pub(crate) fn put_start(text: &mut String, graph: &Graph, chain: &Chain) -> Result<(), AllocError>
+/// The line of a chain's root.
+pub(crate) fn start_text(
+    alloc: Global,
+    graph: &Graph,
+    names: bool,
+    chain: &Chain,
+) -> Result<String, AllocError>
     requires { chain.now.start < length graph.now.objects }
-    ensures { OnOk result (string_bytes text.new ≡ string_bytes text.old ++ with_newline (chain_start graph.now (root_of chain.now))) }
+    ensures { IfOk result (λ text. string_bytes text ≡ chain_start graph.now names (root_of chain.now)) }
 {
+    let mut text = String::new(alloc);
     let root = chain.root;
     let kind = root_text(kind_of_root(graph, root));
     let id = graph.id_of(chain.start);
-    writeln!(text, "root {root} {kind} 0x{id:x}")?;
-    Ok(())
+    write!(text, "root {root} {kind} 0x{id:x}")?;
+    if names {
+        text.push(' ')?;
+        put_object_name(&mut text, graph, chain.start)?;
+    }
+    Ok(text)
 }

@@ -1,25 +1,25 @@
 //! Replies to queries.
-ghost use Rattle.std.specs.Prelude.{◌≡◌, All, IfOk, MatchOption, None, Some, slice_get, string_bytes, true};
+ghost use Rattle.std.specs.Prelude.{◌≡◌, All, IfOk, MatchOption, None, Some, false, slice_get, string_bytes, true};
 ghost use Rattle.std.specs.Option.{option_map};
 ghost use Rattle.hd_terms.specs.declared.errors.Refusal.TheVariants as refusals;
 ghost use Rattle.hd_terms.specs.Edges.{index_of};
-ghost use Rattle.hd_terms.specs.Replies.{RepliesStrength, refused, refusal_name};
+ghost use Rattle.hd_lines.specs.Replies.{AnswersStrength, refused, refusal_name};
 ghost use Rattle.hd_state.specs.Situation.{Situation};
-ghost use Rattle.hd_analyst.specs.Replying.{IsAnswerIn, IsQueryReply, is_query};
+ghost use Rattle.hd_analyst.specs.Replying.{IsAnswerIn, IsQueryReply, IsWritten};
 
 use crate::fixed_buffer::FixedBuffer;
-use crate::reply::{LONGEST_REPLY, put_line, put_refused, refusal_text};
+use crate::reply::{LONGEST_REPLY, put_head, put_line, put_refused, refusal_text};
 use crate::texts::{
-    chain_text, classes_text, events_text, fell_text, into_text, members_text, roots_text,
-    slots_text,
+    Showing, chain_text, classes_text, events_text, fell_text, freed_text, into_text, members_text,
+    moved_text, object_text, roots_text, slots_text, top_text,
 };
+use hd_lines::Query;
 use hd_state::{Mark, State};
-use hd_terms::{Command, NoMemory, Refusal};
+use hd_terms::{NoMemory, Refusal};
 use hd_words::strength_text;
 use std::alloc::Global;
 
-/// The reply to a query over a state, with marks of states over the same graph. Queries are the commands from `strength` to
-/// `members`, `fell` and `events`.
+/// The reply to a query over a state, with marks of states over the same graph.
 ///
 /// # Errors
 ///
@@ -28,14 +28,14 @@ pub fn reply_text(
     alloc: Global,
     state: &State,
     marks: &[Mark],
-    command: &Command,
+    query: Query,
+    showing: Showing,
 ) -> Result<Vec<u8>, NoMemory>
-    requires query { is_query command.now ≡ true }
-    requires marks { All (λ (mark : Situation). mark.dump ≡ state.now.dump) marks.now }
-    ensures { IfOk result (λ text. IsQueryReply state.now marks.now command.now text.items) }
+    requires { All (λ (mark : Situation). mark.dump ≡ state.now.dump) marks.now }
+    ensures { IfOk result (λ text. IsQueryReply state.now marks.now showing query text.items) }
 {
     let mut buffer = FixedBuffer::new(alloc)?;
-    match answer_query(alloc, state, marks, *command, &mut buffer)? {
+    match answer_query(alloc, state, marks, query, showing, &mut buffer)? {
         Some(text) => Ok(text.into_bytes()),
         None => {
             let text = buffer.as_slice().to_vec(alloc)?;
@@ -53,39 +53,51 @@ pub(crate) fn answer_query(
     alloc: Global,
     state: &State,
     marks: &[Mark],
-    command: Command,
+    query: Query,
+    showing: Showing,
     out: &mut FixedBuffer<LONGEST_REPLY>,
 ) -> Result<Option<String>, NoMemory>
-    requires query { is_query command ≡ true }
-    requires marks { All (λ (mark : Situation). mark.dump ≡ state.now.dump) marks.now }
-    ensures { IfOk result (λ text. IsAnswerIn state.now marks.now command (option_map string_bytes text) out.new) }
+    requires { All (λ (mark : Situation). mark.dump ≡ state.now.dump) marks.now }
+    ensures { IfOk result (λ text. IsAnswerIn state.now marks.now showing query (option_map string_bytes text) out.new) }
 {
-    let text = match command {
-        Command::Strength(id) => {
-            put_strength(out, state, id);
+    let text = match query {
+        Query::Strength(id) => {
+            put_strength(out, state, id, showing.most);
             return Ok(None);
         }
-        Command::Chain(id) => match find_object(state, id, out) {
-            Some(object) => chain_text(alloc, state, object)?,
+        Query::Chain(id) => match find_object(state, id, out) {
+            Some(object) => chain_text(alloc, state, object, showing)?,
             None => return Ok(None),
         },
-        Command::Slots(id) => match find_object(state, id, out) {
-            Some(object) => slots_text(alloc, state, object)?,
+        Query::Slots(id) => match find_object(state, id, out) {
+            Some(object) => slots_text(alloc, state, object, showing)?,
             None => return Ok(None),
         },
-        Command::Into(id) => match find_object(state, id, out) {
-            Some(object) => into_text(alloc, state, object)?,
+        Query::Into(id) => match find_object(state, id, out) {
+            Some(object) => into_text(alloc, state, object, showing)?,
             None => return Ok(None),
         },
-        Command::Roots => roots_text(alloc, state)?,
-        Command::Classes(strength) => classes_text(alloc, state, strength)?,
-        Command::Members(group, strength) => members_text(alloc, state, group, strength)?,
-        Command::Fell(number) => match find_mark(marks, number, out) {
-            Some(mark) => fell_text(alloc, state, mark)?,
+        Query::Object(id) => match find_object(state, id, out) {
+            Some(object) => object_text(alloc, state, object, showing)?,
             None => return Ok(None),
         },
-        Command::Events => events_text(alloc, state)?,
-        _ => return Ok(None),
+        Query::Roots => roots_text(alloc, state, showing)?,
+        Query::Classes(strength) => classes_text(alloc, state, strength, showing)?,
+        Query::Members(group, strength) => members_text(alloc, state, group, strength, showing)?,
+        Query::Fell(number) => match find_mark(marks, number, out) {
+            Some(mark) => fell_text(alloc, state, mark, showing)?,
+            None => return Ok(None),
+        },
+        Query::Events => events_text(alloc, state, showing)?,
+        Query::Top(strength) => top_text(alloc, state, strength, showing)?,
+        Query::Freed(number) => match find_mark(marks, number, out) {
+            Some(mark) => freed_text(alloc, state, mark, showing)?,
+            None => return Ok(None),
+        },
+        Query::Moved(number) => match find_mark(marks, number, out) {
+            Some(mark) => moved_text(alloc, state, mark, showing)?,
+            None => return Ok(None),
+        },
     };
     Ok(Some(text))
 }
@@ -121,10 +133,27 @@ fn find_mark<'a>(
 }
 
 /// Puts the reply to `strength`.
-fn put_strength(out: &mut FixedBuffer<LONGEST_REPLY>, state: &State, id: u64)
-    ensures { RepliesStrength state.now.dump state.now.log (index_of state.now.dump.objects id) out.new }
+fn put_strength(out: &mut FixedBuffer<LONGEST_REPLY>, state: &State, id: u64, most: Option<u32>)
+    ensures { IsWritten (AnswersStrength state.now.dump state.now.log (index_of state.now.dump.objects id)) most out.new }
 {
-    if let Some(object) = find_object(state, id, out) {
-        put_line(out, strength_text(state.strength(object)).as_bytes());
+    let Some(object) = find_object(state, id, out) else {
+        return;
+    };
+    let strength = state.strength(object);
+    if is_none_wanted(most) {
+        put_head(out, 0);
+    } else {
+        put_line(out, strength_text(strength).as_bytes());
+    }
+}
+
+/// Whether no line of an answer is wanted.
+fn is_none_wanted(most: Option<u32>) -> bool
+    ensures yes { result ≡ true → most ≡ Some 0 }
+    ensures no { result ≡ false → most ≡ Some 0 → ⊥ }
+{
+    match most {
+        Some(count) => count == 0,
+        None => false,
     }
 }

@@ -1,14 +1,15 @@
 //! Short replies, which take no memory.
 ghost use Rattle.std.specs.Prelude.{◌≡◌, ◌+◌, ◌<◌, ◌≤◌, [], ◌∷◌, ◌++◌, length, decimal};
-ghost use Rattle.hd_terms.specs.Replies.{accepted_reply, with_newline, answered, refused, event_line, refusal_name, line_fault_name};
+ghost use Rattle.hd_lines.specs.Replies.{accepted_reply, with_newline, answered, refused, event_line, refusal_name, line_fault_name};
 ghost use Rattle.hd_analyst.specs.Replying.{answered_head};
 ghost use Rattle.hd_analyst.specs.Editing.{edit_reply};
 ghost use Rattle.hd_analyst.specs.Marking.{numbered_reply};
 
 use crate::edit::NotDone;
 use crate::fixed_buffer::FixedBuffer;
+use hd_lines::LineFault;
 use hd_state::Done;
-use hd_terms::{LineFault, LogFault, Refusal};
+use hd_terms::{LogFault, Refusal};
 use itoa::Buffer;
 
 /// The most bytes of a short reply.

@@ -1,4 +1,4 @@
-//! Replies of many lines.
+//! Answers of many lines.
 ghost use Rattle.std.specs.Prelude.{◌≡◌, ◌<◌, Some, All, length, map, string_bytes, IfOk};
 ghost use Rattle.std.specs.List.{flat_map};
 ghost use Rattle.hd_terms.specs.Dump.{object_at};
@@ -6,125 +6,274 @@ ghost use Rattle.hd_terms.specs.IntoRows.{into_rows};
 ghost use Rattle.hd_terms.specs.Listed.{AreFallen, AreMembers};
 ghost use Rattle.hd_terms.specs.RootRows.{root_rows};
 ghost use Rattle.hd_terms.specs.SlotRows.{slot_rows};
-ghost use Rattle.hd_terms.specs.Replies.{answered, into_line, log_lines, root_line, slot_line, with_newline, RepliesChain, RepliesClasses, RepliesIds};
-ghost use Rattle.hd_queries.specs.declared.chain.Link.{Link as OneLink};
+ghost use Rattle.hd_lines.specs.Replies.{AnswersChain, AnswersClasses, AnswersIds, AnswersMoved, AnswersObject, AnswersTop, IsFreed, total_line, answered, first_lines, into_line, log_lines, root_line, slot_line, with_newline};
+ghost use Rattle.hd_queries.specs.ChainFound.{IsWithin};
 ghost use Rattle.hd_analyst.specs.ChainLines.{lines_of};
 ghost use Rattle.hd_analyst.specs.EventRows.{event_rows};
+ghost use Rattle.hd_analyst.specs.Replying.{IsWritten};
 
 use crate::class_lines::ClassLines;
-use crate::link_lines::{LinkLines, put_start};
+use crate::link_lines::{LinkLines, start_text};
+use crate::object_lines::{ObjectLines, ObjectRow};
+use crate::row_lines::{IdLines, IntoLines, RootLines, SlotLines};
 use hd_graph::Graph;
 use hd_log::Front;
 use hd_queries::Chain;
 use hd_state::{Mark, State};
 use hd_terms::{Group, NoMemory, Strength};
-use hd_words::{
-    EventLines, EventRow, IdLines, IntoLines, RootLines, SlotLines, lines_text, put_lines,
-};
+use hd_words::{EventLines, EventRow, MovedLines, lines_text, lines_text_from, put_lines};
 use std::alloc::{AllocError, Global};
 use std::fmt::Write;
 
-/// The reply to `slots` for the object of a number: `ok N`, and a line for each of its slots.
-pub(crate) fn slots_text(alloc: Global, state: &State, object: u32) -> Result<String, NoMemory>
+/// How an answer is shown.
+#[derive(Clone, Copy)]
+pub struct Showing {
+    /// Whether lines show names.
+    pub names: bool,
+    /// How many lines are written at most; without a number all.
+    pub most: Option<u32>,
+}
+
+/// The answer to `slots` for the object of a number: `ok N`, and a line for each of its slots.
+pub(crate) fn slots_text(
+    alloc: Global,
+    state: &State,
+    object: u32,
+    showing: Showing,
+) -> Result<String, NoMemory>
     requires { object < length state.now.dump.objects }
-    ensures { IfOk result (λ text. string_bytes text ≡ answered (map slot_line (slot_rows state.now.dump state.now.log (object_at state.now.dump object)))) }
+    ensures { IfOk result (λ text. string_bytes text ≡ answered (first_lines showing.most (map (slot_line state.now.dump showing.names object) (slot_rows state.now.dump state.now.log (object_at state.now.dump object))))) }
 {
     let rows = state.slots(alloc, object)?;
-    let text = lines_text(alloc, &SlotLines, rows.as_slice())?;
+    let format = SlotLines {
+        graph: state.graph(),
+        names: showing.names,
+        object,
+    };
+    let text = lines_text(alloc, &format, rows.as_slice(), showing.most)?;
     Ok(text)
 }
 
-/// The reply to `into` for the object of a number: `ok N`, and a line for each reference to it.
-pub(crate) fn into_text(alloc: Global, state: &State, object: u32) -> Result<String, NoMemory>
+/// The answer to `into` for the object of a number: `ok N`, and a line for each reference to it.
+pub(crate) fn into_text(
+    alloc: Global,
+    state: &State,
+    object: u32,
+    showing: Showing,
+) -> Result<String, NoMemory>
     requires { object < length state.now.dump.objects }
-    ensures { IfOk result (λ text. string_bytes text ≡ answered (map into_line (into_rows state.now.dump state.now.log object))) }
+    ensures { IfOk result (λ text. string_bytes text ≡ answered (first_lines showing.most (map (into_line state.now.dump showing.names) (into_rows state.now.dump state.now.log object)))) }
 {
     let rows = state.into(alloc, object)?;
-    let text = lines_text(alloc, &IntoLines, rows.as_slice())?;
+    let format = IntoLines {
+        graph: state.graph(),
+        names: showing.names,
+    };
+    let text = lines_text(alloc, &format, rows.as_slice(), showing.most)?;
     Ok(text)
 }
 
-/// The reply to `roots`: `ok N`, and a line for each root of the dump and each that a live edit adds.
-pub(crate) fn roots_text(alloc: Global, state: &State) -> Result<String, NoMemory>
-    ensures { IfOk result (λ text. string_bytes text ≡ answered (map root_line (root_rows state.now.dump state.now.log))) }
+/// The answer to `roots`: `ok N`, and a line for each root of the dump and each that a live edit adds.
+pub(crate) fn roots_text(alloc: Global, state: &State, showing: Showing) -> Result<String, NoMemory>
+    ensures { IfOk result (λ text. string_bytes text ≡ answered (first_lines showing.most (map (root_line state.now.dump showing.names) (root_rows state.now.dump state.now.log)))) }
 {
     let rows = state.roots(alloc)?;
-    let text = lines_text(alloc, &RootLines, rows.as_slice())?;
+    let format = RootLines {
+        graph: state.graph(),
+        names: showing.names,
+    };
+    let text = lines_text(alloc, &format, rows.as_slice(), showing.most)?;
     Ok(text)
 }
 
-/// The reply to `chain` for the object of a number: `ok 0` where it is unreachable, else `ok N`, a line for the root, and a
+/// The answer to `chain` for the object of a number: `ok 0` where it is unreachable, else `ok N`, a line for the root, and a
 /// line for each link.
-pub(crate) fn chain_text(alloc: Global, state: &State, object: u32) -> Result<String, NoMemory>
+pub(crate) fn chain_text(
+    alloc: Global,
+    state: &State,
+    object: u32,
+    showing: Showing,
+) -> Result<String, NoMemory>
     requires { object < length state.now.dump.objects }
-    ensures { IfOk result (λ text. RepliesChain state.now.dump state.now.log (Some object) (string_bytes text)) }
+    ensures { IfOk result (λ text. IsWritten (AnswersChain state.now.dump showing.names state.now.log (Some object)) showing.most (string_bytes text)) }
 {
     match state.chain(alloc, object)? {
         Some(chain) => {
-            let text = found_text(alloc, state.graph(), &chain)?;
+            let text = found_text(alloc, state.graph(), &chain, showing)?;
             Ok(text)
         }
         None => {
-            let text = lines_text(alloc, &IdLines, &[])?;
+            let text = lines_text(alloc, &EventLines, &[], showing.most)?;
             Ok(text)
         }
     }
 }
 
 /// `ok N`, the line of a chain's root, and a line for each link.
-fn found_text(alloc: Global, graph: &Graph, chain: &Chain) -> Result<String, AllocError>
+fn found_text(
+    alloc: Global,
+    graph: &Graph,
+    chain: &Chain,
+    showing: Showing,
+) -> Result<String, AllocError>
     requires start { chain.now.start < length graph.now.objects }
-    requires targets { All (λ (link : OneLink). link.target < length graph.now.objects) chain.now.links.items }
-    ensures { IfOk result (λ text. string_bytes text ≡ answered (lines_of graph.now chain.now)) }
+    requires within { All (IsWithin (length graph.now.objects)) chain.now.links.items }
+    ensures { IfOk result (λ text. string_bytes text ≡ answered (first_lines showing.most (lines_of graph.now showing.names chain.now))) }
 {
-    let mut text = String::new(alloc);
-    let count = chain.links.len() + 1;
-    writeln!(text, "ok {count}")?;
-    put_start(&mut text, graph, chain)?;
-    put_lines(&mut text, &LinkLines { graph }, chain.links.as_slice())?;
-    Ok(text)
+    let start = start_text(alloc, graph, showing.names, chain)?;
+    let format = LinkLines {
+        graph,
+        names: showing.names,
+    };
+    lines_text_from(
+        alloc,
+        start.as_str(),
+        &format,
+        chain.links.as_slice(),
+        showing.most,
+    )
 }
 
-/// The reply to `classes`: `ok N`, and a line for each group that has objects of the strength.
+/// The answer to `classes`: `ok N`, and a line for each group that has objects of the strength.
 pub(crate) fn classes_text(
     alloc: Global,
     state: &State,
     strength: Strength,
+    showing: Showing,
 ) -> Result<String, NoMemory>
-    ensures { IfOk result (λ text. RepliesClasses state.now.dump state.now.log strength (string_bytes text)) }
+    ensures { IfOk result (λ text. IsWritten (AnswersClasses state.now.dump state.now.log strength) showing.most (string_bytes text)) }
 {
     let rows = state.classes(alloc, strength)?;
-    let text = lines_text(
-        alloc,
-        &ClassLines {
-            graph: state.graph(),
-        },
-        rows.as_slice(),
-    )?;
+    let format = ClassLines {
+        graph: state.graph(),
+    };
+    let text = lines_text(alloc, &format, rows.as_slice(), showing.most)?;
     Ok(text)
 }
 
-/// The reply to `members`: `ok N`, and the ID of each object of the group that has the strength.
+/// The answer to `members`: `ok N`, and the ID of each object of the group that has the strength.
 pub(crate) fn members_text(
     alloc: Global,
     state: &State,
     group: Group,
     strength: Strength,
+    showing: Showing,
 ) -> Result<String, NoMemory>
-    ensures { IfOk result (λ text. RepliesIds (AreMembers state.now.dump state.now.log group strength) (string_bytes text)) }
+    ensures { IfOk result (λ text. IsWritten (AnswersIds state.now.dump showing.names (AreMembers state.now.dump state.now.log group strength)) showing.most (string_bytes text)) }
 {
     let ids = state.members(alloc, group, strength)?;
-    let text = lines_text(alloc, &IdLines, ids.as_slice())?;
+    let format = IdLines {
+        graph: state.graph(),
+        names: showing.names,
+    };
+    let text = lines_text(alloc, &format, ids.as_slice(), showing.most)?;
     Ok(text)
 }
 
-/// The reply to `fell`: `ok N`, and the ID of each object that became unreachable since the mark.
-pub(crate) fn fell_text(alloc: Global, state: &State, mark: &Mark) -> Result<String, NoMemory>
+/// The answer to `fell`: `ok N`, and the ID of each object that became unreachable since the mark.
+pub(crate) fn fell_text(
+    alloc: Global,
+    state: &State,
+    mark: &Mark,
+    showing: Showing,
+) -> Result<String, NoMemory>
     requires { mark.now.dump ≡ state.now.dump }
-    ensures { IfOk result (λ text. RepliesIds (AreFallen state.now.dump mark.now.log state.now.log) (string_bytes text)) }
+    ensures { IfOk result (λ text. IsWritten (AnswersIds state.now.dump showing.names (AreFallen state.now.dump mark.now.log state.now.log)) showing.most (string_bytes text)) }
 {
     let ids = state.fell(alloc, mark)?;
-    let text = lines_text(alloc, &IdLines, ids.as_slice())?;
+    let format = IdLines {
+        graph: state.graph(),
+        names: showing.names,
+    };
+    let text = lines_text(alloc, &format, ids.as_slice(), showing.most)?;
+    Ok(text)
+}
+
+/// The answer to `object` for the object of a number: `ok 1`, and its group, recorded bytes, strength and name.
+pub(crate) fn object_text(
+    alloc: Global,
+    state: &State,
+    object: u32,
+    showing: Showing,
+) -> Result<String, NoMemory>
+    requires { object < length state.now.dump.objects }
+    ensures { IfOk result (λ text. IsWritten (AnswersObject state.now.dump state.now.log (Some object)) showing.most (string_bytes text)) }
+{
+    let row = ObjectRow {
+        object,
+        strength: state.strength(object),
+    };
+    let format = ObjectLines {
+        graph: state.graph(),
+    };
+    let text = lines_text(alloc, &format, &[row], showing.most)?;
+    Ok(text)
+}
+
+/// The answer to `top`: the lines of `classes`, those with the most bytes first.
+pub(crate) fn top_text(
+    alloc: Global,
+    state: &State,
+    strength: Strength,
+    showing: Showing,
+) -> Result<String, NoMemory>
+    ensures { IfOk result (λ text. IsWritten (AnswersTop state.now.dump state.now.log strength) showing.most (string_bytes text)) }
+{
+    let rows = state.top(alloc, strength)?;
+    let format = ClassLines {
+        graph: state.graph(),
+    };
+    let text = lines_text(alloc, &format, rows.as_slice(), showing.most)?;
+    Ok(text)
+}
+
+/// `total COUNT BYTES`.
+fn total_text(alloc: Global, count: u64, bytes: u64) -> Result<String, AllocError>
+    ensures { IfOk result (λ text. string_bytes text ≡ total_line count bytes) }
+{
+    let mut text = String::new(alloc);
+    write!(text, "total {count} {bytes}")?;
+    Ok(text)
+}
+
+/// The answer to `freed`: how many objects became unreachable since the mark, and their bytes; and a line for each group of
+/// these.
+pub(crate) fn freed_text(
+    alloc: Global,
+    state: &State,
+    mark: &Mark,
+    showing: Showing,
+) -> Result<String, NoMemory>
+    requires { mark.now.dump ≡ state.now.dump }
+    ensures { IfOk result (λ text. IsWritten (IsFreed state.now.dump mark.now.log state.now.log) showing.most (string_bytes text)) }
+{
+    let freed = state.freed(alloc, mark)?;
+    let start = total_text(alloc, freed.total.count, freed.total.bytes)?;
+    let format = ClassLines {
+        graph: state.graph(),
+    };
+    let text = lines_text_from(
+        alloc,
+        start.as_str(),
+        &format,
+        freed.rows.as_slice(),
+        showing.most,
+    )?;
+    Ok(text)
+}
+
+/// The answer to `moved`: a line for each pair of strengths between which objects moved since the mark.
+pub(crate) fn moved_text(
+    alloc: Global,
+    state: &State,
+    mark: &Mark,
+    showing: Showing,
+) -> Result<String, NoMemory>
+    requires { mark.now.dump ≡ state.now.dump }
+    ensures { IfOk result (λ text. IsWritten (AnswersMoved state.now.dump state.now.log (Some mark.now.log)) showing.most (string_bytes text)) }
+{
+    let rows = state.moved(alloc, mark)?;
+    let text = lines_text(alloc, &MovedLines, rows.as_slice(), showing.most)?;
     Ok(text)
 }
 
@@ -144,12 +293,16 @@ fn event_rows(alloc: Global, front: &Front) -> Result<Vec<EventRow>, NoMemory>
     Ok(rows)
 }
 
-/// The reply to `events`: `ok N`, and a line for each event of the log.
-pub(crate) fn events_text(alloc: Global, state: &State) -> Result<String, NoMemory>
-    ensures { IfOk result (λ text. string_bytes text ≡ answered (log_lines state.now.log)) }
+/// The answer to `events`: `ok N`, and a line for each event of the log.
+pub(crate) fn events_text(
+    alloc: Global,
+    state: &State,
+    showing: Showing,
+) -> Result<String, NoMemory>
+    ensures { IfOk result (λ text. string_bytes text ≡ answered (first_lines showing.most (log_lines state.now.log))) }
 {
     let rows = event_rows(alloc, state.front())?;
-    let text = lines_text(alloc, &EventLines, rows.as_slice())?;
+    let text = lines_text(alloc, &EventLines, rows.as_slice(), showing.most)?;
     Ok(text)
 }
 

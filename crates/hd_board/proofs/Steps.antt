@@ -8,7 +8,7 @@ use Rattle.hd_terms.specs.declared.Event.{Event}
 use Rattle.hd_terms.specs.Dump.{Dump}
 use Rattle.hd_terms.specs.declared.errors.LogFault.{LogFault}
 use Rattle.hd_terms.specs.Log.{IsEvent, IsLawful, begins_with, log_fault}
-use Rattle.hd_terms.specs.Sessions.{with_event}
+use Rattle.hd_terms.specs.Appending.{with_event}
 use Rattle.hd_terms.proofs.Beginnings.{begins_itself, begins_trans, begins_shorter, begins_next, begins_get, lawful_beginning}
 use Rattle.hd_terms.proofs.LawfulLogs.{refuses, get-last}
 use Rattle.hd_state.specs.declared.state.Done.{Done}

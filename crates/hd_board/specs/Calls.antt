@@ -5,11 +5,11 @@ use Rattle.hd_terms.specs.declared.Edit.{Edit}
 use Rattle.hd_terms.specs.declared.Event.{Event}
 use Rattle.hd_terms.specs.declared.What.{What}
 use Rattle.hd_terms.specs.declared.What.TheVariants as whats
-use Rattle.hd_terms.specs.Asking.{edit_refusal}
+use Rattle.hd_terms.specs.Refusals.{edit_refusal}
 use Rattle.hd_terms.specs.Log.{begins_with}
 use Rattle.hd_terms.specs.Desks.{Continues, IsForeign, IsApart}
 use Rattle.hd_terms.specs.Schedule.{Board}
-use Rattle.hd_terms.specs.Sessions.{event_by, with_event}
+use Rattle.hd_terms.specs.Appending.{event_by, with_event}
 use Rattle.hd_state.specs.declared.state.Done.{Done}
 use Rattle.hd_state.specs.Done.{IsDone}
 use Rattle.hd_board.specs.declared.faults.AppendFault.{AppendFault}

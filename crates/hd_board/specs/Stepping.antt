@@ -5,7 +5,7 @@ use Rattle.hd_terms.specs.declared.Event.{Event}
 use Rattle.hd_terms.specs.declared.What.{What}
 use Rattle.hd_terms.specs.Log.{IsEvent}
 use Rattle.hd_terms.specs.Schedule.{Board}
-use Rattle.hd_terms.specs.Sessions.{with_event}
+use Rattle.hd_terms.specs.Appending.{with_event}
 use Rattle.hd_state.specs.declared.state.Done.{Done}
 use Rattle.hd_state.specs.Done.{IsDone}
 use Rattle.hd_board.specs.declared.desk.Unfinished.{Unfinished}

@@ -2,7 +2,7 @@
 ghost use Rattle.std.specs.Prelude.{◌≡◌, ◌↔◌, Contains, IfErr, IfOk, IsTrue, MatchBool};
 ghost use Rattle.hd_terms.specs.Desks.{IsForeign};
 ghost use Rattle.hd_terms.specs.Schedule.{numbers_from};
-ghost use Rattle.hd_terms.specs.Sessions.{with_event};
+ghost use Rattle.hd_terms.specs.Appending.{with_event};
 ghost use Rattle.hd_board.specs.Appends.{IsFound, IsTaken, RefusesAppend};
 
 use crate::faults::AppendFault;

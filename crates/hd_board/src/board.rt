@@ -3,7 +3,7 @@ ghost use Rattle.std.specs.Prelude.{◌≡◌, ◌≤◌, List, [], map, IfErr, 
 ghost use Rattle.std.specs.Arc.{arc_value};
 ghost use Rattle.hd_terms.specs.declared.Event.{Event as OneEvent};
 ghost use Rattle.hd_terms.specs.Schedule.{Closes};
-ghost use Rattle.hd_terms.specs.Sessions.{with_event};
+ghost use Rattle.hd_terms.specs.Appending.{with_event};
 ghost use Rattle.hd_board.specs.Appends.{IsFound, IsTaken, RefusesAppend, RefusesLook};
 ghost use Rattle.hd_board.specs.Closing.{numbered, RefusesClose};
 ghost use Rattle.hd_board.specs.Opening.{opened_board, opened_desks, forked_board, forked_desk};

@@ -3,7 +3,7 @@ ghost use Rattle.std.specs.Prelude.{ℕ, ◌≡◌, ◌<◌, ◌≤◌, ◌↔�
 ghost use Rattle.hd_terms.specs.declared.Event.{Event as OneEvent};
 ghost use Rattle.hd_terms.specs.declared.What.TheVariants as whats;
 ghost use Rattle.hd_terms.specs.Log.{begins_with, last_live};
-ghost use Rattle.hd_terms.specs.Sessions.{with_event};
+ghost use Rattle.hd_terms.specs.Appending.{with_event};
 ghost use Rattle.hd_state.specs.Next.{IsNextLog};
 ghost use Rattle.hd_board.specs.Replicas.{IsAt, IsBehindAt};
 ghost use Rattle.hd_board.specs.Stepping.{ComesTo, StepsOnce, Unfinishes};

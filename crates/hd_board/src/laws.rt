@@ -5,7 +5,7 @@ ghost use Rattle.hd_terms.specs.Appending.{append_refusal};
 ghost use Rattle.hd_terms.specs.Dump.{Dump};
 ghost use Rattle.hd_terms.specs.Log.{IsEvent};
 ghost use Rattle.hd_terms.specs.Schedule.{Board, Desks, append, look, learn, catch_up, with_seen, with_front, with_log, fork, Leads, Reaches};
-ghost use Rattle.hd_terms.specs.Sessions.{with_event};
+ghost use Rattle.hd_terms.specs.Appending.{with_event};
 ghost use Rattle.hd_board.specs.Appends.{IsFound, IsTaken};
 ghost use Rattle.hd_board.specs.Opening.{forked_board};
 

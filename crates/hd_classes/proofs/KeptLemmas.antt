@@ -7,18 +7,18 @@ use Rattle.std.specs.Map.{lookup, keys_of}
 use Rattle.std.proofs.lemmas.Bool.{cases_lt}
 use Rattle.std.proofs.lemmas.Cmp.{nat_eq_equiv}
 use Rattle.std.proofs.lemmas.List.{length_push}
-use Rattle.std.proofs.lemmas.List.Elements.{All-push, All-head, All-tail}
+use Rattle.std.proofs.lemmas.List.Elements.{All-push, All-nil, All-cons, All-head, All-tail}
 use Rattle.std.proofs.lemmas.Map.Keys.{IsDistinct-push}
 use Rattle.std.proofs.lemmas.Map.Made.{is_some-lookup}
 use Rattle.std.proofs.lemmas.Option.{slice_get_within}
 use Rattle.hd_terms.specs.declared.EdgeKind.{EdgeKind}
-use Rattle.hd_terms.specs.SubRecords.{ClassItem}
+use Rattle.hd_terms.specs.SubRecords.{ClassItem, FieldItem}
 use Rattle.hd_terms.specs.Classes.{ClassTable, LayoutField, ResolvedClass, LeadUp, class_at, fields_of, is_referent, referent_in, reference_kind, resolved_class, resolved_by}
 use Rattle.hd_classes.specs.declared.known.LayoutField as declared_field
 use Rattle.hd_classes.specs.declared.linked.LinkedClass.{LinkedClass}
 use Rattle.hd_classes.specs.declared.linking.Inherited.{Inherited}
 use Rattle.hd_classes.specs.Fields.{field_view}
-use Rattle.hd_classes.specs.Links.{Row, View, nothing, numbered, class_under, view_of, views, IsBelow, Declares, IsLinkedRow, IsLinked, is_kept}
+use Rattle.hd_classes.specs.Links.{Row, View, nothing, numbered, class_under, view_of, views, IsBelow, Declares, IsLinkedRow, OwnsFields, IsLinked, is_kept}
 use Rattle.hd_classes.specs.Linking.{IsInherited, IsLinkedUnder, AreKept, IsTop, KeepsClass}
 use Rattle.hd_classes.proofs.LinkLemmas.{get-front, get-last, views-push, views-length, layout-length, lookup-facts, Facts, view_facts, row_facts}
 use Rattle.hd_classes.proofs.ChainLemmas.{Found, IsFound, whole-up}
@@ -92,7 +92,7 @@ module _ (rows : List Row) (row : Row) where
   none-fields None e lt = omega (arith, lt)
   none-fields (Some r) e lt = cc
 
-  declares-below : (number : Option ℕ) → Declares rows number → IsBelow (length rows) number
+  pub declares-below : (number : Option ℕ) → Declares rows number → IsBelow (length rows) number
   declares-below None h = tt
   declares-below (Some i) h = by (slice_get rows i) refl
     where
@@ -115,6 +115,7 @@ module _ (rows : List Row) (row : Row) where
       let above : numbered (views more) class.super_number ≡ numbered (views rows) class.super_number = numbered-keep class.super_number (below-le i (length rows) class.super_number le h.earlier) in
       record {
         earlier = h.earlier;
+        nearer = h.nearer;
         declares = declares-keep class.fields_above h.declares;
         skips =
             ap (λ (k : ResolvedClass). k.layout) (numbered-keep class.fields_above (declares-below class.fields_above h.declares)) ∙ h.skips ∙ sym (ap (λ (k : ResolvedClass). k.layout) above);
@@ -223,10 +224,25 @@ module _ (t : ClassTable) (rows : List Row) (kept : AreKept t rows) (c : ClassIt
   here : IsLinkedRow rows (length rows) l
   here = record {
     earlier = subst (IsBelow (length rows)) (sym under.super_number) is.earlier;
+    nearer = subst (IsBelow (length rows)) (sym under.fields_above) (declares-below rows row a.fields_above is.declares);
     declares = subst (Declares rows) (sym under.fields_above) is.declares;
     skips = ap (λ (n : Option ℕ). (numbered (views rows) n).layout) under.fields_above ∙ is.skips ∙ ap (λ (k : ResolvedClass). k.layout) (sym same-above);
     counted = omega (arith, ap (λ (k : ResolvedClass). length k.layout) same-above, is.counted, under.counted);
   }
+
+  -- its fields are its own
+  owns : OwnsFields row
+  owns = kept-owned l.fields.items (subst (All (λ (f : LayoutField). f.owner ≡ c.id)) (sym under.fields) (own-owned c.fields))
+    where
+      own-owned : (fs : List FieldItem) → All (λ (f : LayoutField). f.owner ≡ c.id) (map (λ (f : FieldItem). record { owner = c.id; name = f.name; code = f.code }) fs)
+      own-owned [] = All-nil (λ (f : LayoutField). f.owner ≡ c.id)
+      own-owned (f ∷ fs) = All-cons (λ (f : LayoutField). f.owner ≡ c.id) (record { owner = c.id; name = f.name; code = f.code }) _ refl (own-owned fs)
+
+      kept-owned : (fs : List declared_field.LayoutField) → All (λ (f : LayoutField). f.owner ≡ c.id) (map field_view fs) → All (λ (f : declared_field.LayoutField). f.owner ≡ c.id) fs
+      kept-owned [] all = All-nil (λ (f : declared_field.LayoutField). f.owner ≡ c.id)
+      kept-owned (f ∷ fs) all =
+          let P : LayoutField → Type 0 = λ (g : LayoutField). g.owner ≡ c.id in
+          All-cons (λ (g : declared_field.LayoutField). g.owner ≡ c.id) f fs (All-head P (field_view f) (map field_view fs) all) (kept-owned fs (All-tail P (field_view f) (map field_view fs) all))
 
   keys-push : (rs : List Row) → keys_of (rs ++ row ∷ []) ≡ keys_of rs ++ c.id ∷ []
   keys-push [] = refl
@@ -239,6 +255,7 @@ module _ (t : ClassTable) (rows : List Row) (kept : AreKept t rows) (c : ClassIt
       let P : View → Type 0 = λ (p : View). length p.1.layout < 2 ^ 29 in
       record {
         linked = linked-push rows row kept.linked here;
+        owned = All-push OwnsFields rows row kept.owned owns;
         known = λ q k at_q. right q k (lookup-last (λ (x : ℕ). eqb q x) (views rows) v k (ap (lookup (λ (x : ℕ). eqb q x)) (sym all) ∙ at_q));
         short = subst (All P) (sym all) (All-push P (views rows) v kept.short (omega (arith, layout-length l.fields.items above.layout, here.counted, under.short)));
         distinct = subst (IsDistinct nat_eq) (sym (keys-push rows)) (IsDistinct-push nat_eq_equiv (keys_of rows) c.id kept.distinct (sym (is_some-lookup (λ (x : ℕ). eqb c.id x) rows) ∙ ap is_some absent));

@@ -23,6 +23,7 @@ use Rattle.hd_classes.specs.Known.{AreClassesOf, IsClassFaultOrMemory}
 use Rattle.hd_classes.specs.FirstClass.{PlacedClass, placed_classes, entry_of, first_class_view, HasFirstClasses}
 use Rattle.hd_classes.specs.Sources.{IsSource, IsSourceOf, table_of}
 use Rattle.hd_classes.specs.Links.{Row, views, is_kept}
+use Rattle.hd_classes.specs.Naming.{named_classes_of}
 use Rattle.hd_classes.specs.Building.{IsSettled, AddsClass, AreResolved, HasAllKnown, is_among, cycle_at, IsCycleOrMemory, IsFirstCycleOrMemory}
 use Rattle.hd_classes.proofs.FirstClassLemmas.{first_classes-places, class_faults-places, length-places}
 use Rattle.hd_classes.proofs.SearchLemmas.{map-twice, first-at, none-at}
@@ -192,6 +193,9 @@ module _ (bytes : List ℕ) (records : Records) (list : List Sub) (s : Source) (
   classes-of_file rows h =
       let P : ClassTable → Type 0 = λ (t : ClassTable). AreClassesOf t (record { texts = s.texts; names = s.names.entries; classes = views rows; repeated = s.repeated }) in
       subst P table-is (are-classes s rows is.kept h)
+
+  pub names-of_file : named_classes_of (table_of s) ≡ named_classes_of table
+  names-of_file = ap named_classes_of table-is
 
   pub no-faults : (rows : List Row) → HasAllKnown s rows → class_faults table list ≡ []
   no-faults rows h = sym faults-are ∙ h.no_cycle

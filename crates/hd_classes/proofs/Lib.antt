@@ -15,3 +15,5 @@ pub mod KnownLemmas
 pub mod ClassNameLemmas
 pub mod RepeatLemmas
 pub mod SideLemmas
+mod NamingLemmas
+mod NamedTableLemmas

@@ -15,3 +15,4 @@ pub mod Repeats
 pub mod Fits
 pub mod Places
 pub mod FitsInside
+pub mod Naming

@@ -8,7 +8,7 @@ use Rattle.hd_terms.specs.Classes.{ClassTable, ResolvedClass, fields_of, referen
 use Rattle.hd_classes.specs.declared.linked.LinkedClass.{LinkedClass}
 use Rattle.hd_classes.specs.declared.linking.Inherited.{Inherited}
 use Rattle.hd_classes.specs.Fields.{field_view}
-use Rattle.hd_classes.specs.Links.{Row, View, nothing, numbered, views, IsBelow, Declares, IsLinked, is_kept, Keeps}
+use Rattle.hd_classes.specs.Links.{Row, View, nothing, numbered, views, IsBelow, Declares, OwnsFields, IsLinked, is_kept, Keeps}
 
 -- what a class takes from the class of an ID
 pub record IsInherited (rows : List Row) (id : ℕ) (a : Inherited) : Type 0 where
@@ -33,6 +33,7 @@ pub record IsLinkedUnder (t : ClassTable) (c : ClassItem) (a : Inherited) (l : L
 -- classes are linked, each once, and what is known of them is right
 pub record AreKept (t : ClassTable) (rows : List Row) : Type 0 where
   pub linked : IsLinked rows
+  pub owned : All OwnsFields rows
   pub known : (id : ℕ) (k : ResolvedClass) → lookup (λ (x : ℕ). id == x) (views rows) ≡ Some k → resolved_class t id ≡ Some k
   pub short : All (λ (p : View). length p.1.layout < 2 ^ 29) (views rows)
   pub distinct : IsDistinct nat_eq (keys_of rows)

@@ -1,6 +1,6 @@
 -- Classes that are linked by their numbers, and what the rows of them say: the view of each is made from those of the rows
 -- before it.
-use Rattle.std.specs.Prelude.{◌≡◌, ℕ, ◌==◌, ◌+◌, ◌<◌, Bool, true, if◌then◌else◌, List, [], ◌∷◌, ◌++◌, length, map, slice_get, is_some, Option, Some, None}
+use Rattle.std.specs.Prelude.{◌≡◌, ℕ, ◌==◌, ◌+◌, ◌<◌, Bool, true, if◌then◌else◌, List, [], ◌∷◌, ◌++◌, length, map, slice_get, is_some, Option, Some, None, All}
 use Rattle.std.specs.Option.{option_map_or, option_and_then}
 use Rattle.std.specs.Map.{lookup}
 use Rattle.hd_terms.specs.declared.EdgeKind.TheVariants as kinds
@@ -60,9 +60,14 @@ Declares rows (Some i) = 0 < length (fields_at rows i)
 -- a row's links lead to rows before it, and the one to the next class that declares fields passes over none that does
 pub record IsLinkedRow (rows : List Row) (i : ℕ) (class : LinkedClass) : Type 0 where
   pub earlier : IsBelow i class.super_number
+  pub nearer : IsBelow i class.fields_above
   pub declares : Declares rows class.fields_above
   pub skips : (numbered (views rows) class.fields_above).layout ≡ (numbered (views rows) class.super_number).layout
   pub counted : length class.fields.items + length (numbered (views rows) class.super_number).layout ≡ class.layout_len
+
+-- the fields that are kept of a class are its own
+abbrev pub OwnsFields : Row → Type 0
+OwnsFields row = All (λ (f : LayoutField). f.owner ≡ row.0) row.1.fields.items
 
 abbrev pub IsLinked : List Row → Type 0
 IsLinked rows = (i : ℕ) (row : Row) → slice_get rows i ≡ Some row → IsLinkedRow rows i row.1

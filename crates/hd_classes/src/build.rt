@@ -9,6 +9,8 @@ ghost use Rattle.hd_classes.specs.Known.{AreClassesOf, IsClassFaultOrMemory, IsT
 ghost use Rattle.hd_classes.specs.Sources.{AreFirstTexts, IsSource, table_of};
 ghost use Rattle.hd_classes.specs.FirstClass.{first_class_view};
 ghost use Rattle.hd_classes.specs.Linking.{AreKept, IsTop, KeepsPath};
+ghost use Rattle.hd_classes.specs.Links.{IsLinked, views};
+ghost use Rattle.hd_classes.specs.Naming.{named_classes_of};
 ghost use Rattle.hd_classes.specs.Paths.{Leads};
 ghost use Rattle.hd_classes.specs.Building.{AreBroken, NotesPath, AddsClass, HasAllKnown, IsCycleOrMemory, IsFirstCycleOrMemory};
 
@@ -18,9 +20,11 @@ use crate::guesses::Guesses;
 use crate::linked::LinkedClass;
 use crate::linking::keep_class;
 use crate::names::FirstTexts;
+use crate::naming::named_classes;
 use crate::path::{Path, climb};
 use crate::source::{Source, source_of};
 use hd_hashers::IdHasher;
+use hd_names::NamedClasses;
 use hd_records::Records;
 use hd_subs::DumpSubs;
 use hd_terms::{Cause, ReadFault, class_chains};
@@ -107,6 +111,21 @@ fn resolved_classes(
 }
 
 impl Classes {
+    /// The classes that are known of a source, which is given up.
+    fn of_source(
+        alloc: Global,
+        source: Source<'_>,
+        known: IndexMap<u64, LinkedClass, IdHasher>,
+    ) -> Result<Classes, AllocError>
+        requires { IsLinked known.entries }
+        ensures { IfOk result (λ classes. classes ≡ record { texts = source.entry.texts; names = source.entry.names.entries; classes = views known.entries; repeated = source.entry.repeated }) }
+    {
+        let guesses = Guesses::at(alloc, &known)?;
+        let repeated = source.repeated;
+        let (texts, names) = source.into_names();
+        Ok(Classes::new(texts, names, known, guesses, repeated))
+    }
+
     /// The classes of a file, of which these are the records, the texts and the sub-records. The secret is a random number, for the
     /// hashes of IDs: no answer depends on it.
     ///
@@ -131,9 +150,35 @@ impl Classes {
         let hasher = IdHasher::new(secret);
         let source = source_of(alloc, bytes, records, texts, list, hasher)?;
         let known = resolved_classes(alloc, &source, hasher)?;
-        let guesses = Guesses::at(alloc, &known)?;
-        let repeated = source.repeated;
-        let (texts, names) = source.into_names();
-        Ok(Classes::new(texts, names, known, guesses, repeated))
+        let classes = Classes::of_source(alloc, source, known)?;
+        Ok(classes)
+    }
+
+    /// The classes of a file, as `build` makes them, and its class objects by the names of their fields and statics.
+    ///
+    /// # Errors
+    ///
+    /// Those of `build`.
+    pub fn build_named(
+        alloc: Global,
+        bytes: &[u8],
+        records: &Records,
+        texts: FirstTexts,
+        list: &DumpSubs<'_>,
+        secret: u64,
+    ) -> Result<(Classes, NamedClasses), ReadFault>
+        requires within { All (IsTextWithin (length bytes.now)) records.now.strings }
+        requires texts { AreFirstTexts records.now.strings texts }
+        ensures ok { IfOk result (λ r. AreClassesOf (class_table bytes.now records.now.strings records.now.loads list.now) r.0) }
+        ensures named { IfOk result (λ r. r.1 ≡ named_classes_of (class_table bytes.now records.now.strings records.now.loads list.now)) }
+        ensures no_cycle { OnOk result (class_faults (class_table bytes.now records.now.strings records.now.loads list.now) list.now ≡ []) }
+        ensures err { IfErr result (λ f. IsClassFaultOrMemory (class_table bytes.now records.now.strings records.now.loads list.now) list.now f) }
+    {
+        let hasher = IdHasher::new(secret);
+        let source = source_of(alloc, bytes, records, texts, list, hasher)?;
+        let known = resolved_classes(alloc, &source, hasher)?;
+        let named = named_classes(alloc, &source, &known, hasher)?;
+        let classes = Classes::of_source(alloc, source, known)?;
+        Ok((classes, named))
     }
 }

@@ -39,6 +39,8 @@
 //! - `places.rt`: where among the values of a class its references lie. The rows of all instances but the first are
 //!   made from these places.
 //! - `class_names.rt`: copies of the names of classes, each text once, so that the file can be given up.
+//! - `naming.rt`: the names of fields and statics, by class object (`NamedClasses` of `hd_names`), for those who ask for
+//!   them by `Classes::build_named`. `name_numbers.rt` copies each text once and gives it a number.
 //! - `repeats.rt`: the counts of repeated records, and `note_id`, which notes an object's ID and counts a repeated
 //!   one.
 #![tactic(auto)]
@@ -54,7 +56,9 @@ mod known;
 mod layout;
 mod linked;
 mod linking;
+mod name_numbers;
 mod names;
+mod naming;
 mod path;
 mod places;
 mod reference;

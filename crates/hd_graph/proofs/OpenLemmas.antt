@@ -15,9 +15,9 @@ use Rattle.hd_terms.specs.FirstRecords.{object_sub, first_subs, repeats}
 use Rattle.hd_terms.specs.Classes.{ClassTable, class_table, class_of_item, resolved_class, KnownClasses}
 use Rattle.hd_terms.specs.HeapFaults.{class_faults, object_faults}
 use Rattle.hd_terms.specs.Roots.{roots_of}
-use Rattle.hd_terms.specs.Dump.{Object, Root, Repeated}
+use Rattle.hd_terms.specs.Dump.{Object, Root, Repeated, NamedClass, Dump}
 use Rattle.hd_terms.specs.declared.Mode.{Mode}
-use Rattle.hd_terms.specs.Objects.{classes_of, object_of, objects_of, opaque_in, names_of, IsDumpOf, repeated_of}
+use Rattle.hd_terms.specs.Objects.{classes_of, object_of, objects_of, opaque_in, names_of, dump_of, ReadsAs, IsDumpOf, IsNamelessDumpOf, repeated_of}
 use Rattle.hd_terms.specs.ReadFaults.{in_records, in_sub_records, in_classes, in_objects, IsSubRecordsFault, IsSegmentFault}
 use Rattle.hd_records.specs.Reading.{ReadsRecords, IsRecordsFaultOrMemory}
 use Rattle.hd_classes.specs.Known.{Known, known_at, name_at, AreClassesOf, IsClassFaultOrMemory, IsTextWithin}
@@ -43,6 +43,7 @@ use Rattle.hd_graph.proofs.ArrayRowLemmas.{object_of_entry}
 use Rattle.hd_graph.proofs.DumpLemmas.{all_of, objects_in, roots_all, within_all, weight_all, weight-cons, row_objects-entries}
 use Rattle.hd_graph.proofs.SmallLemmas.{shapes-small, shapes-fit}
 use Rattle.hd_classes.specs.Names.{first_names}
+use Rattle.hd_classes.specs.Naming.{named_classes_of}
 use Rattle.hd_classes.proofs.RepeatLemmas.{repeats-map}
 use Rattle.hd_classes.proofs.ClassNameLemmas.{first-names, names-in-file}
 
@@ -258,23 +259,33 @@ module _ (bytes : List ℕ) (size : IdSize) (strings : List Text) (classes : Lis
             class-names-are : names ≡ names_of real
             class-names-are = names_are ∙ first-names table k h ∙ ap names_of table-is
 
-            pub opened : IsDumpOf mode bytes (record { mode = mode; objects = row_objects c.shapes t.ids t.rows; roots = map root_of_row roots; repeated = again; opaque = tally.opaque; names = names })
+            -- all but the names that go with class objects
+            shown-is : (cs : List NamedClass) → record { mode = mode; objects = row_objects c.shapes t.ids t.rows; roots = map root_of_row roots; repeated = again; opaque = tally.opaque; names = names; classes = cs }
+                ≡ record (dump_of mode bytes size r.records b.segments) { classes = cs }
+            shown-is cs =
+                ap (λ (xs : List Object). record { mode = mode; objects = xs; roots = map root_of_row roots; repeated = again; opaque = tally.opaque; names = names; classes = cs }) objects_are
+                ∙ ap (λ (xs : List Root). record { mode = mode; objects = objects_of real size (all_of real bytes size b.segments); roots = xs; repeated = again; opaque = tally.opaque; names = names; classes = cs }) roots_are
+                ∙ ap (λ (x : Repeated). record { mode = mode; objects = objects_of real size (all_of real bytes size b.segments); roots = roots_of size (all_of real bytes size b.segments); repeated = x; opaque = tally.opaque; names = names; classes = cs }) again_is
+                ∙ ap (λ (m : ℕ). record { mode = mode; objects = objects_of real size (all_of real bytes size b.segments); roots = roots_of size (all_of real bytes size b.segments); repeated = repeated_of real size r.records (all_of real bytes size b.segments); opaque = m; names = names; classes = cs }) opaque_are
+                ∙ ap (λ (ns : List (ℕ × List ℕ)). record { mode = mode; objects = objects_of real size (all_of real bytes size b.segments); roots = roots_of size (all_of real bytes size b.segments); repeated = repeated_of real size r.records (all_of real bytes size b.segments); opaque = opaque_in (resolved_class real) placed; names = ns; classes = cs }) class-names-are
+
+            file-reads : ReadsAs bytes size r.records b.segments
+            file-reads = record { header = r.header; whole = r.whole; bodies = dump_bodies; classes = no-cycle; objects = sym object-faults-are ∙ n.no_fault }
+
+            pub opened : IsNamelessDumpOf mode bytes (record { mode = mode; objects = row_objects c.shapes t.ids t.rows; roots = map root_of_row roots; repeated = again; opaque = tally.opaque; names = names; classes = [] })
             opened = record {
+              named = dump_of mode bytes size r.records b.segments;
+              is_dump = record { size = size; records = r.records; segments = b.segments; reads = file-reads; is = refl };
+              is = shown-is [];
+            }
+
+            pub opened-named : IsDumpOf mode bytes (record { mode = mode; objects = row_objects c.shapes t.ids t.rows; roots = map root_of_row roots; repeated = again; opaque = tally.opaque; names = names; classes = named_classes_of table })
+            opened-named = record {
               size = size;
               records = r.records;
               segments = b.segments;
-              reads = record {
-                header = r.header;
-                whole = r.whole;
-                bodies = dump_bodies;
-                classes = no-cycle;
-                objects = sym object-faults-are ∙ n.no_fault;
-              };
-              is = ap (λ (xs : List Object). record { mode = mode; objects = xs; roots = map root_of_row roots; repeated = again; opaque = tally.opaque; names = names }) objects_are
-                  ∙ ap (λ (xs : List Root). record { mode = mode; objects = objects_of real size (all_of real bytes size b.segments); roots = xs; repeated = again; opaque = tally.opaque; names = names }) roots_are
-                  ∙ ap (λ (x : Repeated). record { mode = mode; objects = objects_of real size (all_of real bytes size b.segments); roots = roots_of size (all_of real bytes size b.segments); repeated = x; opaque = tally.opaque; names = names }) again_is
-                  ∙ ap (λ (m : ℕ). record { mode = mode; objects = objects_of real size (all_of real bytes size b.segments); roots = roots_of size (all_of real bytes size b.segments); repeated = repeated_of real size r.records (all_of real bytes size b.segments); opaque = m; names = names }) opaque_are
-                  ∙ ap (λ (ns : List (ℕ × List ℕ)). record { mode = mode; objects = objects_of real size (all_of real bytes size b.segments); roots = roots_of size (all_of real bytes size b.segments); repeated = repeated_of real size r.records (all_of real bytes size b.segments); opaque = opaque_in (resolved_class real) placed; names = ns }) class-names-are;
+              reads = file-reads;
+              is = shown-is (named_classes_of table) ∙ ap (λ (t : ClassTable). record (dump_of mode bytes size r.records b.segments) { classes = named_classes_of t }) table-is;
             }
 
 pub records-fault : (bytes : List ℕ) (f : ReadFault) → IsRecordsFaultOrMemory bytes f → IsReadFaultOrMemory bytes f

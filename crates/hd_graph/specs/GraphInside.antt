@@ -1,5 +1,5 @@
 -- The dump that a graph stands for.
-use Rattle.std.specs.Prelude.{◌<◌, ◌^◌, length, map, All}
+use Rattle.std.specs.Prelude.{◌<◌, ◌^◌, [], length, map, unwrap_or, All}
 use Rattle.hd_terms.specs.Dump.{Dump, Repeated, Root}
 use Rattle.hd_graph.specs.declared.graph.Graph.TheInside.{Inside}
 use Rattle.hd_graph.specs.declared.graph.StoredRoot.{StoredRoot}
@@ -15,7 +15,7 @@ abbrev pub repeated_in : Repeats → Repeated
 repeated_in r = record { objects = r.objects; strings = r.strings; loads = r.loads }
 
 -- how phantom references are followed; a row and a shape for each object, the roots, what is repeated, how many instances are
--- opaque, and the names of classes
+-- opaque, the names of classes, and the names that go with class objects, if they are kept
 abbrev pub dump_of_graph : Inside → Dump
 dump_of_graph a = record {
   mode = a.mode;
@@ -24,6 +24,7 @@ dump_of_graph a = record {
   repeated = repeated_in a.repeats;
   opaque = a.opaque;
   names = a.names;
+  classes = unwrap_or a.classes [];
 }
 
 -- what holds of what is kept: a row and a shape for each object, no more recorded bytes than a file has, and numbers of four

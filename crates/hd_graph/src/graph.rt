@@ -1,10 +1,12 @@
 //! Looking up the graph: objects by number or ID, their slots, their sizes, and the roots.
-ghost use Rattle.std.specs.Prelude.{◌≡◌, ◌<◌, ◌^◌, ℕ, length, map, position, slice_get, None, Some, true, ◌≤◌, All, IfOk, MatchOption, sum_by};
+ghost use Rattle.std.specs.Prelude.{◌≡◌, ◌<◌, ◌^◌, ℕ, [], length, map, position, slice_get, None, Some, true, ◌≤◌, All, IfOk, MatchOption, sum_by};
 ghost use Rattle.std.specs.List.{slice_index_or};
+ghost use Rattle.std.specs.Option.{option_map, option_copied};
 ghost use Rattle.hd_terms.specs.Counts.{unresolved_of};
 ghost use Rattle.hd_terms.specs.Edges.{index_of};
 ghost use Rattle.hd_terms.specs.EditedDump.{same_slot};
-ghost use Rattle.hd_terms.specs.Dump.{SlotEntry, object_at, name_in};
+ghost use Rattle.hd_terms.specs.Dump.{SlotEntry, NamedClass, object_at, name_in, named_class, named_field, static_name};
+ghost use Rattle.hd_names.specs.Fields.{field_view};
 ghost use Rattle.hd_terms.specs.declared.Slot.{Slot};
 ghost use Rattle.hd_shapes.specs.Shapes.{shape_bytes};
 ghost use Rattle.hd_shapes.specs.PackedShapes.{shape_view};
@@ -14,6 +16,7 @@ ghost use Rattle.hd_graph.specs.Shapes.{slot_name, slot_kind, shape_index, shape
 
 use crate::kinds::{KindLists, kinds_of};
 use hd_classes::ClassNames;
+use hd_names::{FieldName, FieldNames, NamedClasses};
 use hd_shapes::{JoinedShapes, Shape};
 use hd_slots::{IdCounts, SlotTable, Targets};
 use hd_terms::{EdgeKind, Group, Mode, RootKind, Slot};
@@ -30,6 +33,8 @@ pub struct Graph {
     opaque: u64,
     mode: Mode,
     names: ClassNames,
+    /// The names that go with class objects, if they are kept.
+    classes: Option<NamedClasses>,
 }
 
 impl Drop for Graph {
@@ -43,6 +48,7 @@ impl Drop for Graph {
             opaque: _,
             mode: _,
             names,
+            classes,
         } = self;
     }
 }
@@ -210,7 +216,7 @@ impl Graph {
         requires small { All IsSmall shapes.objects }
         requires few { length slot_table.ids < 2 ^ 31 }
         requires few_roots { length roots.items < 2 ^ 32 }
-        ensures { result ≡ record { mode = mode; objects = row_objects shapes.objects slot_table.ids slot_table.rows; roots = map root_of_row roots.items; repeated = repeated_in repeats; opaque = opaque; names = names } }
+        ensures { result ≡ record { mode = mode; objects = row_objects shapes.objects slot_table.ids slot_table.rows; roots = map root_of_row roots.items; repeated = repeated_in repeats; opaque = opaque; names = names; classes = [] } }
     {
         Graph {
             slot_table,
@@ -220,7 +226,17 @@ impl Graph {
             opaque,
             mode,
             names,
+            classes: None,
         }
+    }
+
+    /// The same graph with these names that go with class objects.
+    pub(crate) fn with_classes(self, classes: NamedClasses) -> Graph
+        ensures { result ≡ record self { classes = classes } }
+    {
+        let mut graph = self;
+        graph.classes = Some(classes);
+        graph
     }
 
     /// What was repeated.
@@ -418,6 +434,58 @@ impl Graph {
         ensures { MatchOption result (name_in self.now class ≡ None) (λ name. name_in self.now class ≡ Some name.now) }
     {
         self.names.get(class)
+    }
+
+    /// How many class objects there are by the names that go with them: none where these aren't kept.
+    pub fn classes_len(&self) -> usize
+        ensures { result ≡ length self.now.classes }
+    {
+        match &self.classes {
+            Some(classes) => classes.len(),
+            None => 0,
+        }
+    }
+
+    /// The ID of the class object at a place in file order, if the names that go with it are kept.
+    pub fn class_at(&self, place: usize) -> Option<u64>
+        ensures { result ≡ option_map (λ (c : NamedClass). c.class) (slice_get self.now.classes place) }
+    {
+        match &self.classes {
+            Some(classes) => classes.id_at(place),
+            None => None,
+        }
+    }
+
+    /// The fields of the layout of the class of an ID by their names, if these are kept: none where the class's chain isn't
+    /// whole.
+    pub fn named_fields(&self, class: u64) -> Option<FieldNames<'_>>
+        ensures { MatchOption result (named_class self.now class ≡ None) (λ fields. option_map (λ (c : NamedClass). c.fields) (named_class self.now class) ≡ Some fields) }
+    {
+        match &self.classes {
+            Some(classes) => classes.fields(class),
+            None => None,
+        }
+    }
+
+    /// The field of a number in the layout of the class of an ID, if the class has it and its name is kept.
+    pub fn named_field(&self, class: u64, field: u32) -> Option<FieldName<'_>>
+        ensures { option_map field_view result ≡ named_field self.now class field }
+    {
+        match &self.classes {
+            Some(classes) => classes.field(class, field),
+            None => None,
+        }
+    }
+
+    /// The name of the static of a number of the class of an ID, if it has the static, that has a name and it is kept: its
+    /// bytes as the file has them.
+    pub fn static_name(&self, class: u64, number: u32) -> Option<&[u8]>
+        ensures { option_copied result ≡ static_name self.now class number }
+    {
+        match &self.classes {
+            Some(classes) => classes.static_name(class, number),
+            None => None,
+        }
     }
 
     /// How many roots the dump has.

@@ -1,14 +1,14 @@
 //! The graph of a dump: its objects by number, their slots, and its roots.
 //!
-//! Callers open a file by `open_dump` and see a `Graph`, which contracts see as the `Dump`. A graph never changes,
-//! and it needs no byte of the file. Here the definitions of files meet those of the heap: most crates that stand on
-//! this one speak of the dump alone.
+//! Callers open a file by `open_dump` or `open_named_dump` and see a `Graph`, which contracts see as the `Dump`. A graph
+//! never changes, and it needs no byte of the file. Only `open_named_dump` keeps the names of fields and statics.
+//! Here the definitions of files meet those of the heap: most crates that stand on this one speak of the dump alone.
 //!
 //! `open_dump` (`opening.rt`) runs the phases in the order records, sub-records, classes, objects. The answer is the
 //! first fault of the first phase that has one.
 //!
 //! - It reads the records, and then the sub-records by workers. Meanwhile two threads note the first text of each ID.
-//! - It builds the classes.
+//! - It builds the classes, with the names of their fields and statics or without.
 //! - `Graph::build` copies the names of classes and gives up the records and texts. It makes the numbers, rows and
 //!   shapes of the objects, gives up the list of the sub-records, and has `hd_slots` turn the file offsets in the
 //!   rows into numbers.
@@ -33,9 +33,9 @@
 //!
 //! An opaque instance, whose class isn't known, has a row like that of an array without elements, and is kept as one.
 //!
-//! - `graph.rt`: the `Graph` is the slot table, the shapes, the roots, the names of classes and a few counts. It
-//!   answers the ID of an object, its group, its bytes, its slots, and the roots. The name of an array's slot follows
-//!   from its index; other names are those of the shape.
+//! - `graph.rt`: the `Graph` is the slot table, the shapes, the roots, the names of classes, a few counts, and the
+//!   names of fields and statics if they are kept. It answers the ID of an object, its group, its bytes, its slots, and
+//!   the roots. The name of an array's slot follows from its index; other names are those of the shape.
 //! - `counts.rt`: the counts of `stat`.
 //! - `kinds.rt`: `KindLists` has a list for each kind of reference objects, of all references that go through their
 //!   referents to objects, eight bytes each. Only edits need them, so a graph has none; they are made when they are
@@ -60,4 +60,4 @@ mod stretch;
 
 pub use graph::{Graph, RootRead, SlotName, SlotRead};
 pub use kinds::KindLists;
-pub use opening::open_dump;
+pub use opening::{open_dump, open_named_dump};

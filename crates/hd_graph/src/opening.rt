@@ -2,13 +2,14 @@
 ghost use Rattle.std.specs.Prelude.{◌≡◌, [], IfOk, IfErr};
 ghost use Rattle.std.specs.Arc.{arc_value};
 ghost use Rattle.hd_terms.specs.Workers.{IsWorkers};
-ghost use Rattle.hd_terms.specs.Objects.{IsDumpOf};
+ghost use Rattle.hd_terms.specs.Objects.{IsDumpOf, IsNamelessDumpOf};
 ghost use Rattle.hd_terms.specs.Classes.{class_table};
 ghost use Rattle.hd_terms.specs.HeapFaults.{class_faults};
 ghost use Rattle.hd_records.specs.Reading.{ReadsRecords};
 ghost use Rattle.hd_decode.specs.Bodies.{IsBodiesFaultOrMemory, ReadsBodies};
 ghost use Rattle.hd_classes.specs.Known.{AreClassesOf};
 ghost use Rattle.hd_classes.specs.Sources.{AreFirstTexts};
+ghost use Rattle.hd_classes.specs.Naming.{named_classes_of};
 ghost use Rattle.hd_graph.specs.Building.{IsReadFaultOrMemory};
 
 use crate::filling::{Rows, rows_of};
@@ -28,7 +29,7 @@ use std::thread::{Threads, join};
 
 impl Graph {
     /// The graph of a file, of which these are the records, the sub-records and the classes, and this is how phantom references
-    /// are followed. What is kept of records, texts and names is given up before the rows of objects are made, and the list of the
+    /// are followed. It has no names that go with class objects. What is kept of records, texts and names is given up before the rows of objects are made, and the list of the
     /// sub-records before their references are found by number.
     ///
     /// # Errors
@@ -48,7 +49,8 @@ impl Graph {
         requires list { ReadsBodies records.id_size bytes.now records.segments list }
         requires classes { AreClassesOf (class_table bytes.now records.strings records.loads list) classes }
         requires no_cycle { class_faults (class_table bytes.now records.strings records.loads list) list ≡ [] }
-        ensures ok { IfOk result (λ graph. IsDumpOf mode bytes.now graph) }
+        ensures ok { IfOk result (λ graph. IsNamelessDumpOf mode bytes.now graph) }
+        ensures named { IfOk result (λ graph. IsDumpOf mode bytes.now (record graph { classes = named_classes_of (class_table bytes.now records.strings records.loads list.entry) })) }
         ensures err { IfErr result (λ f. IsReadFaultOrMemory bytes.now f) }
     {
         let id_size = records.id_size;
@@ -114,9 +116,32 @@ fn texts_and_subs<'a, R: Threads + Sync, G: Gate>(
     (texts, list)
 }
 
-/// The graph of a dump. All of the file is read: its records, then its segments by this many workers at once, 1 to 16, each of
-/// which passes the gate first, then its classes and its objects. The mode says how phantom references are followed. The answer
-/// is the same for every number of workers and every gate.
+/// The records of a file, its first texts and its sub-records, which so many workers read at once, each of which passes the gate
+/// first.
+fn read_file<'a, R: RandomSource + Threads + Sync, G: Gate>(
+    rt: &R,
+    alloc: Global,
+    bytes: &'a [u8],
+    secret: u64,
+    workers: u32,
+    gate: &G,
+) -> Result<(Records, FirstTexts, DumpSubs<'a>), ReadFault>
+    requires workers { IsWorkers workers }
+    ensures records { IfOk result (λ r. ReadsRecords bytes.now r.0.id_size r.0.strings r.0.loads r.0.segments) }
+    ensures texts { IfOk result (λ r. AreFirstTexts r.0.strings r.1) }
+    ensures list { IfOk result (λ r. ReadsBodies r.0.id_size bytes.now r.0.segments r.2) }
+    ensures err { IfErr result (λ f. IsReadFaultOrMemory bytes.now f) }
+{
+    let records = read_records(alloc, bytes)?;
+    let (texts, list) = texts_and_subs(rt, alloc, bytes, &records, secret, workers, gate);
+    let list = list?;
+    let texts = texts?;
+    Ok((records, texts, list))
+}
+
+/// The graph of a dump, without the names that go with its class objects. All of the file is read: its records, then its segments
+/// by this many workers at once, 1 to 16, each of which passes the gate first, then its classes and its objects. The mode says how
+/// phantom references are followed. The answer is the same for every number of workers and every gate.
 ///
 /// # Errors
 ///
@@ -131,15 +156,38 @@ pub fn open_dump<R: RandomSource + Threads + Sync, G: Gate>(
     gate: &G,
 ) -> Result<Arc<Graph>, ReadFault>
     requires workers { IsWorkers workers }
+    ensures ok { IfOk result (λ graph. IsNamelessDumpOf mode bytes.now (arc_value graph)) }
+    ensures err { IfErr result (λ f. IsReadFaultOrMemory bytes.now f) }
+{
+    let secret = secret(rt);
+    let (records, texts, list) = read_file(rt, alloc, bytes, secret, workers, gate)?;
+    let classes = Classes::build(alloc, bytes, &records, texts, &list, secret)?;
+    let graph = Graph::build(rt, alloc, bytes, records, list, classes, mode)?;
+    let graph = Arc::new(alloc, graph)?;
+    Ok(graph)
+}
+
+/// The same graph with the names that go with its class objects: those of fields and of statics.
+///
+/// # Errors
+///
+/// Those of `open_dump`.
+pub fn open_named_dump<R: RandomSource + Threads + Sync, G: Gate>(
+    rt: &R,
+    alloc: Global,
+    bytes: &[u8],
+    workers: u32,
+    mode: Mode,
+    gate: &G,
+) -> Result<Arc<Graph>, ReadFault>
+    requires workers { IsWorkers workers }
     ensures ok { IfOk result (λ graph. IsDumpOf mode bytes.now (arc_value graph)) }
     ensures err { IfErr result (λ f. IsReadFaultOrMemory bytes.now f) }
 {
-    let records = read_records(alloc, bytes)?;
     let secret = secret(rt);
-    let (texts, list) = texts_and_subs(rt, alloc, bytes, &records, secret, workers, gate);
-    let list = list?;
-    let classes = Classes::build(alloc, bytes, &records, texts?, &list, secret)?;
-    let graph = Graph::build(rt, alloc, bytes, records, list, classes, mode)?;
-    let graph = Arc::new(alloc, graph)?;
+    let (records, texts, list) = read_file(rt, alloc, bytes, secret, workers, gate)?;
+    let (classes, named) = Classes::build_named(alloc, bytes, &records, texts, &list, secret)?;
+    let nameless = Graph::build(rt, alloc, bytes, records, list, classes, mode)?;
+    let graph = Arc::new(alloc, nameless.with_classes(named))?;
     Ok(graph)
 }

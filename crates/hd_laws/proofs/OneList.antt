@@ -9,20 +9,20 @@ use Rattle.std.proofs.lemmas.List.Elements.{Contains-append_right, Contains-appe
 
 module _ {X : Type 0} where
   -- nothing is in a list without items
-  none : (z : X) → Contains [] z → ⊥
+  pub none : (z : X) → Contains [] z → ⊥
   none z at = let lt : at.0 < 0 = at.1 in absurd (omega (arith, lt))
 
-  first : (x : X) (xs : List X) → Contains (x ∷ xs) x
+  pub first : (x : X) (xs : List X) → Contains (x ∷ xs) x
   first x xs = (0, omega arith, refl)
 
-  later : (x : X) (xs : List X) (z : X) → Contains xs z → Contains (x ∷ xs) z
+  pub later : (x : X) (xs : List X) (z : X) → Contains xs z → Contains (x ∷ xs) z
   later x xs z at = Contains-append_right (x ∷ []) xs z at
 
   alone : (x z : X) → Contains (x ∷ []) z → x ≡ z
   alone x z (zero, lt, is) = is
   alone x z (suc k, lt, is) = absurd (omega (arith, lt))
 
-  cases : (x : X) (xs : List X) (z : X) → Contains (x ∷ xs) z → (x ≡ z) ⊎ Contains xs z
+  pub cases : (x : X) (xs : List X) (z : X) → Contains (x ∷ xs) z → (x ≡ z) ⊎ Contains xs z
   cases x xs z at = ⊎_elim (λ here. inl (alone x z here)) (λ there. inr there) (Contains-append_cases (x ∷ []) xs z at)
 
   module _ (key : X → ℕ) where

@@ -4,12 +4,12 @@ use Rattle.std.specs.Prelude.{map}
 use Rattle.std.specs.List.{AllByRecursion}
 use Rattle.hd_terms.specs.declared.Event.{Event}
 use Rattle.hd_terms.specs.declared.Mode.{Mode}
-use Rattle.hd_terms.specs.Dump.{Dump}
-use Rattle.hd_terms.specs.Lines.{command_of}
-use Rattle.hd_terms.specs.Memory.{Memory, beginning}
-use Rattle.hd_terms.specs.Objects.{IsDumpOf}
-use Rattle.hd_terms.specs.Sessions.{Analyst, Turn, IsTurn, IsSession, IsAlone, IsUndisturbed, lone_analyst, replies}
-use Rattle.hd_terms.specs.Stat.{IsStat}
+use Rattle.hd_terms.specs.Dump.{Dump, without_classes}
+use Rattle.hd_lines.specs.Lines.{command_of}
+use Rattle.hd_lines.specs.Memory.{Memory, beginning}
+use Rattle.hd_terms.specs.Objects.{IsDumpOf, IsNamelessDumpOf}
+use Rattle.hd_lines.specs.Sessions.{Analyst, Turn, IsTurn, IsSession, IsAlone, IsUndisturbed, lone_analyst, replies}
+use Rattle.hd_lines.specs.Stat.{IsStat}
 use Rattle.hd_terms.proofs.OneReading.{same_dump}
 use Rattle.hd_laws.specs.Plain.{AreAlike, AsksNoChain, IsPlain, IsServedPlainly}
 use Rattle.hd_laws.proofs.OneList.{same_head, same_tail, no_items}
@@ -66,6 +66,10 @@ pub same_runs : (mode : Mode) (bytes input written other : List ℕ) (a b : Dump
 same_runs mode bytes input written other a b ts us ha hb s t no_chain =
     s.served.written_is ∙ same_replies ts us (alike_runs mode bytes input written other a b ts us ha hb s t) no_chain ∙ sym t.served.written_is
 
-pub one_stat : (mode : Mode) (bytes text other : List ℕ) (a b : Dump) → IsDumpOf mode bytes a → IsDumpOf mode bytes b → IsStat a text → IsStat b other → text ≡ other
+-- the bytes have one dump but for the names that go with class objects
+same_nameless : (mode : Mode) (bytes : List ℕ) (a b : Dump) → IsNamelessDumpOf mode bytes a → IsNamelessDumpOf mode bytes b → a ≡ b
+same_nameless mode bytes a b ha hb = ha.is ∙ ap without_classes (same_dump mode bytes ha.named hb.named ha.is_dump hb.is_dump) ∙ sym hb.is
+
+pub one_stat : (mode : Mode) (bytes text other : List ℕ) (a b : Dump) → IsNamelessDumpOf mode bytes a → IsNamelessDumpOf mode bytes b → IsStat a text → IsStat b other → text ≡ other
 one_stat mode bytes text other a b ha hb s t =
-    stat.one_stat a text other s (subst (λ (dump : Dump). IsStat dump other) (sym (same_dump mode bytes a b ha hb)) t)
+    stat.one_stat a text other s (subst (λ (dump : Dump). IsStat dump other) (sym (same_nameless mode bytes a b ha hb)) t)

@@ -7,8 +7,8 @@ use Rattle.hd_terms.specs.declared.Strength.TheVariants as strengths
 use Rattle.hd_terms.specs.Counts.{counts_of}
 use Rattle.hd_terms.specs.Dump.{Dump, object_at}
 use Rattle.hd_terms.specs.Totals.{Decides, IsTotalOf}
-use Rattle.hd_terms.specs.Replies.{with_newline, strength_name}
-use Rattle.hd_terms.specs.Stat.{IsStat, Total, count_lines, total_line, total_lines}
+use Rattle.hd_lines.specs.Replies.{with_newline, strength_name}
+use Rattle.hd_lines.specs.Stat.{IsStat, Total, count_lines, total_line, total_lines}
 
 -- two truths that follow from each other are one
 same_truth : (a b : Bool) → (a ≡ true → b ≡ true) → (b ≡ true → a ≡ true) → a ≡ b

@@ -5,10 +5,10 @@ use Rattle.std.proofs.lemmas.Fmt.{decimal_digit}
 use Rattle.hd_terms.specs.declared.errors.LogFault.TheVariants as faults
 use Rattle.hd_terms.specs.declared.errors.Refusal.TheVariants as refusals
 use Rattle.hd_terms.specs.Examples as examples
-use Rattle.hd_terms.specs.Memory.{beginning}
-use Rattle.hd_terms.specs.Replies.{IsReply, IsUnserved, answered, log_fault_name, refusal_name, refused, with_newline}
-use Rattle.hd_terms.specs.Sessions.{Turn, IsLater, IsRefreshed}
-use Rattle.hd_terms.specs.Sessions as sessions
+use Rattle.hd_lines.specs.Memory.{beginning}
+use Rattle.hd_lines.specs.Replies.{IsReply, IsUnserved, answered, log_fault_name, refusal_name, refused, with_newline}
+use Rattle.hd_lines.specs.Sessions.{Turn, IsLater, IsRefreshed}
+use Rattle.hd_lines.specs.Sessions as sessions
 use Rattle.hd_terms.proofs.LawfulByTest.{lawful}
 use Rattle.hd_laws.specs.Plain.{IsPlain, IsServedPlainly}
 

@@ -1,18 +1,19 @@
 -- Sessions of which the definitions leave one text, but for chains.
 -- Source: this project. Which chain is shown is left open; so is when memory runs out or a log is foreign, and what others do beside a private part.
-use Rattle.std.specs.Prelude.{◌≡◌, ℕ, List, [], ◌∷◌, Result, Ok}
+use Rattle.std.specs.Prelude.{◌≡◌, ℕ, List, [], ◌∷◌, Option, Result, Ok}
 use Rattle.std.specs.List.{AllByRecursion}
-use Rattle.hd_terms.specs.declared.commands.Command.{Command}
-use Rattle.hd_terms.specs.declared.commands.Command.TheVariants as commands
-use Rattle.hd_terms.specs.declared.commands.LineFault.{LineFault}
+use Rattle.hd_lines.specs.declared.commands.Command.{Command}
+use Rattle.hd_lines.specs.declared.commands.Command.TheVariants as commands
+use Rattle.hd_lines.specs.declared.commands.Query.TheVariants as queries
+use Rattle.hd_lines.specs.declared.commands.LineFault.{LineFault}
 use Rattle.hd_terms.specs.Dump.{Dump}
-use Rattle.hd_terms.specs.Lines.{command_of}
-use Rattle.hd_terms.specs.Replies.{IsUnserved, accepted_reply}
-use Rattle.hd_terms.specs.Sessions.{Turn, IsServedBy, IsSessionAlone}
+use Rattle.hd_lines.specs.Lines.{command_of}
+use Rattle.hd_lines.specs.Replies.{IsUnserved, accepted_reply}
+use Rattle.hd_lines.specs.Sessions.{Turn, IsServedBy, IsSessionAlone}
 
 -- no chain is asked for
 abbrev pub AsksNoChain : Result Command LineFault → Type 0
-AsksNoChain r = (id : ℕ) → r ≡ Ok (commands.Chain id) → ⊥
+AsksNoChain r = (most : Option ℕ) (id : ℕ) → r ≡ Ok (commands.Ask most (queries.Chain id)) → ⊥
 
 -- a turn that begins no private part, and whose command was served: memory didn't run out, neither before its event was
 -- taken nor after, and the board's log wasn't foreign

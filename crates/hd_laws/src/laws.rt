@@ -4,17 +4,17 @@ ghost use Rattle.std.specs.List.{AllByRecursion};
 ghost use Rattle.hd_terms.specs.declared.Mode.{Mode};
 ghost use Rattle.hd_terms.specs.Dump.{Dump};
 ghost use Rattle.hd_terms.specs.Examples as examples;
-ghost use Rattle.hd_terms.specs.Lines.{command_of};
-ghost use Rattle.hd_terms.specs.Objects.{IsDumpOf};
-ghost use Rattle.hd_terms.specs.Sessions.{Turn};
-ghost use Rattle.hd_terms.specs.Stat.{IsStat};
+ghost use Rattle.hd_lines.specs.Lines.{command_of};
+ghost use Rattle.hd_terms.specs.Objects.{IsDumpOf, IsNamelessDumpOf};
+ghost use Rattle.hd_lines.specs.Sessions.{Turn};
+ghost use Rattle.hd_lines.specs.Stat.{IsStat};
 ghost use Rattle.hd_laws.specs.Plain.{AreAlike, AsksNoChain, IsServedPlainly};
 
-use hd_terms::reply_examples;
+use hd_lines::reply_examples;
 
 /// The bytes of a dump and the mode have one text of `stat`.
 pub fn one_stat()
-    ensures { (mode : Mode) (bytes text other : List ℕ) (a b : Dump) → IsDumpOf mode bytes a → IsDumpOf mode bytes b → IsStat a text → IsStat b other → text ≡ other }
+    ensures { (mode : Mode) (bytes text other : List ℕ) (a b : Dump) → IsNamelessDumpOf mode bytes a → IsNamelessDumpOf mode bytes b → IsStat a text → IsStat b other → text ≡ other }
 {}
 
 /// Where an analyst alone is served a whole input over the bytes of a dump, no private part begins, and no reply says that

@@ -5,7 +5,7 @@ use Rattle.std.specs.Io.KnownBytes.{Keeps, Appends}
 use Rattle.hd_terms.specs.declared.Mode.{Mode}
 use Rattle.hd_terms.specs.Dump.{Dump}
 use Rattle.hd_terms.specs.Objects.{IsDumpOf}
-use Rattle.hd_terms.specs.Replies.{with_newline}
+use Rattle.hd_lines.specs.Replies.{with_newline}
 use Rattle.hd_board.specs.Opening.{opened_board}
 use Rattle.hd_protocol.specs.Running.{IsOpenFault}
 use Rattle.hd_server.specs.Logs.{PrintsLog}

@@ -4,9 +4,10 @@ use Rattle.std.specs.Prelude.{◌==◌}
 use Rattle.std.specs.List.{AllByRecursion}
 use Rattle.hd_terms.specs.declared.Event.{Event}
 use Rattle.hd_terms.specs.Log.{own}
-use Rattle.hd_terms.specs.Memory.{Memory, at_log, board_log, home_or}
-use Rattle.hd_terms.specs.Sessions.{Analyst, Turn, IsLater, IsRefreshed, IsTurn, IsSession, IsAlone, IsUndisturbed, event_by, memory_after}
-use Rattle.hd_terms.specs.Sessions as sessions
+use Rattle.hd_lines.specs.Memory.{Memory, at_log, board_log, home_or}
+use Rattle.hd_lines.specs.Sessions.{Analyst, Turn, IsLater, IsRefreshed, IsTurn, IsSession, IsAlone, IsUndisturbed, memory_after}
+use Rattle.hd_terms.specs.Appending.{event_by}
+use Rattle.hd_lines.specs.Sessions as sessions
 
 -- all events of the log are the analyst's
 abbrev pub OnlyBy : ℕ → List Event → Type 0
@@ -50,6 +51,8 @@ module _ (a : Analyst) (t : Turn) where
   found_only (sessions.unfinished c what is asks takes says l) none h = only_front a.who t.found (event_by a.who what ∷ []) (left t.after (t.found ++ event_by a.who what ∷ []) l none h)
   found_only (sessions.marked is room says f l) none h =
       same_found f (subst (λ (home : Option (List Event)). OnlyBy a.who (home_or home t.before.log)) none (subst (λ (m : Memory). OnlyBy a.who (board_log m)) l h))
+  found_only (sessions.renamed on is says f l) none h =
+      same_found f (subst (λ (home : Option (List Event)). OnlyBy a.who (home_or home t.before.log)) none (subst (λ (m : Memory). OnlyBy a.who (board_log m)) l h))
   found_only (sessions.gone_private is none_open says f l) none h = same_found f (subst (λ (m : Memory). OnlyBy a.who (board_log m)) l h)
   found_only (sessions.gone_back home is was_open says f l) none h = absurd (some_none home (sym was_open ∙ none))
   found_only (sessions.unserved needs says f l) none h = left t.after t.found l none h
@@ -65,6 +68,8 @@ module _ (a : Analyst) (t : Turn) where
   home_only home (sessions.accepted c what is asks takes done l) some h = stays t.after (t.found ++ event_by a.who what ∷ []) home l some h
   home_only home (sessions.unfinished c what is asks takes says l) some h = stays t.after (t.found ++ event_by a.who what ∷ []) home l some h
   home_only home (sessions.marked is room says f l) some h =
+      subst (λ (o : Option (List Event)). OnlyBy a.who (home_or o t.before.log)) some (subst (λ (m : Memory). OnlyBy a.who (board_log m)) l h)
+  home_only home (sessions.renamed on is says f l) some h =
       subst (λ (o : Option (List Event)). OnlyBy a.who (home_or o t.before.log)) some (subst (λ (m : Memory). OnlyBy a.who (board_log m)) l h)
   home_only home (sessions.gone_private is none_open says f l) some h = absurd (some_none home (sym some ∙ none_open))
   home_only home (sessions.gone_back back is was_open says f l) some h =

@@ -2,9 +2,9 @@
 use Rattle.std.proofs.Common.{◌≡◌, ◌∙◌, ℕ, Bool, true, false, List, take, Option, Result, Ok, Err, sym, ap, subst}
 use Rattle.std.specs.Prelude.{if◌then◌else◌}
 use Rattle.std.specs.Io.KnownBytes.{Appends}
-use Rattle.hd_terms.specs.declared.commands.Command.{Command}
-use Rattle.hd_terms.specs.declared.commands.LineFault.{LineFault}
-use Rattle.hd_terms.specs.Lines.{command_of, is_quit, is_quit_command}
+use Rattle.hd_lines.specs.declared.commands.Command.{Command}
+use Rattle.hd_lines.specs.declared.commands.LineFault.{LineFault}
+use Rattle.hd_lines.specs.Lines.{command_of, is_quit, is_quit_command}
 use Rattle.hd_analyst.specs.Answering.{IsAnswered}
 use Rattle.hd_analyst.specs.Work.{Work}
 use Rattle.hd_protocol.specs.declared.serving.ServeFault.{ServeFault}

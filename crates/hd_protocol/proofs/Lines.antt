@@ -4,7 +4,7 @@ use Rattle.std.specs.Prelude.{◌==◌, nat_lt}
 use Rattle.std.specs.List.{onto_first}
 use Rattle.std.proofs.lemmas.Bool.{cases_lt, lt-ltb}
 use Rattle.std.proofs.lemmas.List.{take-append-le}
-use Rattle.hd_terms.specs.Lines.{pieces, all_but_last, without_empty_end, whole_lines, lines_of, run_lines, is_quit, command_of}
+use Rattle.hd_lines.specs.Lines.{pieces, all_but_last, without_empty_end, whole_lines, lines_of, run_lines, is_quit, command_of}
 use Rattle.hd_protocol.specs.Serving.{last_piece, open_line, kept_of, NoneQuits}
 
 -- a list with a first

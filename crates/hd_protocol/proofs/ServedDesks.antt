@@ -6,9 +6,9 @@ use Rattle.std.proofs.KnownBytes.{Keeps-refl}
 use Rattle.std.proofs.lemmas.List.Elements.{All-weaker, recursion_from_All}
 use Rattle.hd_terms.specs.declared.Event.{Event}
 use Rattle.hd_terms.specs.Dump.{Dump}
-use Rattle.hd_terms.specs.Memory.{Memory, beginning, board_log}
+use Rattle.hd_lines.specs.Memory.{Memory, beginning, board_log}
 use Rattle.hd_terms.specs.Schedule.{Board, Closes, numbers_from}
-use Rattle.hd_terms.specs.Sessions.{Analyst, lone_analyst, memory_after}
+use Rattle.hd_lines.specs.Sessions.{Analyst, lone_analyst, memory_after}
 use Rattle.hd_board.specs.Opening.{opened_board, opened_desk}
 use Rattle.hd_board.specs.Replicas.{Replica}
 use Rattle.hd_board.proofs.Numbers.{number_within}

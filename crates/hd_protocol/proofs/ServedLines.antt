@@ -4,11 +4,11 @@ use Rattle.std.specs.Prelude.{◌==◌, OnSome}
 use Rattle.std.specs.Io.KnownBytes.{Keeps, Appends, Consumes, IsAtEnd}
 use Rattle.std.proofs.KnownBytes.{Keeps-refl}
 use Rattle.std.proofs.lemmas.List.{take_more}
-use Rattle.hd_terms.specs.declared.commands.Command.{Command}
-use Rattle.hd_terms.specs.declared.commands.LineFault.{LineFault}
-use Rattle.hd_terms.specs.Lines.{whole_lines, lines_of, run_lines, is_quit, is_quit_command, command_of}
-use Rattle.hd_terms.specs.Memory.{Memory}
-use Rattle.hd_terms.specs.Sessions.{Analyst, Turn, replies}
+use Rattle.hd_lines.specs.declared.commands.Command.{Command}
+use Rattle.hd_lines.specs.declared.commands.LineFault.{LineFault}
+use Rattle.hd_lines.specs.Lines.{whole_lines, lines_of, run_lines, is_quit, is_quit_command, command_of}
+use Rattle.hd_lines.specs.Memory.{Memory}
+use Rattle.hd_lines.specs.Sessions.{Analyst, Turn, replies}
 use Rattle.hd_analyst.specs.Work.{Work}
 use Rattle.hd_protocol.specs.declared.serving.ServeFault.{ServeFault}
 use Rattle.hd_protocol.specs.declared.serving.ServeFault.TheVariants as faults

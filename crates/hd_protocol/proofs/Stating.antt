@@ -10,8 +10,8 @@ use Rattle.hd_terms.specs.declared.Strength.{Strength}
 use Rattle.hd_terms.specs.Dump.{Dump}
 use Rattle.hd_terms.specs.Counts.{counts_of}
 use Rattle.hd_terms.specs.Totals.{IsTotal}
-use Rattle.hd_terms.specs.Replies.{with_newline}
-use Rattle.hd_terms.specs.Stat.{IsStat, count_lines, total_line, total_lines}
+use Rattle.hd_lines.specs.Replies.{with_newline}
+use Rattle.hd_lines.specs.Stat.{IsStat, count_lines, total_line, total_lines}
 use Rattle.hd_totals.specs.declared.total.Total.{Total}
 use Rattle.hd_totals.specs.declared.total.StrengthTotals.{StrengthTotals}
 use Rattle.hd_totals.specs.Totals.{total_for}

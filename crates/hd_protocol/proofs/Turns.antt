@@ -3,9 +3,9 @@ use Rattle.std.proofs.Common.{◌≡◌, ◌∙◌, ℕ, List, [], ◌∷◌, �
 use Rattle.std.specs.List.{AllByRecursion}
 use Rattle.std.proofs.lemmas.List.{map-append}
 use Rattle.std.proofs.lemmas.List.Concat.{flat_map-append}
-use Rattle.hd_terms.specs.Lines.{command_of}
-use Rattle.hd_terms.specs.Memory.{Memory}
-use Rattle.hd_terms.specs.Sessions.{Analyst, Turn, IsLater, IsRefreshed, IsTurn, IsSession, IsSessionOver, memory_after, replies}
+use Rattle.hd_lines.specs.Lines.{command_of}
+use Rattle.hd_lines.specs.Memory.{Memory}
+use Rattle.hd_lines.specs.Sessions.{Analyst, Turn, IsLater, IsRefreshed, IsTurn, IsSession, IsSessionOver, memory_after, replies}
 use Rattle.hd_analyst.specs.Answering.{IsAnswered, turn_of}
 use Rattle.hd_protocol.specs.Serving.{IsAnsweredSoFar}
 use Rattle.hd_analyst.specs.Work.{Work}

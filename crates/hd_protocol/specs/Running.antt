@@ -5,10 +5,10 @@ use Rattle.std.specs.Io.KnownBytes.{Keeps, Appends}
 use Rattle.hd_terms.specs.declared.errors.Cause.TheVariants.{OutOfMemory}
 use Rattle.hd_terms.specs.declared.Mode.{Mode}
 use Rattle.hd_terms.specs.Dump.{Dump}
-use Rattle.hd_terms.specs.Memory.{Memory, beginning}
+use Rattle.hd_lines.specs.Memory.{Memory, beginning}
 use Rattle.hd_terms.specs.Objects.{IsDumpOf}
 use Rattle.hd_terms.specs.ReadFaults.{fault, IsReadFault}
-use Rattle.hd_terms.specs.Sessions.{IsServed, lone_analyst}
+use Rattle.hd_lines.specs.Sessions.{IsServed, lone_analyst}
 use Rattle.hd_protocol.specs.declared.run.RunFault.{RunFault}
 use Rattle.hd_protocol.specs.declared.run.RunFault.TheVariants as faults
 use Rattle.hd_protocol.specs.declared.serving.ServeFault.{ServeFault}

@@ -3,10 +3,10 @@
 use Rattle.std.specs.Prelude.{◌≡◌, ℕ, true, false, List, [], ◌∷◌, ◌++◌, take, Option, Some, Result, Ok, Err, IfSome}
 use Rattle.std.specs.List.{AllByRecursion}
 use Rattle.std.specs.Io.KnownBytes.{Keeps, Appends}
-use Rattle.hd_terms.specs.Lines.{command_of, pieces, whole_lines, is_quit}
-use Rattle.hd_terms.specs.Memory.{Memory, beginning, board_log}
+use Rattle.hd_lines.specs.Lines.{command_of, pieces, whole_lines, is_quit}
+use Rattle.hd_lines.specs.Memory.{Memory, beginning, board_log}
 use Rattle.hd_terms.specs.Schedule.{Board}
-use Rattle.hd_terms.specs.Sessions.{Analyst, Turn, IsSessionOver, memory_after, replies, IsServedBy, IsServedUntilReadBy, IsServedUntilWriteBy}
+use Rattle.hd_lines.specs.Sessions.{Analyst, Turn, IsSessionOver, memory_after, replies, IsServedBy, IsServedUntilReadBy, IsServedUntilWriteBy}
 use Rattle.hd_board.specs.Replicas.{Replica}
 use Rattle.hd_analyst.specs.Answering.{IsAnswered}
 use Rattle.hd_analyst.specs.Work.{Work, analyst_at}

@@ -5,9 +5,9 @@ use Rattle.std.specs.Io.KnownBytes.{Keeps, Appends}
 use Rattle.hd_terms.specs.declared.errors.Cause.TheVariants.{OutOfMemory}
 use Rattle.hd_terms.specs.declared.Mode.{Mode}
 use Rattle.hd_terms.specs.Dump.{Dump}
-use Rattle.hd_terms.specs.Objects.{IsDumpOf}
+use Rattle.hd_terms.specs.Objects.{IsNamelessDumpOf}
 use Rattle.hd_terms.specs.ReadFaults.{fault, IsReadFault}
-use Rattle.hd_terms.specs.Stat as stat
+use Rattle.hd_lines.specs.Stat as stat
 use Rattle.hd_totals.specs.declared.total.Total.{Total}
 use Rattle.hd_protocol.specs.declared.run.RunFault.{RunFault}
 use Rattle.hd_protocol.specs.declared.run.RunFault.TheVariants as faults
@@ -20,7 +20,7 @@ shown_total t = record { count = t.count; bytes = t.bytes }
 -- the text of `stat` over the dump of these bytes
 pub record IsStatOf (mode : Mode) (bytes text : List ℕ) : Type 0 where
   pub dump : Dump
-  pub is_dump : IsDumpOf mode bytes dump
+  pub is_dump : IsNamelessDumpOf mode bytes dump
   pub is_stat : stat.IsStat dump text
 
 -- how it ends: the whole text is written, or a beginning of it at a fault of the writer; or the dump has this fault, or

@@ -2,14 +2,14 @@
 ghost use Rattle.std.specs.Prelude.{◌≡◌, IfOk, IfErr};
 ghost use Rattle.std.specs.Arc.{arc_value};
 ghost use Rattle.hd_terms.specs.Workers.{IsWorkers};
-ghost use Rattle.hd_terms.specs.Objects.{IsDumpOf};
+ghost use Rattle.hd_terms.specs.Objects.{IsDumpOf, IsNamelessDumpOf};
 ghost use Rattle.hd_board.specs.Opening.{opened_board, opened_desk};
 ghost use Rattle.hd_protocol.specs.Running.{RunsDump, RunsOver, IsOpenFault};
 
 use crate::serving::{ServeFault, serve};
 use hd_board::{Board, Desk, open};
 use hd_decode::NoGate;
-use hd_graph::{Graph, open_dump};
+use hd_graph::{Graph, open_dump, open_named_dump};
 use hd_terms::{Mode, NoMemory, ReadFault};
 use std::alloc::{AllocFailed, Global};
 use std::io::{BufRead, Write};
@@ -90,6 +90,27 @@ pub fn open_bytes<T: AllocGlobal + RandomSource + Threads + Sync>(
 ) -> Result<Arc<Graph>, RunFault>
     requires workers { IsWorkers workers }
     ensures ok { IfOk result (λ graph. IsDumpOf mode bytes.now (arc_value graph)) }
+    ensures err { IfErr result (λ f. IsOpenFault bytes.now f) }
+{
+    let graph = open_named_dump(rt, rt.alloc(), bytes, workers, mode, &NoGate)?;
+    Ok(graph)
+}
+
+/// Opens the bytes of a dump without the names of its fields and statics, which `stat` doesn't show.
+///
+/// `workers` is the number of threads that decode, 1 to 16; `mode` says how far phantom references are followed.
+///
+/// # Errors
+///
+/// The dump's fault, or memory ran out.
+pub(crate) fn open_nameless<T: AllocGlobal + RandomSource + Threads + Sync>(
+    rt: &T,
+    bytes: &[u8],
+    workers: u32,
+    mode: Mode,
+) -> Result<Arc<Graph>, RunFault>
+    requires workers { IsWorkers workers }
+    ensures ok { IfOk result (λ graph. IsNamelessDumpOf mode bytes.now (arc_value graph)) }
     ensures err { IfErr result (λ f. IsOpenFault bytes.now f) }
 {
     let graph = open_dump(rt, rt.alloc(), bytes, workers, mode, &NoGate)?;

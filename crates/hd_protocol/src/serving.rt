@@ -1,12 +1,13 @@
 //! Lines are served: read, run in turn, and answered.
 ghost use Rattle.std.specs.Prelude.{◌≡◌, ℕ, ◌≤◌, [], ◌∷◌, ◌++◌, length, take, Ok, Err, IfOk, IfErr, OnOk, OnErr, OnSome, if◌then◌else◌};
 ghost use Rattle.std.specs.Io.KnownBytes.{Keeps, Appends, Consumes, IsAtEnd};
-ghost use Rattle.hd_terms.specs.Lines.{is_quit_command};
+ghost use Rattle.hd_lines.specs.Lines.{is_quit_command};
 ghost use Rattle.hd_protocol.specs.Serving.{kept_of, midway, RunsLine, RunsBytes, RunsEnd, RunsInput, Serves};
 
 use hd_analyst::{Analyst, FixedBuffer, LONGEST_REPLY, answer, first_marks};
 use hd_board::{Board, Desk};
-use hd_terms::{Command, LineFault, NoMemory};
+use hd_lines::{Command, LineFault};
+use hd_terms::NoMemory;
 use hd_words::{LONGEST_LINE, read_command};
 use std::alloc::{AllocError, Global};
 use std::io::{BufRead, Write};

@@ -5,13 +5,13 @@ ghost use Rattle.hd_terms.specs.Counts.{counts_of};
 ghost use Rattle.hd_terms.specs.Totals.{IsTotal};
 ghost use Rattle.hd_terms.specs.Workers.{IsWorkers};
 ghost use Rattle.hd_terms.specs.declared.Strength.{Strength as OneStrength};
-ghost use Rattle.hd_terms.specs.Replies.{with_newline, strength_name};
-ghost use Rattle.hd_terms.specs.Stat.{IsStat, count_lines, repeated_line, total_line, total_lines};
+ghost use Rattle.hd_lines.specs.Replies.{with_newline, strength_name};
+ghost use Rattle.hd_lines.specs.Stat.{IsStat, count_lines, repeated_line, total_line, total_lines};
 ghost use Rattle.hd_totals.specs.Totals.{total_for};
 ghost use Rattle.hd_protocol.specs.Running.{IsOpenFault};
 ghost use Rattle.hd_protocol.specs.Stating.{IsStatOf, StatsDump, shown_total};
 
-use crate::run::{RunFault, open_bytes};
+use crate::run::{RunFault, open_nameless};
 use crate::serving::{flush, put_all};
 use hd_graph::Graph;
 use hd_queries::opening_totals;
@@ -118,7 +118,7 @@ fn stat_of_bytes<T: AllocGlobal + RandomSource + Threads + Sync, B: AsSlice<u8> 
     ensures ok { IfOk result (λ text. IsStatOf mode (B.items bytes) (string_bytes text)) }
     ensures err { IfErr result (λ f. IsOpenFault (B.items bytes) f) }
 {
-    let graph = open_bytes(rt, bytes.as_slice(), workers, mode)?;
+    let graph = open_nameless(rt, bytes.as_slice(), workers, mode)?;
     drop(bytes);
     let text = stat_text(rt, rt.alloc(), &graph)?;
     Ok(text)

@@ -24,7 +24,7 @@ use Rattle.hd_repair.proofs.LossLemmas.{length-different}
 use Rattle.hd_strength.proofs.RowLemmas.{IsAt, edge_has_index, is_at}
 use Rattle.hd_queries.specs.declared.chain.Link.{Link}
 use Rattle.hd_queries.specs.declared.chain.Chain.{Chain}
-use Rattle.hd_queries.specs.ChainFound.{IsEdgeOf, IsFoundChain, link_of, root_of}
+use Rattle.hd_queries.specs.ChainFound.{IsEdgeOf, IsFoundChain, IsWithin, link_of, root_of}
 
 pass : (a b : Bool) → a ≡ true → b ≡ true → (a && b) ≡ true
 pass true true h k = refl
@@ -63,7 +63,7 @@ module _ (dump : Dump) (log : List Event) (e : Edge) (stands : Contains (standin
     pub found-there : found ≡ Some place
     found-there = only place at.entry there named
 
-    pub is-link : (i : ℕ) (s : SlotEntry) → found ≡ Some i → slice_get (object_at dump source).slots i ≡ Some s → record { slot = slot; kind = s.kind; target = target } ≡ link_of e
+    pub is-link : (i : ℕ) (s : SlotEntry) → found ≡ Some i → slice_get (object_at dump source).slots i ≡ Some s → record { source = source; slot = slot; kind = s.kind; target = target } ≡ link_of e
     is-link i s here read =
         let both : Some i ≡ Some place = sym here ∙ found-there in
         let same : i ≡ place = cc in
@@ -72,9 +72,11 @@ module _ (dump : Dump) (log : List Event) (e : Edge) (stands : Contains (standin
         let kind : s.kind ≡ e.kind = ap (λ (x : SlotEntry). x.kind) one ∙ sym (ap (λ (x : Edge). x.kind) at.is) in
         let slots : slot ≡ e.slot = sym is.from_slot in
         let targets : target ≡ e.target = sym is.to_target in
-        ap (λ (k : EdgeKind). let l : Link = record { slot = slot; kind = k; target = target } in l) kind
-        ∙ ap (λ (x : Slot). let l : Link = record { slot = x; kind = e.kind; target = target } in l) slots
-        ∙ ap (λ (t : ℕ). let l : Link = record { slot = e.slot; kind = e.kind; target = t } in l) targets
+        let sources : source ≡ e.source = sym is.from_source in
+        ap (λ (k : EdgeKind). let l : Link = record { source = source; slot = slot; kind = k; target = target } in l) kind
+        ∙ ap (λ (x : Slot). let l : Link = record { source = source; slot = x; kind = e.kind; target = target } in l) slots
+        ∙ ap (λ (t : ℕ). let l : Link = record { source = source; slot = e.slot; kind = e.kind; target = t } in l) targets
+        ∙ ap (λ (o : ℕ). let l : Link = record { source = o; slot = e.slot; kind = e.kind; target = e.target } in l) sources
 
 first-le : (a b : ℕ) → a ≤ a + b
 first-le a b = omega arith
@@ -153,9 +155,9 @@ pub record IsFollowed (dump : Dump) (log : List Event) (ks : List Reached) (o at
   pub within : at < length dump.objects
 
 -- the objects of links along standing edges are the dump's
-targets-within : (dump : Dump) (log : List Event) (a b : ℕ) (es : List Edge) → Lead (standing dump log) a es b → AllByRecursion (λ (l : Link). l.target < length dump.objects) (map link_of es)
-targets-within dump log a b [] lead = tt
-targets-within dump log a b (e ∷ es) lead = (target-within dump log e lead.0, targets-within dump log e.target b es lead.2)
+links-within : (dump : Dump) (log : List Event) (a b : ℕ) (es : List Edge) → Lead (standing dump log) a es b → AllByRecursion (IsWithin (length dump.objects)) (map link_of es)
+links-within dump log a b [] lead = tt
+links-within dump log a b (e ∷ es) lead = (record { from = source-within dump log e lead.0; to = target-within dump log e lead.0 }, links-within dump log e.target b es lead.2)
 
 -- and so are those objects
 objects-within : (dump : Dump) (log : List Event) (a b : ℕ) (es : List Edge) → Lead (standing dump log) a es b → AllByRecursion (λ (x : ℕ). x < length dump.objects) (map (λ (e : Edge). e.target) es)
@@ -304,7 +306,7 @@ module _ (dump : Dump) (log : List Event) (ks : List Reached) (o at : ℕ) (link
           few = omega (arith, few-links dump log h.root h.behind o (reached_at ks o).strength chain (subst (λ (n : ℕ). n < length dump.objects) (sym start) h.within), ap length links_is, length-map h.behind link_of);
           links = links_is;
           start = subst (λ (n : ℕ). n < length dump.objects) (sym start_is) h.within;
-          targets = subst (λ (ls : List Link). All (λ (l : Link). l.target < length dump.objects) ls) (sym links_is) (All-from_recursion (λ (l : Link). l.target < length dump.objects) (map link_of h.behind) (targets-within dump log h.root.target o h.behind chain.path.edges));
+          within = subst (λ (ls : List Link). All (IsWithin (length dump.objects)) ls) (sym links_is) (All-from_recursion (IsWithin (length dump.objects)) (map link_of h.behind) (links-within dump log h.root.target o h.behind chain.path.edges));
         }
 
 -- past the last object nothing is reachable

@@ -1,8 +1,12 @@
+pub mod BetweenLemmas
 pub mod ChainLemmas
 pub mod ClassLemmas
 pub mod FallenLemmas
+pub mod FreedLemmas
 pub mod IntoLemmas
+pub mod Joined
 pub mod ListedLemmas
+pub mod MovedLemmas
 pub mod RefusalLemmas
 pub mod RootLemmas
 pub mod RowLemmas

@@ -11,7 +11,7 @@ use Rattle.hd_terms.specs.declared.errors.Refusal.TheVariants as refusals
 use Rattle.hd_terms.specs.Dump.{SlotEntry, Object, Dump, object_at}
 use Rattle.hd_terms.specs.Edges.{index_of}
 use Rattle.hd_terms.specs.EditedDump.{same_slot}
-use Rattle.hd_terms.specs.Asking.{is_cuttable, is_empty_slot, empty_refusal, slot_refusal, named_slot, cut_refusal, referent_refusal, clear_refusal}
+use Rattle.hd_terms.specs.Refusals.{is_cuttable, is_empty_slot, empty_refusal, slot_refusal, named_slot, cut_refusal, referent_refusal, clear_refusal}
 
 -- what is found stands at the position
 module _ {X : Type 0} (p : X → Bool) (xs : List X) where

@@ -20,9 +20,14 @@ pub record IsEdgeOf (e : Edge) (source : ℕ) (slot : Slot) (target : ℕ) : Typ
   pub from_slot : e.slot ≡ slot
   pub to_target : e.target ≡ target
 
--- an edge of a chain, whose source is the object before
+-- an edge of a chain
 abbrev pub link_of : Edge → Link
-link_of e = record { slot = e.slot; kind = e.kind; target = e.target }
+link_of e = record { source = e.source; slot = e.slot; kind = e.kind; target = e.target }
+
+-- the source and the target of a link are among so many objects
+pub record IsWithin (objects : ℕ) (link : Link) : Type 0 where
+  pub from : link.source < objects
+  pub to : link.target < objects
 
 -- the root that a chain begins with, and the object that it holds
 abbrev pub root_of : Chain → RootEntry
@@ -38,7 +43,7 @@ pub record IsFoundChain (dump : Dump) (log : List Event) (ks : List Reached) (o 
   pub stored : IsStoredChain (standing dump log) ks (root_of chain) edges o
   pub links : chain.links.items ≡ map link_of edges
   pub start : chain.start < length dump.objects
-  pub targets : All (λ (link : Link). link.target < length dump.objects) chain.links.items
+  pub within : All (IsWithin (length dump.objects)) chain.links.items
   pub few : length chain.links.items < length dump.objects
 
 -- the chain of an object under a log, by what is kept of the objects, none where the object is unreachable

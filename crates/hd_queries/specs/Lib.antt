@@ -1,6 +1,10 @@
 pub mod Shown
 pub mod Totals
 pub mod Listed
+pub mod Compared
+pub mod Between
+pub mod Moved
+pub mod Freed
 pub mod ChainFound
 pub mod RootsShown
 pub mod IntoShown

@@ -16,6 +16,8 @@ use std::alloc::Global;
 /// A reference of a chain.
 #[derive(Clone, Copy)]
 pub struct Link {
+    /// The number of the object that it is from.
+    pub source: u32,
     /// The slot that it is in.
     pub slot: Slot,
     /// The kind of the reference.
@@ -44,7 +46,12 @@ fn link_from(graph: &Graph, source: u32, slot: Slot, target: u32) -> Link
         Some(i) => graph.slots(source, i).kind,
         None => EdgeKind::Strong,
     };
-    Link { slot, kind, target }
+    Link {
+        source,
+        slot,
+        kind,
+        target,
+    }
 }
 
 /// The chain of a reachable object: its support, the support of that one's source, and so on back to the root.

@@ -6,6 +6,9 @@
 //! - `listing.rt`: the IDs of the objects of a group and strength (`members`), and of those that became unreachable
 //!   since a mark (`fell`). It goes over the objects, for `fell` only over the pages of 1,024 that changed since the
 //!   mark where the log begins with the mark's.
+//! - `compared.rt`: two logs over one graph, and the pages that didn't change between them.
+//! - `moved.rt`: how many objects have one strength at a mark and another one now, for each pair of strengths.
+//! - `freed.rt`: how much became unreachable since a mark, and of which groups.
 //! - `refusing.rt`: why the dump refuses an edit. Whether a root can be dropped is for the log to say.
 //! - `totals.rt`: the totals of `stat`. It computes the strengths alone, and counts the objects in up to sixteen shares
 //!   side by side.
@@ -13,8 +16,11 @@
 #![tactic(auto)]
 
 mod chain;
+mod compared;
+mod freed;
 mod into;
 mod listing;
+mod moved;
 mod refusing;
 mod roots;
 mod rows;
@@ -22,8 +28,10 @@ mod solved;
 mod totals;
 
 pub use chain::{Chain, Link, chain_of};
+pub use freed::{Freed, freed_rows};
 pub use into::into_rows;
 pub use listing::{fallen_ids, member_ids};
+pub use moved::moved_rows;
 pub use refusing::edit_refusal;
 pub use roots::root_rows;
 pub use rows::rows_of;

@@ -3,13 +3,13 @@ ghost use Rattle.std.specs.Prelude.{◌≡◌, ◌<◌, ◌≤◌, ◌↔◌, le
 ghost use Rattle.hd_terms.specs.Listed.{AreFallen, AreMembers};
 ghost use Rattle.hd_terms.specs.Kept.{AreKept};
 ghost use Rattle.std.specs.List.Sorted.{IsStrictlyIncreasing};
-ghost use Rattle.hd_queries.specs.Listed.{is_listed, AreAllKept, AreCommon, AreIdsBefore, IsNoneOnQuiet, IsQuiet};
+ghost use Rattle.hd_queries.specs.Listed.{is_listed, AreAllKept, AreIdsBefore, IsNoneOnQuiet, IsQuiet};
 ghost use Rattle.hd_totals.specs.LastChanges.{AreLastChanges};
 ghost use Rattle.hd_totals.specs.Members.{is_member};
 
+use crate::compared::{Compared, compare};
 use crate::solved::Solved;
 use hd_graph::Graph;
-use hd_log::Front;
 use hd_supports::Supports;
 use hd_terms::{Group, NoMemory, Strength, one_strength, settled_supports_give_strengths};
 use hd_totals::{PAGE_OBJECTS, falls};
@@ -18,12 +18,8 @@ use std::alloc::Global;
 /// The objects that a list is of.
 #[derive(Clone, Copy)]
 pub(crate) enum Listed<'a> {
-    /// Those that become unreachable from one log to another. Both logs begin with so many common events.
-    Fallen {
-        earlier: Solved<'a>,
-        later: Solved<'a>,
-        common: u32,
-    },
+    /// Those that become unreachable from one log to another.
+    Fallen(Compared<'a>),
     /// Those of a group that have a strength.
     Members(&'a Supports, Group, Strength),
 }
@@ -51,9 +47,7 @@ impl Listed<'_> {
         ensures { result ≡ is_listed graph.now self.entry o }
     {
         match self {
-            Listed::Fallen { earlier, later, .. } => {
-                falls(earlier.strengths.strength(o), later.strengths.strength(o))
-            }
+            Listed::Fallen(compared) => falls(compared.before(o), compared.after(o)),
             Listed::Members(strengths, group, strength) => {
                 is_member(graph, strengths, group, strength, o)
             }
@@ -65,14 +59,7 @@ impl Listed<'_> {
         ensures { IsTrue result ↔ IsQuiet self.entry page }
     {
         match self {
-            Listed::Fallen {
-                earlier,
-                later,
-                common,
-            } => {
-                earlier.last_changes.is_unchanged(page, common)
-                    && later.last_changes.is_unchanged(page, common)
-            }
+            Listed::Fallen(compared) => compared.is_quiet(page),
             Listed::Members(..) => false,
         }
     }
@@ -144,25 +131,9 @@ pub fn fallen_ids(
 {
     settled_supports_give_strengths();
     one_strength();
-    let common = common_events(earlier.front, later.front);
-    let fallen = Listed::Fallen {
-        earlier,
-        later,
-        common,
-    };
+    let fallen = Listed::Fallen(compare(earlier, later));
     let ids = ids_of(alloc, later.graph, fallen)?;
     Ok(ids)
-}
-
-/// How many events both logs begin with: all of the earlier, where the later begins with it, and else 0.
-fn common_events(earlier: &Front, later: &Front) -> u32
-    ensures { AreCommon earlier.now later.now result }
-{
-    if later.begins_with(earlier) {
-        earlier.len()
-    } else {
-        0
-    }
 }
 
 /// The IDs of the objects of a group that have a strength, ascending. All objects are gone through.

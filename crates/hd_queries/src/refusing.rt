@@ -2,7 +2,7 @@
 ghost use Rattle.std.specs.Prelude.{◌≡◌, ◌<◌, length, slice_get, Some};
 ghost use Rattle.hd_terms.specs.Dump.{SlotEntry, object_at};
 ghost use Rattle.hd_terms.specs.Edges.{index_of};
-ghost use Rattle.hd_terms.specs.Asking.{add_refusal, clear_refusal, cut_refusal, edit_refusal, empty_refusal, is_cuttable};
+ghost use Rattle.hd_terms.specs.Refusals.{add_refusal, clear_refusal, cut_refusal, edit_refusal, empty_refusal, is_cuttable};
 
 use hd_graph::Graph;
 use hd_terms::{Edit, Refusal, Slot};

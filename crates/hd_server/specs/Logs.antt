@@ -4,7 +4,7 @@ use Rattle.std.specs.Prelude.{ℕ, List, Option}
 use Rattle.std.specs.List.{flat_map}
 use Rattle.std.specs.Io.KnownBytes.{Appends}
 use Rattle.hd_terms.specs.declared.Event.{Event}
-use Rattle.hd_terms.specs.Replies.{log_lines, with_newline}
+use Rattle.hd_lines.specs.Replies.{log_lines, with_newline}
 use Rattle.hd_terms.specs.Schedule.{Board, Closes}
 
 -- the lines of some log with which a board of these numbers may close are printed, each with its newline. Nothing ties this log

@@ -30,7 +30,7 @@
 //! sees them, for measurements and tests.
 //!
 //! A `Mark` (`mark.rt`) is a log, the strengths under it and the graph, owned together with the state that it is of.
-//! `fell` compares a state with it.
+//! `fell`, `freed` and `moved` compare a state with it.
 //!
 //! `parts.rt` has `LogParts` and `KeptParts`, the steps of `open` and `step` as functions of their own. One function
 //! with all of them would be slow to prove.

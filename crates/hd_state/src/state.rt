@@ -15,8 +15,9 @@ ghost use Rattle.hd_strength.specs.Removed.{IsRemovedBy};
 ghost use Rattle.hd_view.specs.Added.{IsAddedBy};
 ghost use Rattle.hd_state.specs.Done.{IsDone};
 ghost use Rattle.hd_terms.specs.declared.Strength.{Strength};
-ghost use Rattle.hd_terms.specs.Totals.{IsGroupTotal};
-ghost use Rattle.hd_terms.specs.Listed.{AreClassRows, AreFallen, AreMembers};
+ghost use Rattle.hd_terms.specs.Totals.{IsGroupTotal, IsTotalOf};
+ghost use Rattle.hd_terms.specs.Fell.{Falls};
+ghost use Rattle.hd_terms.specs.Listed.{AreClassRows, AreFallen, AreMembers, AreMovedRows, AreTopRows};
 ghost use Rattle.hd_terms.specs.Kept.{AreKept};
 ghost use Rattle.hd_state.specs.Next.{IsNextLog};
 ghost use Rattle.hd_queries.specs.ChainFound.{IsChainFound};
@@ -28,15 +29,18 @@ use crate::parts::{KeptParts, LogParts, kept_and_reverse, next_removed};
 use crate::repairing::{Repair, repaired};
 use hd_graph::Graph;
 use hd_log::Front;
-use hd_queries::{Chain, Solved, chain_of, fallen_ids, into_rows, member_ids, root_rows, rows_of};
+use hd_queries::{
+    Chain, Freed, Solved, chain_of, fallen_ids, freed_rows, into_rows, member_ids, moved_rows,
+    root_rows, rows_of,
+};
 use hd_reverse::ReverseRows;
 use hd_strength::Removed;
 use hd_supports::Supports;
 use hd_terms::{
-    ClassRow, Event, Group, IntoRow, NoMemory, RootRow, SlotRow, Strength, one_strength,
+    ClassRow, Event, Group, IntoRow, MovedRow, NoMemory, RootRow, SlotRow, Strength, one_strength,
     settled_supports_give_strengths,
 };
-use hd_totals::{GroupTotals, LastChanges, count_back, count_fallen};
+use hd_totals::{GroupTotals, LastChanges, count_back, count_fallen, ranked};
 use hd_view::{AddedRoots, Edited, View, edge_stands, root_stands};
 use std::alloc::Global;
 use std::marker::Model;
@@ -158,7 +162,7 @@ impl State {
         ensures outside { IfOk result (λ r. (o : ℕ) → (InEventRegion self.now.dump self.now.log front self.now.kept r.0.kept o → ⊥) → reached_at r.0.kept o ≡ reached_at self.now.kept o) }
     {
         let next = self.next_parts(alloc, front)?;
-        let (moved, done) = self.moved(alloc, &next)?;
+        let (moved, done) = self.moved_parts(alloc, &next)?;
         let state = State {
             graph: Arc::try_clone(&self.graph)?,
             reverse: Arc::try_clone(&self.reverse)?,
@@ -190,7 +194,7 @@ impl State {
     }
 
     /// What is kept of the objects, repaired for the log with one more event, and what the event did.
-    fn moved(&self, alloc: Global, next: &LogParts) -> Result<(KeptParts, Done), NoMemory>
+    fn moved_parts(&self, alloc: Global, next: &LogParts) -> Result<(KeptParts, Done), NoMemory>
         requires next { IsNextLog self.now.log next.now.front }
         requires removed { IsRemovedBy self.now.dump next.now.front (arc_value next.now.removed) }
         requires added { IsAddedBy self.now.dump next.now.front (arc_value next.now.added) }
@@ -380,6 +384,35 @@ impl State {
         fallen_ids(alloc, mark.solved(), self.solved())
     }
 
+    /// The pairs of strengths that have objects which had the first at a mark and have the second now, in their order, with how many
+    /// these are and their recorded bytes. There are at most 30. Where the log begins with that of the mark, only the pages of 1,024
+    /// objects are gone through that have changed since.
+    ///
+    /// # Errors
+    ///
+    /// Memory ran out.
+    pub fn moved(&self, alloc: Global, mark: &Mark) -> Result<Vec<MovedRow>, NoMemory>
+        requires { mark.now.dump ≡ self.now.dump }
+        ensures { IfOk result (λ v. AreMovedRows self.now.dump mark.now.log self.now.log v.items) }
+    {
+        moved_rows(alloc, mark.solved(), self.solved())
+    }
+
+    /// How many objects are unreachable and were not at a mark, and their recorded bytes; and the groups of these, with the same of
+    /// each, those with the most bytes first. Where the log begins with that of the mark, only the pages of 1,024 objects are gone
+    /// through that have changed since.
+    ///
+    /// # Errors
+    ///
+    /// Memory ran out.
+    pub fn freed(&self, alloc: Global, mark: &Mark) -> Result<Freed, NoMemory>
+        requires { mark.now.dump ≡ self.now.dump }
+        ensures total { IfOk result (λ f. IsTotalOf self.now.dump (Falls self.now.dump mark.now.log self.now.log) f.total.count f.total.bytes) }
+        ensures rows { IfOk result (λ f. AreTopRows self.now.dump (Falls self.now.dump mark.now.log self.now.log) f.rows.items) }
+    {
+        freed_rows(alloc, mark.solved(), self.solved())
+    }
+
     /// The IDs of the objects of a group that have a strength, ascending. All objects are gone through.
     ///
     /// # Errors
@@ -419,6 +452,18 @@ impl State {
         one_strength();
         let rows = self.totals.classes(alloc, strength)?;
         Ok(rows)
+    }
+
+    /// The same rows as `classes` has, those with the most bytes first.
+    ///
+    /// # Errors
+    ///
+    /// Memory ran out.
+    pub fn top(&self, alloc: Global, strength: Strength) -> Result<Vec<ClassRow>, NoMemory>
+        ensures { IfOk result (λ v. AreTopRows self.now.dump (λ (o : ℕ). HasStrength (standing self.now.dump self.now.log) o strength) v.items) }
+    {
+        let rows = self.classes(alloc, strength)?;
+        Ok(ranked(rows))
     }
 
     /// The chain of an object: a root path of the object's strength in which no object occurs twice, by the supports that are

@@ -1,21 +1,20 @@
 //! Replies to queries, as texts.
-ghost use Rattle.std.specs.Prelude.{◌≡◌, true};
-ghost use Rattle.hd_analyst.specs.Replying.{is_query};
-
 use crate::serving::board_of;
-use hd_analyst::reply_text;
+use hd_analyst::{Showing, reply_text};
 use hd_board::Desk;
-use hd_terms::Command;
+use hd_lines::Query;
 use std::alloc::Global;
 use std::process::Abort;
 
 /// The reply to a query at a desk, with one mark, of the desk's state.
-fn text_at<R: Abort>(rt: &R, alloc: Global, desk: &Desk, query: Command) -> Vec<u8>
-    requires { is_query query ≡ true }
-{
+fn text_at<R: Abort>(rt: &R, alloc: Global, desk: &Desk, query: Query) -> Vec<u8> {
     let state = desk.state();
     let marks = [state.mark().expect(rt, "the state is marked")];
-    reply_text(alloc, state, &marks, &query).expect(rt, "the query is answered")
+    let showing = Showing {
+        names: false,
+        most: None,
+    };
+    reply_text(alloc, state, &marks, query, showing).expect(rt, "the query is answered")
 }
 
 /// Whether the text that was answered is this one.
@@ -28,12 +27,12 @@ fn texts_of_queries(rt: HostRuntime) {
     let (_board, mut desks) = board_of(&rt, 1);
     let desk = desks.pop().expect(&rt, "there is a desk");
     let alloc = rt.alloc();
-    let strength = text_at(&rt, alloc, &desk, Command::Strength(2));
+    let strength = text_at(&rt, alloc, &desk, Query::Strength(2));
     assert!(rt; is_text(strength, "ok 1\nSTRONG\n"));
-    let into = text_at(&rt, alloc, &desk, Command::Into(2));
+    let into = text_at(&rt, alloc, &desk, Query::Into(2));
     assert!(rt; is_text(into, "ok 1\n0x1 e0 strong stands\n"));
-    let fell = text_at(&rt, alloc, &desk, Command::Fell(0));
+    let fell = text_at(&rt, alloc, &desk, Query::Fell(0));
     assert!(rt; is_text(fell, "ok 0\n"));
-    let none = text_at(&rt, alloc, &desk, Command::Fell(1));
+    let none = text_at(&rt, alloc, &desk, Query::Fell(1));
     assert!(rt; is_text(none, "no NoSuchMark\n"));
 }

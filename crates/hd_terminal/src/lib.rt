@@ -1,14 +1,16 @@
-//! What a person at a terminal is shown on standard error: a status line while a file is opened, and a prompt.
+//! What a person at a terminal is shown on standard error: a status line while a file is opened, a prompt, and hints.
 //!
 //! `StatusLine` writes one line over itself: how much of a file is read (at most ten times a second), then what is
 //! being done, then how many objects and references there are. `Prompting` is a reader that writes a prompt before it
-//! asks for more. Neither writes anything without a terminal, and a failed write is ignored: nothing depends on it. The
-//! crate stands on no other.
+//! asks for more. Before the prompt it says, of each line since the last one that was no command, what would be right
+//! instead (`hint_to` of `hd_words`). Neither writes anything without a terminal, and a failed write is ignored: nothing
+//! depends on it.
 #![tactic(auto)]
 
 ghost use Rattle.std.specs.Prelude.{Some, length};
 ghost use Rattle.std.specs.Io.Buffered.{reader_buffer, reader_remaining};
 
+use hd_words::{LONGEST_LINE, hint_to};
 use std::alloc::Global;
 use std::io::{self, BufRead, BufReader, Read, Write};
 use std::time::Clock;
@@ -21,6 +23,9 @@ const MEGABYTE: u64 = 1_000_000;
 
 /// What takes the line back, before it is written anew: the cursor goes to its start, and the rest is wiped.
 const BACK: &str = "\r\x1b[K";
+
+/// What is said once a dump is open.
+const FIRST_HINT: &str = "names on: replies show the names of classes and fields";
 
 /// The milliseconds of a clock, or 0 where it can't be read.
 fn millis<T: Clock>(clock: &T) -> u64 {
@@ -96,7 +101,8 @@ impl StatusLine {
         self.is_shown = true;
     }
 
-    /// The work is done: says how many objects and references there are, and how many seconds it took. The line stays.
+    /// The work is done: says how many objects and references there are, and how many seconds it took. The line stays, and a hint
+    /// follows.
     pub fn end<T: Clock, E: Write>(&mut self, clock: &T, faults: &mut E, objects: u64, edges: u64) {
         if !self.is_terminal {
             return;
@@ -104,7 +110,7 @@ impl StatusLine {
         let seconds = self.seconds(clock);
         let _ = writeln!(
             faults,
-            "{BACK}{objects} objects, {edges} references, {seconds} s"
+            "{BACK}{objects} objects, {edges} references, {seconds} s\n{FIRST_HINT}"
         );
         let _ = faults.flush();
         self.is_shown = false;
@@ -120,13 +126,17 @@ impl StatusLine {
     }
 }
 
-/// A reader that shows a prompt before it asks for more, where a person is there to type. Whether that could be written isn't
-/// looked at.
+/// A reader that shows a prompt before it asks for more, where a person is there to type, and hints to lines that are no commands.
+/// Whether these could be written isn't looked at.
 #[derive(Drop)]
 pub struct Prompting<R: Read + Drop, E: Write + Drop> {
     input: BufReader<R>,
     prompts: E,
     is_terminal: bool,
+    /// What was read of the line that isn't at its end, at most one byte more than a line may have.
+    line: Vec<u8>,
+    /// The hints to lines that were read since the last prompt.
+    hints: Vec<&'static str>,
 }
 
 impl<R: Read + Drop, E: Write + Drop> Prompting<R, E> {
@@ -146,7 +156,38 @@ impl<R: Read + Drop, E: Write + Drop> Prompting<R, E> {
             input,
             prompts,
             is_terminal,
+            line: Vec::new(alloc),
+            hints: Vec::new(alloc),
         })
+    }
+}
+
+/// Writes the hints, and a prompt. No hint is left.
+fn write_prompt<E: Write>(prompts: &mut E, hints: &mut Vec<&'static str>) {
+    for hint in hints.as_slice() {
+        let _ = writeln!(prompts, "{hint}");
+    }
+    hints.clear();
+    let _ = write!(prompts, "hdesk> ");
+    let _ = prompts.flush();
+}
+
+/// Notes the bytes that were read, and a hint for each line that ends among them and is no command.
+fn note_lines(line: &mut Vec<u8>, hints: &mut Vec<&'static str>, bytes: &[u8]) {
+    for byte in bytes {
+        note_byte(line, hints, *byte);
+    }
+}
+
+/// Notes a byte that was read. Where memory runs out, a hint is wrong or missing.
+fn note_byte(line: &mut Vec<u8>, hints: &mut Vec<&'static str>, byte: u8) {
+    if byte == b'\n' {
+        if let Some(hint) = hint_to(line.as_slice()) {
+            let _ = hints.push(hint);
+        }
+        line.clear();
+    } else if line.len() <= LONGEST_LINE {
+        let _ = line.push(byte);
     }
 }
 
@@ -163,13 +204,17 @@ impl<R: Read + Drop, E: Write + Drop> BufRead for Prompting<R, E> {
 
     fn fill_buf(&mut self) -> io::Result<&[u8]> {
         if self.is_terminal && self.input.buffer().is_empty() {
-            let _ = write!(self.prompts, "hdesk> ");
-            let _ = self.prompts.flush();
+            write_prompt(&mut self.prompts, &mut self.hints);
         }
         self.input.fill_buf()
     }
 
     fn consume(&mut self, amount: usize) {
+        if self.is_terminal
+            && let Some(bytes) = self.input.buffer().get(..amount)
+        {
+            note_lines(&mut self.line, &mut self.hints, bytes);
+        }
         self.input.consume(amount);
     }
 }

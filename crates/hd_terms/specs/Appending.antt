@@ -1,15 +1,24 @@
--- Why a log doesn't take what an analyst appends to it.
+-- What an analyst appends to a log, and why the log doesn't take it.
 -- Source: this project. The order is: what an undo names, what a drop names, and last that the log is full.
-use Rattle.std.specs.Prelude.{ℕ, if◌then◌else◌, List, Option, Some, None}
+use Rattle.std.specs.Prelude.{ℕ, if◌then◌else◌, List, [], ◌∷◌, ◌++◌, Option, Some, None}
 use Rattle.std.specs.Option.{option_map, option_and_then, option_or}
 use Rattle.hd_terms.specs.declared.Edit.{Edit}
 use Rattle.hd_terms.specs.declared.Edit.TheVariants as edits
 use Rattle.hd_terms.specs.declared.Event.{Event}
+use Rattle.hd_terms.specs.declared.What.{What}
 use Rattle.hd_terms.specs.declared.errors.LogFault.{LogFault}
 use Rattle.hd_terms.specs.declared.errors.Refusal.{Refusal}
 use Rattle.hd_terms.specs.declared.errors.Refusal.TheVariants as refusals
 use Rattle.hd_terms.specs.Log.{edit_of, log_fault}
 use Rattle.hd_terms.specs.EditedDump.{is_root}
+
+-- the event of an analyst that does something
+abbrev pub event_by : ℕ → What → Event
+event_by who what = record { who = who; what = what }
+
+-- the log has an event more
+abbrev pub with_event : List Event → Event → List Event
+with_event log event = log ++ event ∷ []
 
 -- why an edit can't be done to the roots of a dump that has so many and those that a log adds: there is no root to drop
 abbrev pub root_refusal : (roots : ℕ) → List Event → Edit → Option Refusal

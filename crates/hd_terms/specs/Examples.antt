@@ -22,7 +22,7 @@ use Rattle.hd_terms.specs.declared.Mode.TheVariants as modes
 use Rattle.hd_terms.specs.declared.SlotRow.{SlotRow}
 use Rattle.hd_terms.specs.declared.IntoRow.{IntoRow}
 use Rattle.hd_terms.specs.Paths.{Edge, RootEntry}
-use Rattle.hd_terms.specs.Dump.{SlotEntry, Object, Root, Repeated, Dump}
+use Rattle.hd_terms.specs.Dump.{NamedField, NamedClass, SlotEntry, Object, Root, Repeated, Dump}
 use Rattle.hd_terms.specs.EditedDump.{RootOn}
 
 -- files
@@ -178,6 +178,12 @@ class_object_and_primitive_array_file =
     ++ 0x22 ∷ four 3 ++ four 0 ++ four 0 ++ four 0
     ++ 0x22 ∷ four 5 ++ four 0 ++ four 0 ++ four 0
     ++ 0x23 ∷ four 6 ++ four 0 ++ four 2 ++ 0x0a ∷ four 1 ++ four 2
+
+-- the same, with the name of the class and those of its statics
+abbrev pub named_statics_file : List ℕ
+named_statics_file =
+    head_of 4 ++ text_record 0x201 (codes "size") ++ text_record 0x202 (codes "cache") ++ text_record 0x301 (codes "Store") ++ load_record 0x11 0x301
+    ++ drop 31 class_object_and_primitive_array_file
 
 -- that root, and behind it a class whose second static has two of the four bytes of its value
 abbrev pub short_class_file : List ℕ
@@ -375,13 +381,28 @@ refs = class_object 0x11 0 ∷ class_object 0x12 0x11 ∷ class_object 0x13 0x11
 abbrev pub none_repeated : Repeated
 none_repeated = record { objects = 0; strings = 0; loads = 0 }
 
+-- a field of a layout by the class that declares it and its name
+abbrev pub field_named : ℕ → Option (List ℕ) → NamedField
+field_named owner name = record { owner = owner; name = name }
+
+-- a class object without statics, by the fields of its layout
+abbrev pub class_with : ℕ → List NamedField → NamedClass
+class_with id fields = record { class = id; fields = fields; statics = [] }
+
+-- the field of the class Reference, and the classes whose layout is that field alone
+abbrev pub referent_field : NamedField
+referent_field = field_named 0x11 (Some (codes "referent"))
+
+abbrev pub reference_layouts : List NamedClass
+reference_layouts = class_with 0x11 (referent_field ∷ []) ∷ class_with 0x13 (referent_field ∷ []) ∷ []
+
 -- the names of the classes Reference and WeakReference
 abbrev pub reference_class_names : List (ℕ × List ℕ)
 reference_class_names = (0x11, codes "java/lang/ref/Reference") ∷ (0x13, codes "java/lang/ref/WeakReference") ∷ []
 
 -- nothing
 abbrev pub empty_dump : Dump
-empty_dump = record { mode = modes.Direct; objects = []; roots = []; repeated = none_repeated; opaque = 0; names = [] }
+empty_dump = record { mode = modes.Direct; objects = []; roots = []; repeated = none_repeated; opaque = 0; names = []; classes = [] }
 
 -- the same in mode Closure
 abbrev pub empty_closure : Dump
@@ -389,7 +410,7 @@ empty_closure = record empty_dump { mode = modes.Closure }
 
 -- nothing, but a text and a load are repeated
 abbrev pub repeated_strings_and_loads : Dump
-repeated_strings_and_loads = record { mode = modes.Direct; objects = []; roots = []; repeated = record { objects = 0; strings = 1; loads = 1 }; opaque = 0; names = (0x11, 0x41 ∷ []) ∷ [] }
+repeated_strings_and_loads = record { mode = modes.Direct; objects = []; roots = []; repeated = record { objects = 0; strings = 1; loads = 1 }; opaque = 0; names = (0x11, 0x41 ∷ []) ∷ []; classes = [] }
 
 -- nothing but names: that of a class is the first text of the ID under which it is loaded first
 abbrev pub first_names : Dump
@@ -400,6 +421,7 @@ first_names = record {
   repeated = record { objects = 0; strings = 1; loads = 1 };
   opaque = 0;
   names = (0x11, 0x41 ∷ []) ∷ [];
+  classes = [];
 }
 
 -- a root of each kind, on IDs that are no object's
@@ -421,6 +443,7 @@ root_kinds = record {
   repeated = none_repeated;
   opaque = 0;
   names = [];
+  classes = [];
 }
 
 -- an array of two ints
@@ -432,6 +455,7 @@ primitive_array = record {
   repeated = none_repeated;
   opaque = 0;
   names = [];
+  classes = [];
 }
 
 -- a class with its slots, the arrays 2, 3 and 5, and an array of two ints
@@ -457,6 +481,14 @@ class_object_and_primitive_array = record {
   repeated = none_repeated;
   opaque = 0;
   names = [];
+  classes = (record { class = 0x11; fields = []; statics = None ∷ None ∷ [] }) ∷ [];
+}
+
+-- the same, with the name of the class and those of its statics
+abbrev pub named_statics : Dump
+named_statics = record class_object_and_primitive_array {
+  names = (0x11, codes "Store") ∷ [];
+  classes = (record { class = 0x11; fields = []; statics = Some (codes "size") ∷ Some (codes "cache") ∷ [] }) ∷ [];
 }
 
 -- root 1  [1: 2 0 9]  [2:]
@@ -477,15 +509,16 @@ two_arrays = record {
   repeated = none_repeated;
   opaque = 0;
   names = [];
+  classes = [];
 }
 
 -- [1: 2]  [2:]
 abbrev pub repeated_id : Dump
-repeated_id = record { mode = modes.Direct; objects = array 1 (2 ∷ []) ∷ array 2 [] ∷ []; roots = []; repeated = record { objects = 1; strings = 0; loads = 0 }; opaque = 0; names = [] }
+repeated_id = record { mode = modes.Direct; objects = array 1 (2 ∷ []) ∷ array 2 [] ∷ []; roots = []; repeated = record { objects = 1; strings = 0; loads = 0 }; opaque = 0; names = []; classes = [] }
 
 -- <1: 2>  <2: 9>
 abbrev pub absent_super : Dump
-absent_super = record { mode = modes.Direct; objects = class_object 1 2 ∷ class_object 2 9 ∷ []; roots = []; repeated = none_repeated; opaque = 0; names = [] }
+absent_super = record { mode = modes.Direct; objects = class_object 1 2 ∷ class_object 2 9 ∷ []; roots = []; repeated = none_repeated; opaque = 0; names = []; classes = class_with 1 [] ∷ class_with 2 [] ∷ [] }
 
 -- <11: 0>  (2 of 11: 5)
 abbrev pub repeated_size_mismatch : Dump
@@ -496,6 +529,7 @@ repeated_size_mismatch = record {
   repeated = record { objects = 1; strings = 0; loads = 0 };
   opaque = 0;
   names = [];
+  classes = class_with 0x11 (field_named 0x11 None ∷ []) ∷ [];
 }
 
 -- root 20  (20 of 12: 5 6)  <11: 0>  <12: 11>  [5:]  [6:]
@@ -508,6 +542,7 @@ wide_instance = record {
   repeated = none_repeated;
   opaque = 0;
   names = [];
+  classes = class_with 0x11 (field_named 0x11 None ∷ []) ∷ class_with 0x12 (field_named 0x12 None ∷ field_named 0x12 None ∷ field_named 0x11 None ∷ []) ∷ [];
 }
 
 -- root 1  [1 of 99: 2 3]  <11: 0>  (2 of 11:)  (3 of 98:)
@@ -530,6 +565,7 @@ opaque_and_repeated = record {
   repeated = record { objects = 1; strings = 0; loads = 0 };
   opaque = 1;
   names = [];
+  classes = class_with 0x11 [] ∷ [];
 }
 
 -- <11: 0>  <13: 11>  (21 of 13: weak 5)  [5:]
@@ -541,6 +577,7 @@ weak_reference = record {
   repeated = none_repeated;
   opaque = 0;
   names = reference_class_names;
+  classes = reference_layouts;
 }
 
 -- the same, with dots in the names
@@ -556,6 +593,7 @@ other_name_first = record {
   repeated = record { objects = 0; strings = 0; loads = 1 };
   opaque = 0;
   names = (0x13, codes "referent") ∷ (0x11, codes "java/lang/ref/Reference") ∷ [];
+  classes = reference_layouts;
 }
 
 -- <11: 0>  <13: 11>  <14: 13>  (22 of 14: 6 weak 5)  [5:]  [6:]
@@ -580,6 +618,7 @@ two_referents = record {
   repeated = none_repeated;
   opaque = 0;
   names = reference_class_names;
+  classes = reference_layouts ++ class_with 0x14 (field_named 0x14 (Some (codes "referent")) ∷ referent_field ∷ []) ∷ [];
 }
 
 -- refs  root 1  [1: 21 31]  (21 of 13: weak 5)  (31 of 16: final 5)  [5:]
@@ -591,6 +630,7 @@ weak_and_final_referents = record {
   repeated = none_repeated;
   opaque = 0;
   names = [];
+  classes = [];
 }
 
 -- refs  root 1  [1: 21 23]  (21 of 12: soft 22)  (22 of 13: weak 3)  [3: 4]  (23 of 12: soft 5)  [5: 4]  [4:]
@@ -604,6 +644,7 @@ soft_then_weak = record {
   repeated = none_repeated;
   opaque = 0;
   names = [];
+  classes = [];
 }
 
 -- root 1  [1: 2 2]  [2:]
@@ -615,6 +656,7 @@ parallel_edges = record {
   repeated = none_repeated;
   opaque = 0;
   names = [];
+  classes = [];
 }
 
 -- root 1  [1: 2]  [2: 3]  [3: 2 4]  [4: 5]  [5: 4]
@@ -626,6 +668,7 @@ cycle_behind_one_edge = record {
   repeated = none_repeated;
   opaque = 0;
   names = [];
+  classes = [];
 }
 
 -- refs  root 1  [1: 21]  (21 of 15: phantom 6)  [6: 7]  [7:]  (22 of 15: phantom 22)
@@ -639,6 +682,7 @@ phantom_referent = record {
   repeated = none_repeated;
   opaque = 0;
   names = [];
+  classes = [];
 }
 
 -- (21 of 13: weak 0)  (22 of 13: weak 9)
@@ -650,6 +694,7 @@ empty_referents = record {
   repeated = none_repeated;
   opaque = 0;
   names = [];
+  classes = [];
 }
 
 -- `phantom_referent`, with phantom references followed to all that they lead to
@@ -658,7 +703,7 @@ phantom_closure = record phantom_referent { mode = modes.Closure }
 
 -- root 1  root 2  [1:]  [2:]  [7:]
 abbrev pub added_and_dropped_roots : Dump
-added_and_dropped_roots = record { mode = modes.Direct; objects = array 1 [] ∷ array 2 [] ∷ array 7 [] ∷ []; roots = root 1 ∷ root 2 ∷ []; repeated = none_repeated; opaque = 0; names = [] }
+added_and_dropped_roots = record { mode = modes.Direct; objects = array 1 [] ∷ array 2 [] ∷ array 7 [] ∷ []; roots = root 1 ∷ root 2 ∷ []; repeated = none_repeated; opaque = 0; names = []; classes = [] }
 
 -- logs
 

@@ -1,8 +1,8 @@
 -- The objects of a dump and their numbers, and the dump of a file.
 -- Source: HPROF binary format, CLASS DUMP, INSTANCE DUMP, OBJECT ARRAY DUMP and PRIMITIVE ARRAY DUMP. That the first of an ID
 -- counts, and that numbers go by file order, is this project's choice.
-use Rattle.std.specs.Prelude.{◌≡◌, ℕ, Bool, false, List, [], count_by, is_none, Option, Some, None}
-use Rattle.std.specs.Option.{option_map, option_and_then}
+use Rattle.std.specs.Prelude.{◌≡◌, ℕ, Bool, false, List, [], map, count_by, is_none, Option, Some, None}
+use Rattle.std.specs.Option.{option_map, option_map_or, option_and_then}
 use Rattle.std.specs.List.{flat_map, filter_map}
 use Rattle.byteorder.specs.Endian.{big_number}
 use Rattle.hd_terms.specs.declared.IdSize.{IdSize}
@@ -12,15 +12,15 @@ use Rattle.hd_terms.specs.declared.Span.{Span}
 use Rattle.hd_terms.specs.declared.Text.{Text}
 use Rattle.hd_terms.specs.declared.Load.{Load}
 use Rattle.hd_terms.specs.Records.{id_len, Record, HasHeader, AreRecords, header_len, segment_spans, texts, loads}
-use Rattle.hd_terms.specs.SubRecords.{SubRecord, RootOf, ClassDump, InstanceDump, ObjectArray, PrimitiveArray, Item, Instance, ObjArray, PrimArray, Sub, AreDumpSubRecords, dump_subs_at}
+use Rattle.hd_terms.specs.SubRecords.{SubRecord, RootOf, ClassDump, InstanceDump, ObjectArray, PrimitiveArray, ClassItem, StaticItem, Item, Instance, ObjArray, PrimArray, Sub, AreDumpSubRecords, dump_subs_at}
 use Rattle.hd_terms.specs.SubRecords as subs
 use Rattle.hd_terms.specs.FirstRecords.{first_of_each, repeats, first_subs}
-use Rattle.hd_terms.specs.Classes.{ClassTable, KnownClasses, ResolvedClass, class_table, resolved_class, fitting_class, name_of, bytes_of_span}
+use Rattle.hd_terms.specs.Classes.{ClassTable, KnownClasses, LayoutField, ResolvedClass, class_table, resolved_class, fitting_class, text_of_id, name_of, bytes_of_span}
 use Rattle.hd_terms.specs.Groups.{instance_group, instance_bytes, array_group, array_bytes, class_group, class_bytes, primitive_group, primitive_bytes}
 use Rattle.hd_terms.specs.Slots.{instance_slots, array_slots, class_slots}
 use Rattle.hd_terms.specs.Roots.{roots_of}
 use Rattle.hd_terms.specs.HeapFaults.{class_faults, object_faults}
-use Rattle.hd_terms.specs.Dump.{Object, Repeated, Dump}
+use Rattle.hd_terms.specs.Dump.{Object, Repeated, NamedField, NamedClass, Dump, without_classes}
 
 -- the object of an object sub-record
 abbrev pub object_of : ClassTable → IdSize → SubRecord → Option Object
@@ -86,6 +86,25 @@ loaded_name t l = option_map (λ (span : Span). (l.class, bytes_of_span t.bytes 
 abbrev pub names_of : ClassTable → List (ℕ × List ℕ)
 names_of t = first_of_each (λ (n : ℕ × List ℕ). n.0) (filter_map (loaded_name t) t.loads)
 
+-- the bytes of the text of an ID, if there is one
+abbrev pub text_in : ClassTable → ℕ → Option (List ℕ)
+text_in t id = option_map (bytes_of_span t.bytes) (text_of_id t id)
+
+-- the layout of the class of an ID; without fields where its chain isn't whole
+abbrev pub layout_at : ClassTable → ℕ → List LayoutField
+layout_at t id = option_map_or (λ (k : ResolvedClass). k.layout) (resolved_class t id) []
+
+-- a field of a layout, and a class object, by their names
+abbrev pub named_by : ClassTable → LayoutField → NamedField
+named_by t f = record { owner = f.owner; name = text_in t f.name }
+
+abbrev pub class_by_names : ClassTable → ClassItem → NamedClass
+class_by_names t c = record {
+  class = c.id;
+  fields = map (named_by t) (layout_at t c.id);
+  statics = map (λ (s : StaticItem). text_in t s.name) c.statics;
+}
+
 -- the classes of a file, by its records and the sub-records of its segments
 abbrev pub classes_of : List ℕ → IdSize → List Record → List (List SubRecord) → ClassTable
 classes_of bytes size records segments = class_table bytes (texts size records) (loads size records) (dump_subs_at size (segment_spans header_len records) segments)
@@ -99,6 +118,7 @@ dump_of mode bytes size records segments = record {
   repeated = repeated_of (classes_of bytes size records segments) size records (flat_map (λ (ss : List SubRecord). ss) segments);
   opaque = opaque_in (resolved_class (classes_of bytes size records segments)) (dump_subs_at size (segment_spans header_len records) segments);
   names = names_of (classes_of bytes size records segments);
+  classes = map (class_by_names (classes_of bytes size records segments)) (classes_of bytes size records segments).classes;
 }
 
 -- a file that reads without fault: its header, its records, the sub-records of its segments, no chain that never ends, no
@@ -117,3 +137,9 @@ pub record IsDumpOf (mode : Mode) (bytes : List ℕ) (dump : Dump) : Type 0 wher
   pub segments : List (List SubRecord)
   pub reads : ReadsAs bytes size records segments
   pub is : dump ≡ dump_of mode bytes size records segments
+
+-- the same, but for the names that go with class objects
+pub record IsNamelessDumpOf (mode : Mode) (bytes : List ℕ) (dump : Dump) : Type 0 where
+  pub named : Dump
+  pub is_dump : IsDumpOf mode bytes named
+  pub is : dump ≡ without_classes named

@@ -1,6 +1,6 @@
 //! What the definitions say of the worked examples of `docs/DEFINITIONS.md`. Each is the contract of a function with an
 //! empty body.
-ghost use Rattle.std.specs.Prelude.{◌≡◌, ℕ, ◌≤◌, true, false, length, List, [], ◌∷◌, ◌++◌, Some, None, Ok, Err, take, slice_set, replicate, codes};
+ghost use Rattle.std.specs.Prelude.{◌≡◌, ℕ, ◌≤◌, true, false, length, [], ◌∷◌, ◌++◌, Some, None, take, slice_set, codes};
 ghost use Rattle.hd_terms.specs.declared.Strength.TheVariants as strengths;
 ghost use Rattle.hd_terms.specs.declared.Slot.TheVariants as slots;
 ghost use Rattle.hd_terms.specs.declared.errors.Cause.TheVariants as causes;
@@ -10,37 +10,28 @@ ghost use Rattle.hd_terms.specs.Strengths.{HasStrength};
 ghost use Rattle.hd_terms.specs.Chains.{IsChain};
 ghost use Rattle.hd_terms.specs.Edges.{edges};
 ghost use Rattle.hd_terms.specs.EditedDump.{edge_stands, root_entries, root_stands, standing};
-ghost use Rattle.hd_terms.specs.Replies.{IsReply};
-ghost use Rattle.hd_terms.specs.Sessions.{IsAlone, IsServed, IsServedUntilRead, IsServedUntilWrite, IsSession, memory_after};
-ghost use Rattle.hd_terms.specs.Memory.{at_log, beginning, board_log};
 ghost use Rattle.hd_terms.specs.declared.SlotMode.TheVariants as modes;
 ghost use Rattle.hd_terms.specs.declared.EdgeKind.TheVariants as kinds;
 ghost use Rattle.hd_terms.specs.declared.RefKind.TheVariants as references;
 ghost use Rattle.hd_terms.specs.declared.RootKind.TheVariants as roots;
 ghost use Rattle.hd_terms.specs.declared.RootMode.TheVariants as root_modes;
 ghost use Rattle.hd_terms.specs.declared.Mode.TheVariants as phantom_modes;
-ghost use Rattle.hd_terms.specs.declared.What.TheVariants as whats;
 ghost use Rattle.hd_terms.specs.declared.errors.LogFault.TheVariants as faults;
 ghost use Rattle.hd_terms.specs.declared.errors.Refusal.TheVariants as refusals;
-ghost use Rattle.hd_terms.specs.Dump.{object_at, name_in};
+ghost use Rattle.hd_terms.specs.Dump.{object_at, name_in, named_field, static_name};
 ghost use Rattle.hd_terms.specs.Counts.{counts_of};
 ghost use Rattle.hd_terms.specs.SlotRows.{slot_rows};
 ghost use Rattle.hd_terms.specs.RootRows.{root_rows};
 ghost use Rattle.hd_terms.specs.IntoRows.{into_rows};
-ghost use Rattle.hd_terms.specs.Names.{class_name};
 ghost use Rattle.hd_terms.specs.Fell.{FellCount};
 ghost use Rattle.hd_terms.specs.Listed.{AreFallen};
 ghost use Rattle.hd_terms.specs.Totals.{IsGroupTotal, IsTotal};
 ghost use Rattle.hd_terms.specs.declared.Group.TheVariants as groups;
-ghost use Rattle.hd_terms.specs.Asking.{asked};
 ghost use Rattle.hd_terms.specs.Appending.{append_refusal};
 ghost use Rattle.hd_terms.specs.Log.{IsLawful, live_edits, last_live, log_fault};
-ghost use Rattle.hd_terms.specs.Lines.{command_of, lines_of, whole_lines};
-ghost use Rattle.hd_terms.specs.declared.commands.Command.TheVariants as commands;
-ghost use Rattle.hd_terms.specs.declared.commands.LineFault.TheVariants as line_faults;
+ghost use Rattle.hd_terms.specs.Refusals.{edit_refusal};
 ghost use Rattle.hd_terms.specs.declared.Edit.TheVariants as edits;
 ghost use Rattle.hd_terms.specs.Examples as examples;
-ghost use Rattle.hd_terms.specs.SessionExamples as session_examples;
 
 /// What files are read as, and their faults.
 pub fn file_examples()
@@ -78,6 +69,10 @@ pub fn class_examples()
     ensures counts { counts_of examples.class_object_and_primitive_array ≡ record { objects = 5; roots = 1; edges = 3; unresolved = 0; repeated_objects = 0; repeated_strings = 0; repeated_loads = 0; opaque = 0 } }
     ensures class_edges { edges examples.class_object_and_primitive_array ≡ examples.strong_edge 0 (slots.Static 1) 2
         ∷ examples.strong_edge 0 (slots.Const 0) 1 ∷ examples.strong_edge 0 slots.Loader 3 ∷ [] }
+    ensures named_statics { IsDumpOf phantom_modes.Direct examples.named_statics_file examples.named_statics }
+    ensures static_name { static_name examples.named_statics 0x11 1 ≡ Some (codes "cache") }
+    ensures no_such_static { static_name examples.named_statics 0x11 2 ≡ None }
+    ensures static_without_name { static_name examples.class_object_and_primitive_array 0x11 1 ≡ None }
     ensures short_class { IsReadFault examples.short_class_file (fault causes.ShortSub 45) }
     ensures unknown_constant { IsReadFault examples.unknown_constant_file (fault causes.UnknownType 40) }
     ensures unknown_and_short { IsReadFault examples.unknown_and_short_file (fault causes.UnknownType 40) }
@@ -103,6 +98,10 @@ pub fn instance_examples()
     ensures dotted_names { IsDumpOf phantom_modes.Direct examples.dotted_names_file examples.dotted_names }
     ensures other_name_first { IsDumpOf phantom_modes.Direct examples.other_name_first_file examples.other_name_first }
     ensures two_referents { IsDumpOf phantom_modes.Direct examples.two_referents_file examples.two_referents }
+    ensures own_field { named_field examples.two_referents 0x14 0 ≡ Some (examples.field_named 0x14 (Some (codes "referent"))) }
+    ensures field_of_a_super_class { named_field examples.two_referents 0x14 1 ≡ Some examples.referent_field }
+    ensures field_past_the_layout { named_field examples.two_referents 0x14 2 ≡ None }
+    ensures field_without_name { named_field examples.wide_instance 0x12 2 ≡ Some (examples.field_named 0x11 None) }
 {}
 
 /// Edges, and the strengths of objects by their numbers, under logs.
@@ -173,19 +172,19 @@ pub fn edit_examples()
     ensures no_such_event_of_a_full_log { log_fault examples.full_log (examples.undoes 0 5000) ≡ Some faults.NoSuchEvent }
     ensures last_live { last_live (take 2 examples.two_cuts_of_one_slot) 0 ≡ Some 0 }
     ensures none_live { last_live examples.cut_and_undo 0 ≡ None }
-    ensures cut { asked examples.two_arrays [] 0 (commands.Edit (edits.Cut 1 (slots.Element 0))) ≡ Some (Ok (whats.Do (examples.cut 0))) }
-    ensures null_slot { asked examples.two_arrays [] 0 (commands.Edit (edits.Cut 1 (slots.Element 1))) ≡ Some (Err refusals.EmptySlot) }
-    ensures absent_slot { asked examples.two_arrays [] 0 (commands.Edit (edits.Cut 1 (slots.Element 2))) ≡ Some (Err refusals.EmptySlot) }
-    ensures no_such_slot { asked examples.two_arrays [] 0 (commands.Edit (edits.Cut 1 (slots.Element 3))) ≡ Some (Err refusals.NoSuchSlot) }
-    ensures no_such_word { asked examples.two_arrays [] 0 (commands.Edit (edits.Cut 1 slots.Super)) ≡ Some (Err refusals.NoSuchSlot) }
-    ensures not_cuttable { asked examples.two_arrays [] 0 (commands.Edit (edits.Cut 1 slots.OfClass)) ≡ Some (Err refusals.NotCuttable) }
-    ensures no_such_object { asked examples.two_arrays [] 0 (commands.Edit (edits.Cut 9 (slots.Element 0))) ≡ Some (Err refusals.NoSuchObject) }
-    ensures clear { asked examples.weak_and_final_referents [] 0 (commands.Edit (edits.Clear 0x21)) ≡ Some (Ok (whats.Do (edits.Clear 0x21))) }
-    ensures clear_of_null { asked examples.empty_referents [] 0 (commands.Edit (edits.Clear 0x21)) ≡ Some (Err refusals.EmptySlot) }
-    ensures clear_of_absent { asked examples.empty_referents [] 0 (commands.Edit (edits.Clear 0x22)) ≡ Some (Err refusals.EmptySlot) }
+    ensures cut { edit_refusal examples.two_arrays (edits.Cut 1 (slots.Element 0)) ≡ None }
+    ensures null_slot { edit_refusal examples.two_arrays (edits.Cut 1 (slots.Element 1)) ≡ Some refusals.EmptySlot }
+    ensures absent_slot { edit_refusal examples.two_arrays (edits.Cut 1 (slots.Element 2)) ≡ Some refusals.EmptySlot }
+    ensures no_such_slot { edit_refusal examples.two_arrays (edits.Cut 1 (slots.Element 3)) ≡ Some refusals.NoSuchSlot }
+    ensures no_such_word { edit_refusal examples.two_arrays (edits.Cut 1 slots.Super) ≡ Some refusals.NoSuchSlot }
+    ensures not_cuttable { edit_refusal examples.two_arrays (edits.Cut 1 slots.OfClass) ≡ Some refusals.NotCuttable }
+    ensures no_such_object { edit_refusal examples.two_arrays (edits.Cut 9 (slots.Element 0)) ≡ Some refusals.NoSuchObject }
+    ensures clear { edit_refusal examples.weak_and_final_referents (edits.Clear 0x21) ≡ None }
+    ensures clear_of_null { edit_refusal examples.empty_referents (edits.Clear 0x21) ≡ Some refusals.EmptySlot }
+    ensures clear_of_absent { edit_refusal examples.empty_referents (edits.Clear 0x22) ≡ Some refusals.EmptySlot }
     ensures null_referent { slot_rows examples.empty_referents [] (object_at examples.empty_referents 0) ≡ examples.weakly_shown (slots.Field 0) 0 modes.Null ∷ examples.shown slots.OfClass 0x13 modes.Absent ∷ [] }
     ensures absent_referent { slot_rows examples.empty_referents [] (object_at examples.empty_referents 1) ≡ examples.weakly_shown (slots.Field 0) 9 modes.Absent ∷ examples.shown slots.OfClass 0x13 modes.Absent ∷ [] }
-    ensures clear_of_no_named_class { asked examples.other_name_first [] 0 (commands.Edit (edits.Clear 0x21)) ≡ Some (Ok (whats.Do (edits.Clear 0x21))) }
+    ensures clear_of_no_named_class { edit_refusal examples.other_name_first (edits.Clear 0x21) ≡ None }
     ensures cleared_referent { slot_rows examples.weak_reference (examples.does 0 (edits.Clear 0x21) ∷ []) (object_at examples.weak_reference 2) ≡ examples.weakly_shown (slots.Field 0) 5 modes.Cut ∷ examples.shown slots.OfClass 0x13 modes.Stands ∷ [] }
     ensures cut_and_clear { slot_rows examples.weak_reference examples.cut_and_clear (object_at examples.weak_reference 2) ≡ examples.weakly_shown (slots.Field 0) 5 modes.Cut ∷ examples.shown slots.OfClass 0x13 modes.Stands ∷ [] }
     ensures drop_of_a_root_on_no_object { append_refusal 9 [] (examples.does 0 (edits.Drop 0)) ≡ None }
@@ -204,12 +203,12 @@ pub fn edit_examples()
     ensures no_clear_is_left { FellCount examples.soft_then_weak examples.clears_of_soft (take 3 examples.clears_of_soft) 3 }
     ensures clear_all_phantom { FellCount examples.phantom_referent [] (examples.does 0 (edits.ClearAll references.Phantom) ∷ []) 1 }
     ensures clear_all_of_none { FellCount examples.two_arrays [] (examples.does 0 (edits.ClearAll references.Weak) ∷ []) 0 }
-    ensures clear_all_is_taken { asked examples.two_arrays [] 0 (commands.Edit (edits.ClearAll references.Weak)) ≡ Some (Ok (whats.Do (edits.ClearAll references.Weak))) }
+    ensures clear_all_is_taken { edit_refusal examples.two_arrays (edits.ClearAll references.Weak) ≡ None }
     ensures slots_after_clear_all { slot_rows examples.soft_then_weak (take 1 examples.clears_of_soft) (object_at examples.soft_then_weak 7) ≡ (record { slot = slots.Field 0; kind = kinds.Soft; id = 0x22; mode = modes.Cut }) ∷ examples.shown slots.OfClass 0x12 modes.Stands ∷ [] }
-    ensures not_reference { asked examples.weak_and_final_referents [] 0 (commands.Edit (edits.Clear 1)) ≡ Some (Err refusals.NotReference) }
-    ensures clear_of_no_object { asked examples.two_arrays [] 0 (commands.Edit (edits.Clear 9)) ≡ Some (Err refusals.NoSuchObject) }
-    ensures add { asked examples.phantom_referent [] 0 (commands.Edit (edits.Add 0x22)) ≡ Some (Ok (whats.Do (edits.Add 0x22))) }
-    ensures add_to_no_object { asked examples.two_arrays [] 0 (commands.Edit (edits.Add 9)) ≡ Some (Err refusals.NoSuchObject) }
+    ensures not_reference { edit_refusal examples.weak_and_final_referents (edits.Clear 1) ≡ Some refusals.NotReference }
+    ensures clear_of_no_object { edit_refusal examples.two_arrays (edits.Clear 9) ≡ Some refusals.NoSuchObject }
+    ensures add { edit_refusal examples.phantom_referent (edits.Add 0x22) ≡ None }
+    ensures add_to_no_object { edit_refusal examples.two_arrays (edits.Add 9) ≡ Some refusals.NoSuchObject }
     ensures drop { append_refusal 1 [] (examples.does 0 (edits.Drop 0)) ≡ None }
     ensures no_such_root { append_refusal 1 [] (examples.does 0 (edits.Drop 18446744073709551615)) ≡ Some refusals.NoSuchRoot }
     ensures drop_of_an_added_root { append_refusal 2 (take 1 examples.add_and_drop) (examples.does 0 (edits.Drop 2)) ≡ None }
@@ -217,7 +216,6 @@ pub fn edit_examples()
     ensures no_such_root_of_a_full_log { append_refusal 1 examples.full_log (examples.does 0 (edits.Drop 5000)) ≡ Some refusals.NoSuchRoot }
     ensures drop_on_a_full_log { append_refusal 1 examples.full_log (examples.does 0 (edits.Drop 0)) ≡ Some (refusals.Log faults.LogFull) }
     ensures undo_of_another { append_refusal 1 (take 1 examples.cut_and_undo) (examples.undoes 1 0) ≡ Some (refusals.Log faults.NotYours) }
-    ensures nothing_to_undo { asked examples.two_arrays [] 0 (commands.Undo None) ≡ Some (Err refusals.NothingToUndo) }
     ensures fell { FellCount examples.two_arrays [] (take 1 examples.cut_and_undo) 1 }
     ensures fallen { AreFallen examples.two_arrays [] (take 1 examples.cut_and_undo) (2 ∷ []) }
     ensures none_back { FellCount examples.two_arrays (take 1 examples.cut_and_undo) [] 0 }
@@ -237,91 +235,4 @@ pub fn total_examples()
     ensures classes { IsGroupTotal examples.opaque_and_repeated [] groups.Classes strengths.Strong 1 0 }
     ensures opaque { IsGroupTotal examples.opaque_and_repeated [] (groups.Class 0x98) strengths.Strong 1 4 }
     ensures array { IsGroupTotal examples.opaque_and_repeated [] (groups.Class 0x99) strengths.Strong 1 8 }
-{}
-
-/// What two analysts are answered who cut one slot, what is answered where memory runs out, and a private part.
-pub fn session_examples()
-    ensures first_analyst { IsSession (session_examples.at_two_arrays 0) (beginning [] []) session_examples.turns_of_the_first }
-    ensures second_analyst { IsSession (session_examples.at_two_arrays 1) (beginning [] []) session_examples.turns_of_the_second }
-    ensures out_of_memory { IsSession (session_examples.at_two_arrays 0) (beginning [] []) (session_examples.turn_without_memory ∷ []) }
-    ensures behind { IsSession (session_examples.at_two_arrays 0) (beginning [] []) session_examples.turns_behind }
-    ensures private_part { IsSession (session_examples.at_two_arrays 0) (beginning [] []) session_examples.turns_of_a_private_part }
-    ensures private_part_alone { IsAlone (beginning [] []) session_examples.turns_of_a_private_part }
-    ensures private_part_leaves { board_log (memory_after (beginning [] []) session_examples.turns_of_a_private_part) ≡ session_examples.first_cuts 1 }
-{}
-
-/// What lines ask for, and why some ask for nothing.
-pub fn line_examples()
-    ensures strength { command_of (codes "strength 0x2") ≡ Ok (commands.Strength 2) }
-    ensures spaces { command_of (codes "  strength   0x2  ") ≡ Ok (commands.Strength 2) }
-    ensures carriage_return { command_of (codes "  strength   0x2  " ++ 13 ∷ []) ≡ Ok (commands.Strength 2) }
-    ensures sixteen_digits { command_of (codes "strength 0x0000000000000002") ≡ Ok (commands.Strength 2) }
-    ensures seventeen_digits { command_of (codes "strength 0x00000000000000002") ≡ Err line_faults.BadArgument }
-    ensures slots { command_of (codes "slots 0x1") ≡ Ok (commands.Slots 1) }
-    ensures cut { command_of (codes "cut 0x1 e0") ≡ Ok (commands.Edit (edits.Cut 1 (slots.Element 0))) }
-    ensures cut_of_a_word { command_of (codes "cut 0x1 signers") ≡ Ok (commands.Edit (edits.Cut 1 slots.Signers)) }
-    ensures cut_of_a_static { command_of (codes "cut 0x1 s0000000007") ≡ Ok (commands.Edit (edits.Cut 1 (slots.Static 7))) }
-    ensures eleven_digits { command_of (codes "cut 0x1 s00000000007") ≡ Err line_faults.BadArgument }
-    ensures capital_slot { command_of (codes "cut 0x1 E0") ≡ Err line_faults.BadArgument }
-    ensures no_slot { command_of (codes "cut 0x1") ≡ Err line_faults.BadArgument }
-    ensures chain { command_of (codes "chain 0x5") ≡ Ok (commands.Chain 5) }
-    ensures into { command_of (codes "into 0x5") ≡ Ok (commands.Into 5) }
-    ensures classes { command_of (codes "classes WEAK") ≡ Ok (commands.Classes strengths.Weak) }
-    ensures classes_in_lower_case { command_of (codes "classes Strong") ≡ Err line_faults.BadArgument }
-    ensures members { command_of (codes "members 0x11 STRONG") ≡ Ok (commands.Members (groups.Class 0x11) strengths.Strong) }
-    ensures members_of_int_arrays { command_of (codes "members t10 STRONG") ≡ Ok (commands.Members (groups.Prim 10) strengths.Strong) }
-    ensures members_of_the_classes { command_of (codes "members c STRONG") ≡ Ok (commands.Members groups.Classes strengths.Strong) }
-    ensures members_of_no_type { command_of (codes "members t3 STRONG") ≡ Err line_faults.BadArgument }
-    ensures mark { command_of (codes "mark") ≡ Ok commands.Mark }
-    ensures fell { command_of (codes "fell 0") ≡ Ok (commands.Fell 0) }
-    ensures fell_since_nothing { command_of (codes "fell") ≡ Err line_faults.BadArgument }
-    ensures undo { command_of (codes "undo") ≡ Ok (commands.Undo None) }
-    ensures undo_of_the_greatest { command_of (codes "undo 4294967295") ≡ Ok (commands.Undo (Some 4294967295)) }
-    ensures undo_past_the_greatest { command_of (codes "undo 4294967296") ≡ Err line_faults.BadArgument }
-    ensures clear { command_of (codes "clear 0x21") ≡ Ok (commands.Edit (edits.Clear 0x21)) }
-    ensures add { command_of (codes "add 0x1") ≡ Ok (commands.Edit (edits.Add 1)) }
-    ensures drop { command_of (codes "drop 0") ≡ Ok (commands.Edit (edits.Drop 0)) }
-    ensures drop_of_the_greatest { command_of (codes "drop 18446744073709551615") ≡ Ok (commands.Edit (edits.Drop 18446744073709551615)) }
-    ensures drop_past_the_greatest { command_of (codes "drop 18446744073709551616") ≡ Err line_faults.BadArgument }
-    ensures drop_of_an_id { command_of (codes "drop 0x1") ≡ Err line_faults.BadArgument }
-    ensures clear_all { command_of (codes "clearall soft") ≡ Ok (commands.Edit (edits.ClearAll references.Soft)) }
-    ensures clear_all_strong { command_of (codes "clearall strong") ≡ Err line_faults.BadArgument }
-    ensures roots { command_of (codes "roots") ≡ Ok commands.Roots }
-    ensures events { command_of (codes "events") ≡ Ok commands.Events }
-    ensures events_of_one { command_of (codes "events 0") ≡ Err line_faults.BadArgument }
-    ensures private { command_of (codes "private") ≡ Ok commands.Private }
-    ensures private_of_one { command_of (codes "private 1") ≡ Err line_faults.BadArgument }
-    ensures back { command_of (codes "back") ≡ Ok commands.Back }
-    ensures quit { command_of (codes "quit") ≡ Ok commands.Quit }
-    ensures quit_now { command_of (codes "quit now") ≡ Err line_faults.BadArgument }
-    ensures no_argument { command_of (codes "strength") ≡ Err line_faults.BadArgument }
-    ensures no_prefix { command_of (codes "strength 2") ≡ Err line_faults.BadArgument }
-    ensures capital_x { command_of (codes "strength 0X2") ≡ Err line_faults.BadArgument }
-    ensures no_digit { command_of (codes "strength 0x") ≡ Err line_faults.BadArgument }
-    ensures capitals { command_of (codes "STRENGTH 0x2") ≡ Err line_faults.UnknownCommand }
-    ensures empty_line { command_of [] ≡ Err line_faults.UnknownCommand }
-    ensures longest_line { command_of (replicate 4096 32) ≡ Err line_faults.UnknownCommand }
-    ensures longer_line { command_of (replicate 4097 32) ≡ Err line_faults.LineTooLong }
-    ensures carriage_return_counts { command_of (replicate 4096 32 ++ 13 ∷ []) ≡ Err line_faults.LineTooLong }
-    ensures two_lines { lines_of (codes "strength 0x2" ++ 10 ∷ codes "quit") ≡ codes "strength 0x2" ∷ codes "quit" ∷ [] }
-    ensures one_whole_line { whole_lines (codes "strength 0x2" ++ 10 ∷ codes "quit") ≡ codes "strength 0x2" ∷ [] }
-{}
-
-/// What lines and whole inputs are answered under the empty log.
-pub fn reply_examples()
-    ensures strength { IsReply examples.two_arrays (beginning [] []) (codes "strength 0x2") (codes "ok 1" ++ 10 ∷ codes "STRONG" ++ 10 ∷ []) }
-    ensures absent { IsReply examples.two_arrays (beginning [] []) (codes "strength 0x9") (codes "no NoSuchObject" ++ 10 ∷ []) }
-    ensures no_prefix { IsReply examples.two_arrays (beginning [] []) (codes "strength 2") (codes "no BadArgument" ++ 10 ∷ []) }
-    ensures nothing_there { IsReply examples.empty_dump (beginning [] []) (codes "strength 0x1") (codes "no NoSuchObject" ++ 10 ∷ []) }
-    ensures events { IsReply examples.two_arrays (at_log (beginning [] []) examples.cut_and_undo) (codes "events")
-        (codes "ok 2" ++ 10 ∷ codes "0 0 cut 0x1 e0 undone" ++ 10 ∷ codes "1 0 undo 0" ++ 10 ∷ []) }
-    ensures odd_name { class_name (Some (0x41 ∷ 0x20 ∷ 0xc3 ∷ 0xa9 ∷ 0x5c ∷ [])) ≡ codes "A\\x20\\xc3\\xa9\\x5c" }
-    ensures no_name { class_name None ≡ codes "?" }
-    ensures empty_name { class_name (Some []) ≡ codes "?" }
-    ensures no_such_mark { IsReply examples.two_arrays (beginning [] []) (codes "fell 1") (codes "no NoSuchMark" ++ 10 ∷ []) }
-    ensures roots { IsReply examples.two_arrays (beginning [] []) (codes "roots") (codes "ok 1" ++ 10 ∷ codes "0 unknown 0x1 stands" ++ 10 ∷ []) }
-    ensures served { IsServed examples.two_arrays (codes "strength 0x2" ++ 10 ∷ codes "quit" ++ 10 ∷ codes "strength 0x1" ++ 10 ∷ [])
-        (codes "ok 1" ++ 10 ∷ codes "STRONG" ++ 10 ∷ codes "ok 0" ++ 10 ∷ []) }
-    ensures read_failed { IsServedUntilRead examples.two_arrays (codes "strength 0x2") (codes "2") [] }
-    ensures write_failed { IsServedUntilWrite examples.two_arrays (codes "strength 0x2") (codes "ok 1" ++ 10 ∷ codes "ST") }
 {}

@@ -7,14 +7,17 @@
 //! - The file half says what the bytes of a file mean: its records (`Records`), sub-records (`SubRecords`, `Types`),
 //!   roots (`Roots`), classes (`FirstRecords`, `Classes`), objects (`Objects`, `Slots`, `Groups`) and faults
 //!   (`HeapFaults`, `ReadFaults`). None of it names a strength.
-//! - The heap half says what stands under a log, which strength each object has, and how lines are answered. None of
-//!   it names a byte of a file.
+//! - The heap half says what stands under a log, which strength each object has, and what is shown of both. None of it
+//!   names a byte of a file.
+//!
+//! What lines ask for and how they are answered stands in `hd_lines`, on which only those crates stand that speak of
+//! lines.
 //!
 //! Definitions are relations, filters and whole lists, so that they are short to read. How to find an answer fast is
 //! left to the crates that stand on this one.
 //!
 //! - `lib.rt`: strengths, kinds of references, slots, roots, edits, events, and the rows that replies show.
-//! - `commands.rt`: what a line asks for. `errors.rt`: read faults, refusals, and running out of memory.
+//! - `errors.rt`: read faults, refusals, and running out of memory.
 //! - `slots.rt`: a slot as its kind and its number. `types.rt`: the basic types of HPROF and the bytes of their
 //!   values.
 //! - `laws.rt`: laws over the definitions. They are proved once, so that no other crate argues about paths, endless
@@ -26,7 +29,6 @@
 //! 1.0.1`, and the section "Reachability" of the package specification of `java.lang.ref`, Java SE 17.
 #![tactic(auto)]
 
-mod commands;
 mod errors;
 mod examples;
 mod laws;
@@ -39,11 +41,10 @@ ghost use Rattle.hd_terms.specs.Ranks.{rank, given_by, kind_of_references, least
 ghost use Rattle.hd_terms.specs.Records.{id_len};
 
 use byteorder::{BigEndian, ByteOrder};
-pub use commands::{Command, LineFault};
 pub use errors::{Cause, LogFault, NoMemory, ReadFault, Refusal};
 pub use examples::{
-    class_examples, edit_examples, file_examples, heap_examples, instance_examples, line_examples,
-    log_examples, reply_examples, session_examples, total_examples,
+    class_examples, edit_examples, file_examples, heap_examples, instance_examples, log_examples,
+    total_examples,
 };
 pub use laws::{
     class_chains, desks_hold_one_history, lawful_logs, no_desk_is_foreign, one_reading,
@@ -307,10 +308,19 @@ pub enum Group {
     Classes,
 }
 
-/// The objects of a group that have a strength: how many there are, and their recorded bytes.
+/// The objects of a group that are meant, as those of a strength: how many there are, and their recorded bytes.
 #[derive(Clone, Copy, PartialEq, Eq)]
 pub struct ClassRow {
     pub group: Group,
+    pub count: u64,
+    pub bytes: u64,
+}
+
+/// The objects that have one strength at a mark and another one now: how many there are, and their recorded bytes.
+#[derive(Clone, Copy, PartialEq, Eq)]
+pub struct MovedRow {
+    pub before: Strength,
+    pub after: Strength,
     pub count: u64,
     pub bytes: u64,
 }

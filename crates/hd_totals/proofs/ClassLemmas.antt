@@ -1,8 +1,8 @@
 -- The rows of the groups that have objects of a strength.
-use Rattle.std.proofs.Common.{◌≡◌, ◌∙◌, ℕ, zero, suc, ◌+◌, ◌<◌, ◌≤◌, Bool, true, false, ◌&&◌, inl, inr, List, [], ◌∷◌, ◌++◌, length, map, get_or, Contains, Some, slice_get, eq-eqb, refl, sym, ap, subst, arith, true≢false}
+use Rattle.std.proofs.Common.{◌≡◌, ◌∙◌, ℕ, zero, suc, ◌+◌, ◌<◌, ◌≤◌, Bool, true, ◌&&◌, inl, inr, List, [], ◌∷◌, ◌++◌, length, map, get_or, Contains, Some, slice_get, eq-eqb, refl, sym, ap, subst, arith, true≢false}
 use Rattle.std.specs.Cmp.{nat_eq_equiv}
-use Rattle.std.specs.Prelude.{All, nat_eq, count_by}
-use Rattle.std.specs.List.{IsDistinct, list_any, range_with_len}
+use Rattle.std.specs.Prelude.{All, nat_eq}
+use Rattle.std.specs.List.{IsDistinct, list_any}
 use Rattle.std.specs.List.Sorted.{IsNonDecreasing, IsNonDecreasingBy, IsPermutation}
 use Rattle.std.proofs.lemmas.Bool.{cases_lt}
 use Rattle.std.proofs.lemmas.List.{get_or-map, get_or_past, length-map, map-append}
@@ -23,7 +23,7 @@ use Rattle.hd_totals.specs.Rows.{row_key, row_group, IsRowOf, AreRowsBefore, Are
 use Rattle.hd_totals.specs.Totals.{Totals, no_totals, total_for, total_in, row_at, place_of, AreTotals}
 use Rattle.hd_totals.proofs.GroupLemmas.{one-key, itself}
 use Rattle.hd_totals.proofs.RowLemmas.{at-place, any-to, eqb-flips, before-key, row-of-key}
-use Rattle.hd_totals.proofs.SumLemmas.{one_if, no-element, cons-cases, not-true, and-true, count_suc, count-term}
+use Rattle.hd_totals.proofs.SumLemmas.{no-element, cons-cases, not-true, and-true, count-term, some-passes}
 use Rattle.hd_totals.proofs.TotalLemmas.{total-none}
 
 contains-map : {X Y : Type 0} (f : X → Y) (xs : List X) (x : X) → Contains xs x → Contains (map f xs) (f x)
@@ -164,22 +164,6 @@ module _ (t : Totals) (s : Strength) (whole : length t.rows ≡ length t.keys) (
           absurd (omega arith)
     ];
   }
-
--- a number that passes a test, where there is one
-passes-here : (p : ℕ → Bool) (n : ℕ) → (1 ≤ count_by p (range_with_len 0 n) → (o : ℕ) × (o < n) × (p o ≡ true)) → 1 ≤ count_by p (range_with_len 0 (suc n)) → (b : Bool) → p n ≡ b → (o : ℕ) × (o < suc n) × (p o ≡ true)
-passes-here p n below some true e = (n, omega arith, e)
-passes-here p n below some false e =
-    let none : one_if (p n) ≡ 0 = ap one_if e in
-    let at : (o : ℕ) × (o < n) × (p o ≡ true) = below (omega (arith, count_suc p n)) in
-    let less : at.0 < n = at.1 in
-    (at.0, omega arith, at.2)
-
-some-passes : (p : ℕ → Bool) (n : ℕ) → 1 ≤ count_by p (range_with_len 0 n) → (o : ℕ) × (o < n) × (p o ≡ true)
-some-passes p zero some = absurd (some-of-none some)
-  where
-    some-of-none : 1 ≤ 0 → ⊥
-    some-of-none le = omega arith
-some-passes p (suc n) some = passes-here p n (some-passes p n) some (p n) refl
 
 -- the rows by what is kept of the objects
 pub member-rows : (t : Totals) (s : Strength) (rows : List ClassRow) → AreRowsOf t s rows → (dump : Dump) (ks : List Reached) → AreTotals dump ks t → AreMemberRows dump ks s rows

@@ -97,12 +97,15 @@ module _ (gives : (g : Standing) (ks : List Reached) → Settled g ks → (o : �
         rw begins (subst (λ (s : Strength). HasStrength (standing dump (take n log)) o s) stays (h o n was (omega arith)))
   ]
 
-  -- an object of a page that neither of two logs has changed since a beginning of both keeps its strength
-  pub none-falls : (one : (g : Standing) (o : ℕ) (a b : Strength) → HasStrength g o a → HasStrength g o b → a ≡ b)
-      (earlier later : List Event) (ks ls : List Reached) (was is : List ℕ) (n : ℕ)
-      → AreLastChanges dump earlier ks was → AreLastChanges dump later ls is → n ≤ length earlier → n ≤ length later → take n earlier ≡ take n later
-      → (o : ℕ) → IsUnchanged was (page_of o) n → IsUnchanged is (page_of o) n → falls_from ks ls o ≡ false
-  none-falls one earlier later ks ls was is n h k le le' same o still still' =
-      let now : HasStrength (standing dump (take n later)) o (reached_at ks o).strength = subst (λ (log : List Event). HasStrength (standing dump log) o (reached_at ks o).strength) same (h o n still le) in
-      let stays : (reached_at ks o).strength ≡ (reached_at ls o).strength = one (standing dump (take n later)) o (reached_at ks o).strength (reached_at ls o).strength now (k o n still' le') in
-      ap (λ (s : Strength). falls_to s (reached_at ls o).strength) stays ∙ falls-not (reached_at ls o).strength
+-- an object of a page that neither of two logs has changed since a beginning of both has one strength under both
+pub same-since : (one : (g : Standing) (o : ℕ) (a b : Strength) → HasStrength g o a → HasStrength g o b → a ≡ b) (dump : Dump)
+    (earlier later : List Event) (ks ls : List Reached) (was is : List ℕ) (n : ℕ)
+    → AreLastChanges dump earlier ks was → AreLastChanges dump later ls is → n ≤ length earlier → n ≤ length later → take n earlier ≡ take n later
+    → (o : ℕ) → IsUnchanged was (page_of o) n → IsUnchanged is (page_of o) n → (reached_at ks o).strength ≡ (reached_at ls o).strength
+same-since one dump earlier later ks ls was is n h k le le' same o still still' =
+    let now : HasStrength (standing dump (take n later)) o (reached_at ks o).strength = subst (λ (log : List Event). HasStrength (standing dump log) o (reached_at ks o).strength) same (h o n still le) in
+    one (standing dump (take n later)) o (reached_at ks o).strength (reached_at ls o).strength now (k o n still' le')
+
+-- an object that has one strength before and after doesn't fall
+pub same-not-falls : (ks ls : List Reached) (o : ℕ) → (reached_at ks o).strength ≡ (reached_at ls o).strength → falls_from ks ls o ≡ false
+same-not-falls ks ls o same = ap (λ (s : Strength). falls_to s (reached_at ls o).strength) same ∙ falls-not (reached_at ls o).strength

@@ -5,7 +5,9 @@ pub mod FallenLemmas
 pub mod GroupLemmas
 pub mod Joining
 pub mod LastChangeLemmas
+pub mod RankingLemmas
 pub mod RowLemmas
 pub mod RunningLemmas
 pub mod SumLemmas
+pub mod TopLemmas
 pub mod TotalLemmas

@@ -146,3 +146,19 @@ count-listed p n (x ∷ xs) once within all =
           | inl same ↦ absurd (true≢false (sym parts.1 ∙ ap (λ (b : Bool). not b) (eq-eqb o x (sym same))))
           | inr later ↦ later
         ]
+
+-- a number that passes a test, where there is one
+passes-here : (p : ℕ → Bool) (n : ℕ) → (1 ≤ count_by p (range_with_len 0 n) → (o : ℕ) × (o < n) × (p o ≡ true)) → 1 ≤ count_by p (range_with_len 0 (suc n)) → (b : Bool) → p n ≡ b → (o : ℕ) × (o < suc n) × (p o ≡ true)
+passes-here p n below some true e = (n, omega arith, e)
+passes-here p n below some false e =
+    let none : one_if (p n) ≡ 0 = ap one_if e in
+    let at : (o : ℕ) × (o < n) × (p o ≡ true) = below (omega (arith, count_suc p n)) in
+    let less : at.0 < n = at.1 in
+    (at.0, omega arith, at.2)
+
+pub some-passes : (p : ℕ → Bool) (n : ℕ) → 1 ≤ count_by p (range_with_len 0 n) → (o : ℕ) × (o < n) × (p o ≡ true)
+some-passes p zero some = absurd (some-of-none some)
+  where
+    some-of-none : 1 ≤ 0 → ⊥
+    some-of-none le = omega arith
+some-passes p (suc n) some = passes-here p n (some-passes p n) some (p n) refl

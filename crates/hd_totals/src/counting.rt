@@ -1,8 +1,9 @@
 //! Counting objects by their groups and strengths, part by part, by several threads.
 ghost use denote.Param.Send.{IsSync};
-ghost use Rattle.std.specs.Prelude.{◌≡◌, ◌+◌, ◌<◌, ◌≤◌, ◌^◌, length, IfOk, OnOk};
+ghost use Rattle.std.specs.Prelude.{[], ◌≡◌, ◌+◌, ◌<◌, ◌≤◌, ◌^◌, length, IfOk, OnOk};
 ghost use Rattle.hd_terms.specs.declared.Group.{Group as OneGroup};
 ghost use Rattle.hd_terms.specs.declared.Strength.{Strength as OneStrength};
+ghost use Rattle.hd_terms.specs.Listed.{group_key};
 ghost use Rattle.hd_totals.specs.Members.{InRange};
 ghost use Rattle.hd_totals.specs.Counting.{totals_of, AreGroupsCounted, AreJoined, AreWhole};
 ghost use Rattle.hd_totals.specs.Running.{plus_one, IsPlaced, IsRowPut};
@@ -12,7 +13,7 @@ use crate::keys::{GroupKeys, key_of};
 use crate::total::StrengthTotals;
 use hd_graph::Graph;
 use hd_supports::Supports;
-use hd_terms::{NoMemory, Strength};
+use hd_terms::{Group, NoMemory, Strength};
 use std::alloc::Global;
 use std::thread::{Threads, join};
 
@@ -21,7 +22,7 @@ const SHARES: u32 = 4;
 
 /// The totals of some of the objects: the keys of their groups, and the totals of each, in the same order.
 #[derive(Drop)]
-pub(crate) struct Counted {
+pub struct Counted {
     pub(crate) keys: GroupKeys,
     pub(crate) rows: Vec<StrengthTotals>,
 }
@@ -111,7 +112,11 @@ fn add_totals(
 }
 
 /// The totals of two parts together.
-fn join_parts(one: Counted, other: Counted) -> Result<Counted, NoMemory>
+///
+/// # Errors
+///
+/// Memory ran out.
+pub fn join_parts(one: Counted, other: Counted) -> Result<Counted, NoMemory>
     requires whole { AreWhole one × AreWhole other }
     requires counts { (group : OneGroup) (s : OneStrength) → InRange group → (total_in (totals_of one) group s).count + (total_in (totals_of other) group s).count < 2 ^ 64 }
     requires bytes { (group : OneGroup) (s : OneStrength) → InRange group → (total_in (totals_of one) group s).bytes + (total_in (totals_of other) group s).bytes < 2 ^ 64 }
@@ -123,6 +128,36 @@ fn join_parts(one: Counted, other: Counted) -> Result<Counted, NoMemory>
         add_totals(&mut keys, &mut rows, key, other.rows[i])?;
     }
     Ok(Counted { keys, rows })
+}
+
+impl Counted {
+    /// No object.
+    pub fn none(alloc: Global) -> Counted
+        ensures { totals_of result ≡ record { keys = []; rows = [] } }
+    {
+        let keys = GroupKeys::new(alloc);
+        let rows = Vec::new(alloc);
+        Counted { keys, rows }
+    }
+
+    /// Counts one more object of a group and a strength, and of so many bytes.
+    ///
+    /// # Errors
+    ///
+    /// Memory ran out. The totals may not be used further.
+    pub fn add(&mut self, group: Group, strength: Strength, bytes: u64) -> Result<(), NoMemory>
+        requires whole { AreWhole self.old }
+        requires count { (g : OneGroup) (s : OneStrength) → InRange g → (total_in (totals_of self.old) g s).count + 1 < 2 ^ 64 }
+        requires bytes { (g : OneGroup) (s : OneStrength) → InRange g → (total_in (totals_of self.old) g s).bytes + bytes < 2 ^ 64 }
+        ensures put { OnOk result (
+            IsRowPut (totals_of self.old) (totals_of self.new) (group_key group)
+            (plus_one (row_at (totals_of self.old) (group_key group)) strength bytes)
+            ) }
+        ensures range { InRange group }
+    {
+        let key = key_of(group);
+        count_object(&mut self.keys, &mut self.rows, key, strength, bytes)
+    }
 }
 
 /// The same as `count_part`, in so many shares side by side. The calling thread begins a thread for each but the last, and counts that

@@ -2,6 +2,7 @@
 ghost use Rattle.std.specs.Prelude.{◌≡◌, ◌+◌, ◌<◌, ◌≤◌, ◌^◌, List, length, Contains, MatchOption, IfOk, OnOk};
 ghost use Rattle.hd_terms.specs.Listed.{group_key};
 ghost use Rattle.hd_terms.specs.Settled.{Reached};
+ghost use Rattle.hd_totals.specs.Counting.{AreWhole, totals_of};
 ghost use Rattle.hd_totals.specs.Keys.{AreKeys};
 ghost use Rattle.hd_totals.specs.Members.{InRange};
 ghost use Rattle.hd_totals.specs.Running.{plus_one, less_one, IsRowPut};
@@ -75,7 +76,22 @@ impl GroupTotals {
         requires { length supports.now ≡ length graph.now.objects }
         ensures { IfOk result (λ t. AreTotals graph.now supports.now t) }
     {
-        let Counted { keys, rows } = count_all(rt, alloc, graph, supports)?;
+        let counted = count_all(rt, alloc, graph, supports)?;
+        let totals = GroupTotals::of_counted(alloc, counted)?;
+        Ok(totals)
+    }
+
+    /// These totals, with the keys of their groups.
+    ///
+    /// # Errors
+    ///
+    /// Memory ran out.
+    pub fn of_counted(alloc: Global, counted: Counted) -> Result<GroupTotals, NoMemory>
+        requires whole { AreWhole counted }
+        requires few { length (totals_of counted).keys < 2 ^ 32 }
+        ensures { IfOk result (λ t. t ≡ totals_of counted) }
+    {
+        let Counted { keys, rows } = counted;
         let rows = Pages::of_vec(alloc, rows)?;
         let keys = Arc::new(alloc, keys)?;
         Ok(GroupTotals {

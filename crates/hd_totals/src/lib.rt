@@ -13,11 +13,12 @@
 //!   of its row.
 //! - `counting.rt` makes the first totals in one pass over the objects. They are cut into four shares, each counted by
 //!   a thread with keys and rows of its own; then the rows of each group are added up. Where the system refuses a
-//!   thread, the shares are counted one after another.
+//!   thread, the shares are counted one after another. Queries count some of the objects by the same parts (`Counted`).
 //! - `group_totals.rt` moves each changed object from the total of its strength before to that of its strength after
 //!   (`apply`), one move for each `Change` of `hd_repair`. Where memory runs out, some moves may be missing, so the
 //!   version must not be used further.
-//! - `classes.rt` gathers the rows that have objects of a strength and sorts them by their keys.
+//! - `classes.rt` gathers the rows that have objects of a strength and sorts them by their keys. `ranking.rt` sorts rows by their
+//!   bytes.
 //! - `fallen.rt` counts the objects that a list of changes makes unreachable, and those that it makes reachable again.
 //! - `last_changes.rt` has, of each page of 1,024 objects, the number of events that the log had when a strength in the
 //!   page last changed (`LastChanges`), 0 where none has since the opening. The query that compares two logs skips the
@@ -31,9 +32,12 @@ mod fallen;
 mod group_totals;
 mod keys;
 mod last_changes;
+mod ranking;
 mod total;
 
+pub use counting::{Counted, join_parts};
 pub use fallen::{count_back, count_fallen, falls};
 pub use group_totals::GroupTotals;
 pub use last_changes::{LastChanges, PAGE_OBJECTS};
+pub use ranking::ranked;
 pub use total::{StrengthTotals, Total};

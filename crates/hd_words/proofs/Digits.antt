@@ -7,7 +7,7 @@ use Rattle.std.proofs.lemmas.Nat.{pow-add}
 use Rattle.std.proofs.lemmas.List.{at_drop_more}
 use Rattle.std.proofs.lemmas.List.Folds.{fold_stays}
 use Rattle.std.proofs.Math.Pow.{pow_mono}
-use Rattle.hd_terms.specs.Lines.{with_digit, digit_in, number_in}
+use Rattle.hd_lines.specs.Lines.{with_digit, digit_in, number_in}
 
 -- the number so far and the digits that are left give the number
 module _ (base : ℕ) (xs : List ℕ) (number i : ℕ) (lt : i < length xs) (so_far : fold (with_digit base) (Some number) (drop i xs) ≡ number_in base xs) where

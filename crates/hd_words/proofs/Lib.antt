@@ -1,3 +1,4 @@
 pub mod WordLemmas
 pub mod Digits
 pub mod FlatMaps
+pub mod FirstLineLemmas

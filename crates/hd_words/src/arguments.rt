@@ -1,7 +1,7 @@
 //! The arguments of commands: what single words spell.
 ghost use Rattle.std.specs.Prelude.{◌≡◌};
 ghost use Rattle.std.specs.Option.{option_and_then};
-ghost use Rattle.hd_terms.specs.Lines.{id_of_word, kind_of_word, number_of_word, only_word, root_of_word, slot_of_word, strength_of_word};
+ghost use Rattle.hd_lines.specs.Lines.{id_of_word, kind_of_word, number_of_word, only_word, root_of_word, slot_of_word, strength_of_word, switch_of_word};
 ghost use Rattle.hd_words.specs.Words.{words_between};
 
 use crate::kind_words::read_kind;
@@ -61,4 +61,18 @@ pub(crate) fn read_only_strength(rest: &[u8]) -> Option<Strength>
     ensures { result ≡ option_and_then strength_of_word (only_word (words_between rest.now)) }
 {
     read_strength(only_word(rest)?)
+}
+
+/// Whether the only word is `on` or `off`.
+pub(crate) fn read_only_switch(rest: &[u8]) -> Option<bool>
+    ensures { result ≡ option_and_then switch_of_word (only_word (words_between rest.now)) }
+{
+    let word = only_word(rest)?;
+    if word == b"on".as_slice() {
+        Some(true)
+    } else if word == b"off".as_slice() {
+        Some(false)
+    } else {
+        None
+    }
 }

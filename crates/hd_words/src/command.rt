@@ -1,15 +1,17 @@
 //! The commands that lines spell.
 ghost use Rattle.std.specs.Prelude.{◌≡◌};
-ghost use Rattle.hd_terms.specs.Lines.{bare_command, change_command, command_of, cut_command, members_command, session_command, spelled, undo_command};
+ghost use Rattle.hd_lines.specs.Lines.{asks, bare, change_command, command_of, cut_command, head_command, members_query, names_command, query_of, spelled, undo_command};
 ghost use Rattle.hd_words.specs.Words.{words_between};
 
 use crate::arguments::{
     read_id, read_only_id, read_only_kind, read_only_number, read_only_root, read_only_slot,
-    read_only_strength,
+    read_only_strength, read_only_switch,
 };
 use crate::group_words::read_group;
+use crate::numbers::read_small;
 use crate::words::{split_word, without_return};
-use hd_terms::{Command, Edit, LineFault};
+use hd_lines::{Command, LineFault, Query};
+use hd_terms::Edit;
 
 /// The most bytes of a line before its newline.
 pub const LONGEST_LINE: usize = 4096;
@@ -24,35 +26,12 @@ pub fn read_command(line: &[u8]) -> Result<Command, LineFault>
     let Some((word, rest)) = split_word(without_return(line)) else {
         return Err(LineFault::UnknownCommand);
     };
-    if word == b"strength".as_slice() {
-        spelled(read_only_id(rest).map(|id| Command::Strength(id)))
-    } else if word == b"chain".as_slice() {
-        spelled(read_only_id(rest).map(|id| Command::Chain(id)))
-    } else if word == b"slots".as_slice() {
-        spelled(read_only_id(rest).map(|id| Command::Slots(id)))
-    } else if word == b"into".as_slice() {
-        spelled(read_only_id(rest).map(|id| Command::Into(id)))
-    } else if word == b"roots".as_slice() {
-        read_bare(Command::Roots, rest)
-    } else if word == b"classes".as_slice() {
-        spelled(read_only_strength(rest).map(|strength| Command::Classes(strength)))
-    } else if word == b"members".as_slice() {
-        read_members(rest)
-    } else if word == b"events".as_slice() {
-        read_bare(Command::Events, rest)
-    } else {
-        read_session(word, rest)
-    }
-}
-
-/// The command that is about the session, or one that changes the log, by its first word and what follows it.
-fn read_session(word: &[u8], rest: &[u8]) -> Result<Command, LineFault>
-    ensures { result ≡ session_command word.now (words_between rest.now) }
-{
-    if word == b"mark".as_slice() {
+    if word == b"head".as_slice() {
+        read_head(rest)
+    } else if word == b"names".as_slice() {
+        spelled(read_only_switch(rest).map(|on| Command::Names(on)))
+    } else if word == b"mark".as_slice() {
         read_bare(Command::Mark, rest)
-    } else if word == b"fell".as_slice() {
-        spelled(read_only_number(rest).map(|mark| Command::Fell(mark)))
     } else if word == b"private".as_slice() {
         read_bare(Command::Private, rest)
     } else if word == b"back".as_slice() {
@@ -64,7 +43,7 @@ fn read_session(word: &[u8], rest: &[u8]) -> Result<Command, LineFault>
     }
 }
 
-/// The command that changes the log, by its first word and what follows it.
+/// The command that changes the log, or a query, by its first word and what follows it.
 fn read_change(word: &[u8], rest: &[u8]) -> Result<Command, LineFault>
     ensures { result ≡ change_command word.now (words_between rest.now) }
 {
@@ -81,39 +60,100 @@ fn read_change(word: &[u8], rest: &[u8]) -> Result<Command, LineFault>
     } else if word == b"undo".as_slice() {
         read_undo(rest)
     } else {
+        ask_all(read_query(word, rest))
+    }
+}
+
+/// The query of a first word and what follows it, or the first of its faults.
+fn read_query(word: &[u8], rest: &[u8]) -> Result<Query, LineFault>
+    ensures { result ≡ query_of word.now (words_between rest.now) }
+{
+    if word == b"strength".as_slice() {
+        spelled(read_only_id(rest).map(|id| Query::Strength(id)))
+    } else if word == b"chain".as_slice() {
+        spelled(read_only_id(rest).map(|id| Query::Chain(id)))
+    } else if word == b"slots".as_slice() {
+        spelled(read_only_id(rest).map(|id| Query::Slots(id)))
+    } else if word == b"into".as_slice() {
+        spelled(read_only_id(rest).map(|id| Query::Into(id)))
+    } else if word == b"object".as_slice() {
+        spelled(read_only_id(rest).map(|id| Query::Object(id)))
+    } else if word == b"roots".as_slice() {
+        read_bare(Query::Roots, rest)
+    } else if word == b"classes".as_slice() {
+        spelled(read_only_strength(rest).map(|strength| Query::Classes(strength)))
+    } else if word == b"members".as_slice() {
+        read_members(rest)
+    } else if word == b"fell".as_slice() {
+        spelled(read_only_number(rest).map(|mark| Query::Fell(mark)))
+    } else if word == b"events".as_slice() {
+        read_bare(Query::Events, rest)
+    } else if word == b"top".as_slice() {
+        spelled(read_only_strength(rest).map(|strength| Query::Top(strength)))
+    } else if word == b"freed".as_slice() {
+        spelled(read_only_number(rest).map(|mark| Query::Freed(mark)))
+    } else if word == b"moved".as_slice() {
+        spelled(read_only_number(rest).map(|mark| Query::Moved(mark)))
+    } else {
         Err(LineFault::UnknownCommand)
     }
 }
 
-/// The command that the arguments spell, or that they spell none.
-fn spelled(command: Option<Command>) -> Result<Command, LineFault>
-    ensures { result ≡ spelled command }
+/// The command that asks for the whole answer to a query.
+fn ask_all(query: Result<Query, LineFault>) -> Result<Command, LineFault>
+    ensures { result ≡ asks query }
 {
-    match command {
-        Some(command) => Ok(command),
+    match query {
+        Ok(query) => Ok(Command::Ask(None, query)),
+        Err(fault) => Err(fault),
+    }
+}
+
+/// What follows `head` is a number of lines and a query.
+fn read_head(rest: &[u8]) -> Result<Command, LineFault>
+    ensures { result ≡ head_command (words_between rest.now) }
+{
+    let Some((number, more)) = split_word(rest) else {
+        return Err(LineFault::BadArgument);
+    };
+    let Some((word, arguments)) = split_word(more) else {
+        return Err(LineFault::BadArgument);
+    };
+    match (read_small(number), read_query(word, arguments)) {
+        (Some(most), Ok(query)) => Ok(Command::Ask(Some(most), query)),
+        _ => Err(LineFault::BadArgument),
+    }
+}
+
+/// What the arguments spell, or that they spell nothing.
+fn spelled<T: Copy>(reading: Option<T>) -> Result<T, LineFault>
+    ensures { result ≡ spelled reading }
+{
+    match reading {
+        Some(spelled) => Ok(spelled),
         None => Err(LineFault::BadArgument),
     }
 }
 
-/// What follows a command without arguments is nothing.
-fn read_bare(command: Command, rest: &[u8]) -> Result<Command, LineFault>
-    ensures { result ≡ bare_command command (words_between rest.now) }
+/// What follows a word that stands alone is nothing.
+fn read_bare<T: Copy>(alone: T, rest: &[u8]) -> Result<T, LineFault>
+    ensures { result ≡ bare alone (words_between rest.now) }
 {
     match split_word(rest) {
         Some(_) => Err(LineFault::BadArgument),
-        None => Ok(command),
+        None => Ok(alone),
     }
 }
 
 /// What follows `members` is a group and a strength.
-fn read_members(rest: &[u8]) -> Result<Command, LineFault>
-    ensures { result ≡ members_command (words_between rest.now) }
+fn read_members(rest: &[u8]) -> Result<Query, LineFault>
+    ensures { result ≡ members_query (words_between rest.now) }
 {
     let Some((word, more)) = split_word(rest) else {
         return Err(LineFault::BadArgument);
     };
     match (read_group(word), read_only_strength(more)) {
-        (Some(group), Some(strength)) => Ok(Command::Members(group, strength)),
+        (Some(group), Some(strength)) => Ok(Query::Members(group, strength)),
         _ => Err(LineFault::BadArgument),
     }
 }

@@ -1,6 +1,6 @@
 //! What events do, as it is printed: an edit as a line spells it, or an undo.
 ghost use Rattle.std.specs.Prelude.{◌≡◌, ◌++◌, string_bytes, OnOk};
-ghost use Rattle.hd_terms.specs.Replies.{edit_text, live_name, what_text};
+ghost use Rattle.hd_lines.specs.Replies.{edit_text, live_name, what_text};
 
 use crate::kind_words::kind_text;
 use crate::slot_words::put_slot;

@@ -1,7 +1,7 @@
 //! The words of groups, as they are written and read, and the names of the groups of arrays.
 ghost use Rattle.std.specs.Prelude.{◌≡◌, ◌++◌, string_bytes, OnOk};
-ghost use Rattle.hd_terms.specs.Lines.{array_group_of_word, group_of_word};
-ghost use Rattle.hd_terms.specs.Names.{array_name, group_text};
+ghost use Rattle.hd_lines.specs.Lines.{array_group_of_word, group_of_word};
+ghost use Rattle.hd_lines.specs.Names.{array_name, group_text};
 
 use crate::arguments::read_id;
 use hd_terms::Group;

@@ -1,7 +1,7 @@
 //! The words of kinds of references, as they are written and read.
 ghost use Rattle.std.specs.Prelude.{◌≡◌};
-ghost use Rattle.hd_terms.specs.Lines.{kind_of_word};
-ghost use Rattle.hd_terms.specs.Replies.{kind_name};
+ghost use Rattle.hd_lines.specs.Lines.{kind_of_word};
+ghost use Rattle.hd_lines.specs.Replies.{kind_name};
 
 use hd_terms::{EdgeKind, RefKind};
 

@@ -1,7 +1,8 @@
 //! Replies of many lines: `ok N`, and a line for each of N rows.
-ghost use Rattle.std.specs.Prelude.{◌≡◌, ◌++◌, ℕ, List, All, map, string_bytes, IfOk, OnOk};
+ghost use Rattle.std.specs.Prelude.{◌≡◌, ◌∷◌, ◌++◌, ℕ, List, All, map, string_bytes, IfOk, OnOk};
 ghost use Rattle.std.specs.List.{flat_map};
-ghost use Rattle.hd_terms.specs.Replies.{answered, with_newline};
+ghost use Rattle.hd_lines.specs.Replies.{answered, first_lines, with_newline};
+ghost use Rattle.hd_words.specs.FirstLines.{first_count};
 
 use std::alloc::{AllocError, Global};
 use std::fmt::Write;
@@ -49,18 +50,54 @@ fn put_line<F: LineFormat>(text: &mut String, format: &F, row: &F::Row) -> Resul
     Ok(())
 }
 
-/// `ok N`, and the line of each of N rows.
+/// How many of `len` lines are written where `most` are wanted at most, all without a number.
+fn count_of(len: usize, most: Option<u32>) -> usize
+    ensures { result ≡ first_count len most }
+{
+    match most {
+        Some(most) => (most as usize).min(len),
+        None => len,
+    }
+}
+
+/// `ok N`, and the line of each of N rows: the first ones where at most `most` are wanted.
 pub fn lines_text<F: LineFormat>(
     alloc: Global,
     format: &F,
     rows: &[F::Row],
+    most: Option<u32>,
 ) -> Result<String, AllocError>
     requires { All (F.can_write format.now) rows.now }
-    ensures { IfOk result (λ text. string_bytes text ≡ answered (map (F.line format.now) rows.now)) }
+    ensures { IfOk result (λ text. string_bytes text ≡ answered (first_lines most (map (F.line format.now) rows.now))) }
 {
     let mut text = String::new(alloc);
-    let count = rows.len();
+    let count = count_of(rows.len(), most);
     writeln!(text, "ok {count}")?;
-    put_lines(&mut text, format, rows)?;
+    put_lines(&mut text, format, &rows[..count])?;
+    Ok(text)
+}
+
+/// `ok N`, a first line, and the line of each row: the first ones where at most `most` are wanted.
+pub fn lines_text_from<F: LineFormat>(
+    alloc: Global,
+    start: &str,
+    format: &F,
+    rows: &[F::Row],
+    most: Option<u32>,
+) -> Result<String, AllocError>
+    requires { All (F.can_write format.now) rows.now }
+    ensures { IfOk result (λ text. string_bytes text ≡ answered (first_lines most (start.now ∷ map (F.line format.now) rows.now))) }
+{
+    let mut text = String::new(alloc);
+    let Some(all) = rows.len().checked_add(1) else {
+        return Err(AllocError);
+    };
+    let count = count_of(all, most);
+    writeln!(text, "ok {count}")?;
+    if count > 0 {
+        text.push_str(start)?;
+        text.push('\n')?;
+        put_lines(&mut text, format, &rows[..count - 1])?;
+    }
     Ok(text)
 }

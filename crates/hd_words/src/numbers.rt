@@ -1,6 +1,6 @@
 //! The numbers that words spell.
 ghost use Rattle.std.specs.Prelude.{◌≡◌, ◌<◌, ◌≤◌, ◌*◌, ◌^◌, length, IfSome};
-ghost use Rattle.hd_terms.specs.Lines.{id_digits, number_of_word, root_of_word, hex_digit, digit_in, number_in};
+ghost use Rattle.hd_lines.specs.Lines.{id_digits, number_of_word, root_of_word, hex_digit, digit_in, number_in};
 
 /// The number of at most 32 bits that 1 to 10 decimal digits spell.
 pub(crate) fn read_small(word: &[u8]) -> Option<u32>

@@ -1,6 +1,6 @@
 //! The words of roots and of how they stand.
 ghost use Rattle.std.specs.Prelude.{◌≡◌};
-ghost use Rattle.hd_terms.specs.Replies.{root_name, root_mode_name};
+ghost use Rattle.hd_lines.specs.Replies.{root_name, root_mode_name};
 
 use hd_terms::{RootKind, RootMode};
 

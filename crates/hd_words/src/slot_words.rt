@@ -2,8 +2,8 @@
 ghost use Rattle.std.specs.Prelude.{◌≡◌, ℕ, ◌++◌, string_bytes, OnOk};
 ghost use Rattle.std.specs.Option.{option_map};
 ghost use Rattle.hd_terms.specs.SlotKinds.{slot_of};
-ghost use Rattle.hd_terms.specs.Lines.{slot_of_word, numbered_slot, lettered_slot};
-ghost use Rattle.hd_terms.specs.Replies.{slot_name};
+ghost use Rattle.hd_lines.specs.Lines.{slot_of_word, numbered_slot, lettered_slot};
+ghost use Rattle.hd_lines.specs.Replies.{slot_name};
 ghost use Rattle.hd_words.specs.SlotWords.{kind_word, has_number};
 
 use crate::numbers::read_small;

@@ -1,7 +1,7 @@
 //! The words of strengths, as they are written and read.
 ghost use Rattle.std.specs.Prelude.{◌≡◌, ◌≤◌, length};
-ghost use Rattle.hd_terms.specs.Lines.{strength_of_word};
-ghost use Rattle.hd_terms.specs.Replies.{strength_name};
+ghost use Rattle.hd_lines.specs.Lines.{strength_of_word};
+ghost use Rattle.hd_lines.specs.Replies.{strength_name};
 
 use hd_terms::Strength;
 

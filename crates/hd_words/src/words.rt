@@ -2,7 +2,7 @@
 ghost use Rattle.std.specs.Prelude.{◌≡◌, ◌≢◌, ℕ, ◌<◌, ◌≤◌, [], ◌∷◌, length, drop, slice_index, MatchOption};
 ghost use Rattle.std.specs.Io.BufRead.{strip_last};
 ghost use Rattle.std.specs.Option.{option_copied};
-ghost use Rattle.hd_terms.specs.Lines.{only_word};
+ghost use Rattle.hd_lines.specs.Lines.{only_word};
 ghost use Rattle.hd_words.specs.Words.{words_between};
 
 /// A line without one carriage return at its end.

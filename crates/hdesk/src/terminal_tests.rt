@@ -55,7 +55,9 @@ fn file_at_a_terminal(rt: HostRuntime) {
             b"\r\x1b[Kreading: 0 MB of 0 MB\r\x1b[Kfinding objects and references, "
         )
     );
-    assert!(rt; seen.as_slice().ends_with(b" s\n"));
+    assert!(rt;
+        seen.as_slice().ends_with(b" s\nnames on: replies show the names of classes and fields\n")
+    );
 }
 
 #[test]

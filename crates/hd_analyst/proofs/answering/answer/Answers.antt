@@ -1,5 +1,5 @@
 use Rattle.std.proofs.Common.{◌∙◌, Err, ap, refl}
-use Rattle.hd_terms.specs.Replies.{refused}
+use Rattle.hd_lines.specs.Replies.{refused}
 use Rattle.hd_analyst.proofs.AnswerLemmas.{answered_as, line_fault_answered}
 use Rattle.hd_analyst.proofs.answering.answer.Goals as goal
 

@@ -1,6 +1,6 @@
 use Rattle.std.proofs.Common.{◌∙◌, Ok, ap, refl}
-use Rattle.hd_terms.specs.declared.commands.Command.TheVariants as commands
-use Rattle.hd_terms.specs.Replies.{refused}
+use Rattle.hd_lines.specs.declared.commands.Command.TheVariants as commands
+use Rattle.hd_lines.specs.Replies.{refused}
 use Rattle.hd_analyst.proofs.AnswerLemmas.{answered_as, not_quit, quit_answered, unrefreshed}
 use Rattle.hd_analyst.proofs.answering.answer_command.Goals as goal
 

@@ -1,12 +1,15 @@
 use Rattle.std.proofs.Common.{Ok, refl, sym, subst}
-use Rattle.hd_terms.specs.declared.commands.Command.TheVariants as commands
+use Rattle.hd_lines.specs.declared.commands.Command.TheVariants as commands
 use Rattle.hd_analyst.specs.Answering.{IsRun}
-use Rattle.hd_analyst.proofs.AnswerLemmas.{edit_ran, mark_ran, private_ran, back_ran, run_as}
+use Rattle.hd_analyst.proofs.AnswerLemmas.{edit_ran, mark_ran, names_ran, never_quit, private_ran, back_ran, run_as}
 use Rattle.hd_analyst.proofs.answering.run_command.Goals as goal
-use Rattle.hd_analyst.proofs.answering.run_command.Goals.{in-Edit, in-Undo, in-Mark, in-Private, in-Back}
+use Rattle.hd_analyst.proofs.answering.run_command.Goals.{in-Names, in-Quit, in-Edit, in-Undo, in-Mark, in-Private, in-Back}
 
 pub returns : goal.returns
 returns g c = elim c.match-command.branch [
+  | in-Names w ↦ run_as c.args.analyst.now c.match-command.analyst w.show_names.new.self c.args.command _ c.match-command.out w.put_head.new.out w.in-Names.is w.analyst-is w.out-is
+      (names_ran c.args.analyst.now w.show_names.new.self w.in-Names.on w.put_head.new.out w.show_names.ensures w.put_head.ensures.bytes)
+  | in-Quit w ↦ absurd (never_quit c.args.command c.requires.command w.in-Quit.is)
   | in-Edit w ↦ run_as c.args.analyst.now c.match-command.analyst w.edit.new.self c.args.command _ c.match-command.out w.put_edit.new.out w.in-Edit.is w.analyst-is w.out-is
       (subst (IsRun c.args.analyst.now w.edit.new.self (Ok (commands.Edit w.in-Edit.edit))) (sym w.put_edit.ensures)
       (edit_ran c.args.analyst.now w.edit.new.self (commands.Edit w.in-Edit.edit) _ refl refl w.edit.result w.edit.ensures))

@@ -2,7 +2,7 @@ use Rattle.std.proofs.Common.{◌≡◌, ◌∙◌, ◌<◌, ◌++◌, ◌∷◌
 use Rattle.std.proofs.lemmas.Option.{get_or_from_slice_get}
 use Rattle.hd_terms.specs.declared.Event.{Event}
 use Rattle.hd_terms.specs.Log.{is_live, live_flags}
-use Rattle.hd_words.specs.declared.row_lines.EventRow.{EventRow}
+use Rattle.hd_words.specs.declared.event_lines.EventRow.{EventRow}
 use Rattle.hd_analyst.proofs.EventRows.{flag_at, length-flags, row_push, rows_all}
 use Rattle.hd_analyst.proofs.texts.event_rows.Goals as goal
 

@@ -1,7 +1,7 @@
-use Rattle.std.proofs.Common.{◌∙◌, List, map, ap}
-use Rattle.hd_terms.specs.Replies.{answered}
+use Rattle.std.proofs.Common.{◌∙◌, ℕ, List, map, ap}
+use Rattle.hd_lines.specs.Replies.{answered, first_lines}
 use Rattle.hd_words.specs.EventLines.{event_line}
-use Rattle.hd_words.specs.declared.row_lines.EventRow.{EventRow}
+use Rattle.hd_words.specs.declared.event_lines.EventRow.{EventRow}
 use Rattle.hd_analyst.specs.EventRows.{event_rows}
 use Rattle.hd_analyst.proofs.EventRows.{lines_of_rows}
 use Rattle.hd_analyst.proofs.texts.events_text.Goals as goal
@@ -9,5 +9,5 @@ use Rattle.hd_analyst.proofs.texts.events_text.Goals as goal
 pub returns : goal.returns
 returns c =
     c.in_ok-text.ensures
-    ∙ ap (λ (rows : List EventRow). answered (map event_line rows)) (c.as_slice.ensures.value ∙ c.in_ok-rows.ensures ∙ ap event_rows c.front.ensures)
-    ∙ ap answered (lines_of_rows c.args.state.now.log)
+    ∙ ap (λ (rows : List EventRow). answered (first_lines c.args.showing.most (map event_line rows))) (c.as_slice.ensures.value ∙ c.in_ok-rows.ensures ∙ ap event_rows c.front.ensures)
+    ∙ ap (λ (lines : List (List ℕ)). answered (first_lines c.args.showing.most lines)) (lines_of_rows c.args.state.now.log)

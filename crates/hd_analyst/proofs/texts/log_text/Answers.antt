@@ -1,8 +1,8 @@
 use Rattle.std.proofs.Common.{◌≡◌, ◌∙◌, ◌++◌, [], ℕ, List, map, string_bytes, ap}
 use Rattle.std.specs.List.{flat_map}
-use Rattle.hd_terms.specs.Replies.{with_newline}
+use Rattle.hd_lines.specs.Replies.{with_newline}
 use Rattle.hd_words.specs.EventLines.{event_line}
-use Rattle.hd_words.specs.declared.row_lines.EventRow.{EventRow}
+use Rattle.hd_words.specs.declared.event_lines.EventRow.{EventRow}
 use Rattle.hd_analyst.proofs.EventRows.{lines_of_rows}
 use Rattle.hd_analyst.proofs.texts.log_text.Goals as goal
 

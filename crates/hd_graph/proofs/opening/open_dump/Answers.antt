@@ -1,25 +1,24 @@
 use Rattle.std.proofs.Common.{inl, refl}
 use Rattle.std.proofs.lemmas.Result.{err_from_is_err_and}
-use Rattle.hd_graph.proofs.OpenLemmas.{texts-within, bodies-fault, class-fault, records-fault}
+use Rattle.hd_graph.proofs.OpenLemmas.{texts-within, class-fault}
 use Rattle.hd_graph.proofs.opening.open_dump.Goals as goal
 
 pub returns-in_err-records-clause-err : goal.returns-in_err-records-clause-err
 returns-in_err-records-clause-err g c =
     let p = err_from_is_err_and c.from_residual.result c.from_residual.ensures.1 in
-    rw (p.1, p.2) (records-fault c.args.bytes.now c.in_err-records.field-0.0 c.in_err-records.ensures.err)
+    rw (p.1, p.2) c.in_err-records.ensures.err
 
 pub build-requires : goal.build-requires
-build-requires g c = record { within = texts-within c.args.bytes.now c.in_ok-records.records.id_size _ _ c.in_ok-records.records.segments c.in_ok-records.ensures.ok; texts = rw c.in_ok-texts.was at c.texts_and_subs-texts.ensures.texts }
-
-pub returns-in_err-list-clause-err : goal.returns-in_err-list-clause-err
-returns-in_err-list-clause-err g c =
-    let p = err_from_is_err_and c.from_residual-in_err-list.result c.from_residual-in_err-list.ensures.1 in
-    rw (p.1, p.2) (bodies-fault c.args.bytes.now c.in_ok-records.records.id_size _ _ c.in_ok-records.records.segments c.in_ok-records.ensures.ok c.in_err-list.field-0.0 (rw c.in_err-list.was at c.texts_and_subs-texts.ensures.err))
+build-requires g c = record {
+  within = texts-within c.args.bytes.now c.in_ok-records.records.id_size _ _ c.in_ok-records.records.segments c.in_ok-records.ensures.records;
+  texts = c.in_ok-records.ensures.texts;
+}
 
 pub returns-in_err-classes-clause-err : goal.returns-in_err-classes-clause-err
 returns-in_err-classes-clause-err g c =
+    let r = c.in_ok-records in
     let p = err_from_is_err_and c.from_residual-in_err-classes.result c.from_residual-in_err-classes.ensures.1 in
-    rw (p.1, p.2) (class-fault c.args.bytes.now c.in_ok-records.records.id_size _ _ c.in_ok-records.records.segments c.in_ok-records.ensures.ok c.in_ok-list.list (rw c.in_ok-list.was at c.texts_and_subs-texts.ensures.list) c.in_err-classes.field-0.0 c.in_err-classes.ensures.err)
+    rw (p.1, p.2) (class-fault c.args.bytes.now r.records.id_size _ _ r.records.segments r.ensures.records r.list r.ensures.list c.in_err-classes.field-0.0 c.in_err-classes.ensures.err)
 
 pub returns-in_err-graph-clause-err : goal.returns-in_err-graph-clause-err
 returns-in_err-graph-clause-err g c =

@@ -1,6 +1,6 @@
 use Rattle.std.proofs.Common.{◌≡◌, ◌∙◌, Err, sym, ap, subst}
 use Rattle.std.proofs.lemmas.Result.{err_from_is_err_and}
-use Rattle.hd_terms.specs.Lines.{command_of}
+use Rattle.hd_lines.specs.Lines.{command_of}
 use Rattle.hd_analyst.specs.Answering.{IsAnswered}
 use Rattle.hd_protocol.proofs.LineLemmas.{line_fault, line_done}
 use Rattle.hd_protocol.proofs.serving.run_line.Goals as goal

@@ -1,15 +1,16 @@
 use Rattle.std.proofs.Common.{◌≡◌, ◌≢◌, ℕ, ◌≤◌, false, List, [], ◌∷◌, ◌++◌, length, lit<, lit≤, sym, ap, refl, ◌∙◌, ◌+◌, arith}
 use Rattle.std.proofs.lemmas.List.{length-append, append-nil}
-use Rattle.std.specs.List.{flat_map}
+use Rattle.std.specs.Prelude.{codes}
+use Rattle.std.specs.List.{flat_map, AllByRecursion}
 use Rattle.byteorder.specs.Endian.{big_number}
 use Rattle.hd_terms.specs.declared.IdSize.TheVariants as sizes
 use Rattle.hd_terms.specs.declared.RootKind.TheVariants as roots
 use Rattle.hd_terms.specs.declared.errors.Cause.TheVariants as causes
 use Rattle.hd_terms.specs.Records.{Record}
 use Rattle.hd_terms.specs.Types.{is_type}
-use Rattle.hd_terms.specs.SubRecords.{SubRecord, RootOf, ClassDump, ObjectArray, PrimitiveArray, sub_record_text, Counted, IsCounted, ClassValue, IsClassValue, ClassField, IsClassField, ClassHead, IsClassHead, class_head_text, value_text}
+use Rattle.hd_terms.specs.SubRecords.{SubRecord, RootOf, ClassDump, ObjectArray, PrimitiveArray, sub_record_text, IsSubRecord, Counted, IsCounted, ClassValue, IsClassValue, ClassField, IsClassField, ClassHead, IsClassHead, class_head_text, value_text}
 use Rattle.hd_terms.specs.ReadFaults.{IsReadFault, fault, IsBeforeType, IsStuck, in_sub_records}
-use Rattle.hd_terms.specs.Examples.{head_of, segment_head, four, two, name, class_front, class_constants, class_statics}
+use Rattle.hd_terms.specs.Examples.{head_of, segment_head, four, narrow, two, name, class_front, class_constants, class_statics}
 use Rattle.hd_terms.proofs.examples.class_examples.Goals as goal
 
 -- a list with an element isn't empty
@@ -79,6 +80,21 @@ class_subs =
     ∷ PrimitiveArray (four 6) (four 0) (four 2) 0x0a (four 1 ++ four 2)
     ∷ []
 
+class_subs_are : AllByRecursion (IsSubRecord sizes.Four) class_subs
+class_subs_are = (
+  (refl, refl),
+  (
+    (head_is, constants_are, statics_are, no_fields_are),
+    (
+      (refl, refl, refl, refl, record { many = refl; each = tt }),
+      (
+        (refl, refl, refl, refl, record { many = refl; each = tt }),
+        ((refl, refl, refl, refl, record { many = refl; each = tt }), ((refl, refl, refl, refl, refl), tt)),
+      ),
+    ),
+  ),
+)
+
 pub returns-clause-class_object_and_primitive_array : goal.returns-clause-class_object_and_primitive_array
 returns-clause-class_object_and_primitive_array c = record {
   size = sizes.Four;
@@ -87,30 +103,55 @@ returns-clause-class_object_and_primitive_array c = record {
   reads = record {
     header = record { fits = lit≤ tt; long = lit≤ tt; magic = refl; id_size = refl };
     whole = record { whole = refl; each = (record { framed = record { time = refl; size = refl; body = refl }; fields = lit≤ tt }, tt) };
-    bodies = (
-      record {
-        whole = refl;
-        each = (
-          (refl, refl),
-          (
-            (head_is, constants_are, statics_are, no_fields_are),
-            (
-              (refl, refl, refl, refl, record { many = refl; each = tt }),
-              (
-                (refl, refl, refl, refl, record { many = refl; each = tt }),
-                ((refl, refl, refl, refl, record { many = refl; each = tt }), ((refl, refl, refl, refl, refl), tt)),
-              ),
-            ),
-          ),
-        );
-      },
-      tt,
-    );
+    bodies = (record { whole = refl; each = class_subs_are }, tt);
     classes = refl;
     objects = refl;
   };
   is = refl;
 }
+
+-- a text, and the load of a class
+abbrev text : ℕ → List ℕ → Record
+text id bytes = record { tag = 0x01; time = four 0; size = four (4 + length bytes); body = narrow id ++ bytes }
+
+abbrev load : ℕ → ℕ → Record
+load class name = record { tag = 0x02; time = four 0; size = four 16; body = four 1 ++ narrow class ++ four 0 ++ narrow name }
+
+pub returns-clause-named_statics : goal.returns-clause-named_statics
+returns-clause-named_statics c = record {
+  size = sizes.Four;
+  records = text 0x201 (codes "size") ∷ text 0x202 (codes "cache") ∷ text 0x301 (codes "Store") ∷ load 0x11 0x301 ∷ segment 0x92 (flat_map sub_record_text class_subs) ∷ [];
+  segments = class_subs ∷ [];
+  reads = record {
+    header = record { fits = lit≤ tt; long = lit≤ tt; magic = refl; id_size = refl };
+    whole = record {
+      whole = refl;
+      each = (
+        record { framed = record { time = refl; size = refl; body = refl }; fields = lit≤ tt },
+        (
+          record { framed = record { time = refl; size = refl; body = refl }; fields = lit≤ tt },
+          (
+            record { framed = record { time = refl; size = refl; body = refl }; fields = lit≤ tt },
+            (record { framed = record { time = refl; size = refl; body = refl }; fields = lit≤ tt }, (record { framed = record { time = refl; size = refl; body = refl }; fields = lit≤ tt }, tt)),
+          ),
+        ),
+      );
+    };
+    bodies = (record { whole = refl; each = class_subs_are }, tt);
+    classes = refl;
+    objects = refl;
+  };
+  is = refl;
+}
+
+pub returns-clause-static_name : goal.returns-clause-static_name
+returns-clause-static_name c = refl
+
+pub returns-clause-no_such_static : goal.returns-clause-no_such_static
+returns-clause-no_such_static c = refl
+
+pub returns-clause-static_without_name : goal.returns-clause-static_without_name
+returns-clause-static_without_name c = refl
 
 pub returns-clause-counts : goal.returns-clause-counts
 returns-clause-counts c = refl

@@ -1,6 +1,6 @@
 use Rattle.std.proofs.Common.{◌∙◌, ◌++◌, string_bytes, ap, sym, arith}
 use Rattle.std.proofs.lemmas.List.Folds.{flat_map-map}
-use Rattle.hd_terms.specs.Replies.{with_newline}
+use Rattle.hd_lines.specs.Replies.{with_newline}
 use Rattle.hd_words.proofs.FlatMaps.{flat_all}
 use Rattle.hd_words.proofs.lines.put_lines.Goals as goal
 

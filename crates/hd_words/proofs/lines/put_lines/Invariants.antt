@@ -1,6 +1,6 @@
 use Rattle.std.proofs.Common.{◌≡◌, ◌++◌, take, string_bytes}
 use Rattle.std.specs.List.{flat_map}
-use Rattle.hd_terms.specs.Replies.{with_newline}
+use Rattle.hd_lines.specs.Replies.{with_newline}
 use Rattle.hd_words.proofs.lines.put_lines.Given as goal
 
 -- the lines so far are put

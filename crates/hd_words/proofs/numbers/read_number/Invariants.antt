@@ -1,6 +1,6 @@
 use Rattle.std.proofs.Common.{◌≡◌, ◌^◌, ◌*◌, ◌<◌, Some, drop}
 use Rattle.std.specs.Prelude.{fold}
-use Rattle.hd_terms.specs.Lines.{with_digit, number_in}
+use Rattle.hd_lines.specs.Lines.{with_digit, number_in}
 use Rattle.hd_words.proofs.numbers.read_number.Given as goal
 
 -- the digits that are left give the number, and it is small enough

@@ -1,6 +1,7 @@
 use Rattle.std.proofs.Common.{◌≡◌, ◌∙◌, sym, ap, subst}
 use Rattle.hd_terms.specs.declared.What.TheVariants as whats
-use Rattle.hd_terms.specs.Asking.{edit_refusal, unless_refused}
+use Rattle.hd_lines.specs.Asking.{unless_refused}
+use Rattle.hd_terms.specs.Refusals.{edit_refusal}
 use Rattle.hd_analyst.specs.AnalystInside.{work_of}
 use Rattle.hd_analyst.specs.Editing.{EditEnds}
 use Rattle.hd_analyst.proofs.EditLemmas.{edit_answer, edit_ends, with_desk}

@@ -10,7 +10,7 @@ use Rattle.hd_analyst.proofs.analyst.Analyst.go_back.Goals as goal
 
 -- the desk to which the part goes back, with no part
 abbrev gone : Inside → PrivatePart → Option PrivatePart → Inside
-gone a part private = record { board = a.board; desk = part.home; marks = a.marks; private = private }
+gone a part private = record a { desk = part.home; private = private }
 
 goes_back : (old : Work) (a : Inside) (part : PrivatePart) (private : Option PrivatePart) (k : ℕ) → work_of a ≡ old → IsPartOf a.desk a.private → Some part ≡ a.private → private ≡ None
     → k ≡ length a.desk.seen - length part.home.seen → GoesBack old (work_of (gone a part private)) k
@@ -23,7 +23,7 @@ goes_back old a part private k view inv was none is =
       number = is ∙ sym (length-drop (length part.home.seen) a.desk.seen);
       ended = record {
         same_analyst = same_at a.board.now a.desk part.home p.0 p.1;
-        memory_is = ap (λ (x : Option PrivatePart). memory_at part.home.seen a.marks.items (home_of x)) none;
+        memory_is = ap (λ (x : Option PrivatePart). memory_at part.home.seen a.marks.items (home_of x) a.names) none;
       };
     })
 

@@ -1,5 +1,5 @@
 use Rattle.std.proofs.Common.{◌≡◌, ◌∙◌, ℕ, Option, None, Some, Result, sym, ap, subst}
-use Rattle.hd_terms.specs.Asking.{undo_asked}
+use Rattle.hd_lines.specs.Asking.{undo_asked}
 use Rattle.hd_terms.specs.Log.{IsLawful}
 use Rattle.hd_state.specs.declared.state.Done.{Done}
 use Rattle.hd_analyst.specs.declared.analyst.Analyst.TheInside.{Inside}

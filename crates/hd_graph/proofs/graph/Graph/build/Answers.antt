@@ -2,7 +2,7 @@ use Rattle.std.proofs.Common.{◌∙◌, inl, refl, ap}
 use Rattle.std.proofs.lemmas.Result.{err_from_is_err_and}
 use Rattle.hd_classes.specs.declared.repeats.RepeatedRecords.{RepeatedRecords}
 use Rattle.hd_graph.specs.Building.{columns}
-use Rattle.hd_graph.proofs.OpenLemmas.{names-within, list-within, few-and-short, object-fault, few-ids, few-roots, whole-columns, small-shapes, opened}
+use Rattle.hd_graph.proofs.OpenLemmas.{names-within, list-within, few-and-short, object-fault, few-ids, few-roots, whole-columns, small-shapes, opened, opened-named}
 use Rattle.hd_graph.proofs.graph.Graph.build.Goals as goal
 
 pub names_of-requires : goal.names_of-requires
@@ -43,3 +43,6 @@ new-requires-clause-few_roots g c = few-roots c.args.bytes.now c.args.records.id
 
 pub returns-clause-ok : goal.returns-clause-ok
 returns-clause-ok g c = rw (c.new.ensures, c.in_ok-slot_table-2.ensures) (opened c.args.bytes.now c.args.records.id_size _ _ c.args.records.segments c.requires.records c.args.list c.requires.list c.args.classes c.requires.classes c.requires.no_cycle _ _ _ (rw c.without_names-classes.ensures at c.in_ok-numbered.ensures.numbers) (columns c.in_ok-slot_table.field-0.slot_table c.in_ok-slot_table.field-0.shapes.objects) (rw c.without_names-classes.ensures at c.in_ok-slot_table.ensures) c.args.mode _ c.in_ok-names.ensures _ _ (ap (λ (r : RepeatedRecords). r.texts) (c.repeated-texts.ensures ∙ c.requires.classes.repeated)) (ap (λ (r : RepeatedRecords). r.loads) (c.repeated-texts.ensures ∙ c.requires.classes.repeated)))
+
+pub returns-clause-named : goal.returns-clause-named
+returns-clause-named g c = rw (c.new.ensures, c.in_ok-slot_table-2.ensures) (opened-named c.args.bytes.now c.args.records.id_size _ _ c.args.records.segments c.requires.records c.args.list c.requires.list c.args.classes c.requires.classes c.requires.no_cycle _ _ _ (rw c.without_names-classes.ensures at c.in_ok-numbered.ensures.numbers) (columns c.in_ok-slot_table.field-0.slot_table c.in_ok-slot_table.field-0.shapes.objects) (rw c.without_names-classes.ensures at c.in_ok-slot_table.ensures) c.args.mode _ c.in_ok-names.ensures _ _ (ap (λ (r : RepeatedRecords). r.texts) (c.repeated-texts.ensures ∙ c.requires.classes.repeated)) (ap (λ (r : RepeatedRecords). r.loads) (c.repeated-texts.ensures ∙ c.requires.classes.repeated)))

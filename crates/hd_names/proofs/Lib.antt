@@ -1,0 +1,4 @@
+mod ListLemmas
+pub mod TableLemmas
+mod FieldLemmas
+pub mod NamedLemmas

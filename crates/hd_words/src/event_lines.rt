@@ -1,0 +1,34 @@
+//! How events are written as lines.
+ghost use Rattle.hd_words.specs.EventLines.{event_line};
+
+use crate::event_words::put_what;
+use crate::lines::LineFormat;
+use hd_terms::Event;
+use std::alloc::AllocError;
+use std::fmt::Write;
+
+/// An event with its number, and whether it is live.
+#[derive(Clone, Copy)]
+pub struct EventRow {
+    pub number: u32,
+    pub event: Event,
+    pub live: bool,
+}
+
+/// Events as lines: `E WHO EDIT live`, `E WHO EDIT undone` or `E WHO undo K`.
+pub struct EventLines;
+
+impl LineFormat for EventLines {
+    type Row = EventRow;
+
+    ghost can_write = { λ _ _. Unit {0} };
+
+    ghost line = { λ _ row. event_line row };
+
+    fn put(&self, text: &mut String, row: &EventRow) -> Result<(), AllocError> {
+        let number = row.number;
+        let who = row.event.who;
+        write!(text, "{number} {who} ")?;
+        put_what(text, row.event.what, row.live)
+    }
+}
