@@ -10,6 +10,7 @@ It checks that
 - a cut of the one reference to the leaked session lets fall that session and what it alone holds, and nothing else,
   and an undo brings all of it back;
 - `freed` and `moved` count what that cut let fall, and `top` has the lines of `classes`, most bytes first;
+- `find` counts the objects of each class by strength, as `classes` does;
 - with names on, the end of the session's chain names the fields and classes of Planted.java that hold it.
 
 It ends at the first check that doesn't hold.
@@ -126,6 +127,19 @@ def check_top(analyst: Session, report: Report) -> None:
     report.check(analyst.rows("head 3 top STRONG") == top[:3], "head shows the first of them")
 
 
+def check_find(analyst: Session, report: Report, text: str) -> None:
+    """The lines of `find` against those of `classes`; a class without objects has no line there."""
+    counts: dict[str, list[str]] = {}
+    for column, strength in enumerate(STRENGTHS):
+        for group, count, _, name in analyst.rows(f"classes {strength}"):
+            if text in name:
+                counts.setdefault(group, ["0"] * 6 + [name])[column] = count
+    found = {group: line for group, *line in analyst.rows(f"find {text}")}
+    report.check(counts.items() <= found.items(), f"find {text} has the {len(counts)} classes with objects, counted by strength")
+    others = [line for group, line in found.items() if group not in counts]
+    report.check(all(line[:6] == ["0"] * 6 and text in line[6] for line in others), f"its {len(others)} others have none")
+
+
 def check_leak(analyst: Session, report: Report) -> None:
     session = only_member(analyst, "Session", "STRONG")
     holders = analyst.rows(f"into {session}")
@@ -152,6 +166,8 @@ def hunt(given: argparse.Namespace, report: Report) -> None:
         check_leak(analyst, report)
         check_names(analyst, report)
         check_top(analyst, report)
+        for text in ("Planted", "java/util/", "[]"):
+            check_find(analyst, report, text)
         analyst.quit()
 
 

@@ -130,7 +130,7 @@ class Sample(Model):
         "strength 0x2", "cut 0x1 e0", "strength 0x2", "slots 0x1", "undo", "strength 0x2", "mark", "chain 0x2", "into 0x2",
         "classes STRONG", "members 0x0 STRONG", "fell 0", "fell 1", "private", "cut 0x1 e0", "strength 0x2", "events",
         "freed 0", "moved 0", "names on", "slots 0x1", "back", "chain 0x2", "into 0x2", "names off", "back", "strength 0x2",
-        "top STRONG", "object 0x2", "head 1 slots 0x1", "freed 1", "moved 1", "roots", "quit",
+        "top STRONG", "find ?", "object 0x2", "head 1 slots 0x1", "freed 1", "moved 1", "roots", "quit",
     ]
     OBJECT = "0x2"
 
@@ -189,6 +189,7 @@ class Sample(Model):
             "object 0x2": [f"0x0 0 {self.strength()} ?"],
             "classes STRONG": [f"0x0 {1 + up} 12 ?"],
             "top STRONG": [f"0x0 {1 + up} 12 ?"],
+            "find ?": [f"0x0 {1 + up} 0 0 0 0 {1 - up} ?"],
             "members 0x0 STRONG": ["0x1"] + ["0x2"] * up,
             "events": self.event_lines(),
             "back": ["no NotPrivate"],

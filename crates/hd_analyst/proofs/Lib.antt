@@ -1,5 +1,6 @@
 pub mod AnswerLemmas
 pub mod EditLemmas
+pub mod FoundLemmas
 pub mod QueryLemmas
 pub mod EventRows
 pub mod ChainReplies

@@ -11,7 +11,7 @@ use Rattle.hd_lines.specs.declared.commands.LineFault.{LineFault}
 use Rattle.hd_lines.specs.declared.commands.Query.{Query}
 use Rattle.hd_lines.specs.declared.commands.Query.TheVariants as queries
 use Rattle.hd_terms.specs.Dump.{Dump}
-use Rattle.hd_lines.specs.Lines.{command_of}
+use Rattle.hd_lines.specs.Lines.{command_of, last_word}
 use Rattle.hd_lines.specs.Memory.{Memory}
 use Rattle.hd_lines.specs.Replies.{Answer, IsUnserved, RepliesTo, first_lines, no_such_mark, no_such_object, refused, refusal_name, refreshes}
 use Rattle.hd_lines.specs.Sessions.{IsTurn, answered, unserved}
@@ -23,10 +23,10 @@ use Rattle.hd_analyst.specs.Replying.{IsQueryReply, IsWritten}
 use Rattle.hd_analyst.specs.Work.{Work, logs_of, memory_at}
 
 -- the reply to another query that is the same
-pub answers_as : (state : Solution) (marks : List Situation) (showing : Showing) (query same : Query) (reply told : List ℕ) → query ≡ same → reply ≡ told
-    → IsQueryReply state marks showing same told → IsQueryReply state marks showing query reply
-answers_as state marks showing query same reply told p q h =
-    subst (λ (c : Query). IsQueryReply state marks showing c reply) (sym p) (subst (IsQueryReply state marks showing same) (sym q) h)
+pub answers_as : (state : Solution) (marks : List Situation) (showing : Showing) (text : List ℕ) (query same : Query) (reply told : List ℕ) → query ≡ same → reply ≡ told
+    → IsQueryReply state marks showing text same told → IsQueryReply state marks showing text query reply
+answers_as state marks showing text query same reply told p q h =
+    subst (λ (c : Query). IsQueryReply state marks showing text c reply) (sym p) (subst (IsQueryReply state marks showing text same) (sym q) h)
 
 module _ (Answers : Option ℕ → Answer → Type 0) (most : Option ℕ) where
   -- an answer about an object that is found, or about none
@@ -69,9 +69,9 @@ abbrev memory_of : List Event → List (List Event) → Option (List Event) → 
 memory_of log marks home names = record { log = log; marks = marks; home = home; names = names }
 
 -- a reading that changes nothing
-leaves : (w : Work) (reading : Result Command LineFault) (reply : List ℕ)
-    → ((line : List ℕ) → command_of line ≡ reading → IsTurn w.analyst (turn_of line w.memory w.memory.log w.memory reply)) → IsRun w w reading reply
-leaves w reading reply turn = record {
+leaves : (w : Work) (text : List ℕ) (reading : Result Command LineFault) (reply : List ℕ)
+    → ((line : List ℕ) → command_of line ≡ reading → last_word line ≡ text → IsTurn w.analyst (turn_of line w.memory w.memory.log w.memory reply)) → IsRun w w text reading reply
+leaves w text reading reply turn = record {
   same_analyst = refl;
   found = w.memory.log;
   later = λ law. record { more = []; begins = sym (append-nil w.memory.log); same_own = refl; lawful = law };
@@ -85,16 +85,16 @@ memory_is log marks names m p q r =
     ∙ ap (memory_of m.log m.marks m.home) r
 
 -- a query is answered
-pub query_run : (w : Work) (state : Solution) (marks : List Situation) (showing : Showing) (query : Query) (reply : List ℕ) → state.dump ≡ w.analyst.dump → state.log ≡ w.front → w.front ≡ w.memory.log
-    → logs_of marks ≡ w.memory.marks → showing.names ≡ w.memory.names → IsQueryReply state marks showing query reply → IsRun w w (Ok (commands.Ask showing.most query)) reply
-query_run w state marks showing query reply dump log front logs names h =
-    leaves w (Ok (commands.Ask showing.most query)) reply (λ line spells.
+pub query_run : (w : Work) (state : Solution) (marks : List Situation) (showing : Showing) (text : List ℕ) (query : Query) (reply : List ℕ) → state.dump ≡ w.analyst.dump → state.log ≡ w.front → w.front ≡ w.memory.log
+    → logs_of marks ≡ w.memory.marks → showing.names ≡ w.memory.names → IsQueryReply state marks showing text query reply → IsRun w w text (Ok (commands.Ask showing.most query)) reply
+query_run w state marks showing text query reply dump log front logs names h =
+    leaves w text (Ok (commands.Ask showing.most query)) reply (λ line spells last.
     let c : Result Command LineFault = Ok (commands.Ask showing.most query) in
     let m : memory_at state.log marks w.memory.home showing.names ≡ w.memory = memory_is state.log marks showing.names w.memory (log ∙ front) logs names in
-    let r : RepliesTo w.analyst.dump w.memory c reply = subst (λ d. RepliesTo d w.memory c reply) dump (subst (λ x. RepliesTo state.dump x c reply) m (h w.memory.home)) in
-    answered (subst (λ x. RepliesTo w.analyst.dump w.memory x reply) (sym spells) r) refl refl)
+    let r : RepliesTo w.analyst.dump w.memory text c reply = subst (λ d. RepliesTo d w.memory text c reply) dump (subst (λ x. RepliesTo state.dump x text c reply) m (h w.memory.home)) in
+    answered (subst (λ word. RepliesTo w.analyst.dump w.memory word (command_of line) reply) (sym last) (subst (λ x. RepliesTo w.analyst.dump w.memory text x reply) (sym spells) r)) refl refl)
 
 -- a query isn't run
-pub query_unserved : (w : Work) (most : Option ℕ) (query : Query) (reply : List ℕ) → IsUnserved reply → IsRun w w (Ok (commands.Ask most query)) reply
-query_unserved w most query reply h =
-    leaves w (Ok (commands.Ask most query)) reply (λ line spells. unserved (ap refreshes spells) h refl refl)
+pub query_unserved : (w : Work) (most : Option ℕ) (text : List ℕ) (query : Query) (reply : List ℕ) → IsUnserved reply → IsRun w w text (Ok (commands.Ask most query)) reply
+query_unserved w most text query reply h =
+    leaves w text (Ok (commands.Ask most query)) reply (λ line spells last. unserved (ap refreshes spells) h refl refl)

@@ -2,8 +2,8 @@
 -- Source: this project's protocol (docs/PROTOCOL.md).
 use Rattle.std.specs.Prelude.{ℕ, Bool, List, [], ◌∷◌, ◌++◌, map}
 use Rattle.hd_terms.specs.Dump.{Dump, object_at}
-use Rattle.hd_lines.specs.Names.{id_text, slot_place, with_columns}
-use Rattle.hd_lines.specs.Replies.{chain_start, kind_name, name_at, slot_name}
+use Rattle.hd_lines.specs.Names.{id_text, name_at, slot_place, with_columns}
+use Rattle.hd_lines.specs.Replies.{chain_start, kind_name, slot_name}
 use Rattle.hd_queries.specs.declared.chain.Chain.{Chain}
 use Rattle.hd_queries.specs.declared.chain.Link.{Link}
 use Rattle.hd_queries.specs.ChainFound.{root_of}

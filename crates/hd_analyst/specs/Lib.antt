@@ -6,3 +6,4 @@ pub mod Editing
 pub mod Answering
 pub mod EventRows
 pub mod ChainLines
+pub mod Found

@@ -44,7 +44,7 @@ abbrev pub MarkEnds : (old new : Work) → Result ℕ Refusal → Type 0
 MarkEnds old new (Ok m) = Marks old new m
 MarkEnds old new (Err r) = Remembers old new old.memory × IsWhyNoMark old r
 
--- a private part begins where none is open, after so many events
+-- a private part begins where none is open, after `n` events
 pub record GoesPrivate (old new : Work) (n : ℕ) : Type 0 where
   pub none_open : old.memory.home ≡ None
   pub number : n ≡ length old.memory.log
@@ -59,7 +59,7 @@ abbrev pub PrivateEnds : (old new : Work) → Result ℕ Refusal → Type 0
 PrivateEnds old new (Ok n) = GoesPrivate old new n
 PrivateEnds old new (Err r) = Remembers old new old.memory × IsWhyNotPrivate old r
 
--- the private part ends that was open, after so many events of its own
+-- the private part ends that was open, after `k` events of its own
 pub record GoesBack (old new : Work) (k : ℕ) : Type 0 where
   pub home : List Event
   pub was_open : old.memory.home ≡ Some home

@@ -13,15 +13,15 @@ use Rattle.hd_analyst.specs.Work.{memory_at}
 abbrev pub answered_head : ℕ → List ℕ
 answered_head lines = with_newline (codes "ok " ++ decimal lines)
 
--- so many lines of such an answer, as they are written
+-- the first `most` lines of such an answer, all without a number, as they are written
 abbrev pub IsWritten : (Is : Answer → Type 0) → (most : Option ℕ) → List ℕ → Type 0
 IsWritten Is most text = (answer : Answer) × Is answer × (text ≡ answer_text most answer)
 
--- the reply to a query under a state and marks, in a private part or not
-abbrev pub IsQueryReply : (state : Solution) → (marks : List Situation) → Showing → Query → List ℕ → Type 0
-IsQueryReply state marks showing query reply = (home : Option (List Event)) → RepliesQuery state.dump (memory_at state.log marks home showing.names) showing.most query reply
+-- the reply to a query with the last word of its line, under a state and marks, in a private part or not
+abbrev pub IsQueryReply : (state : Solution) → (marks : List Situation) → Showing → (text : List ℕ) → Query → List ℕ → Type 0
+IsQueryReply state marks showing text query reply = (home : Option (List Event)) → RepliesQuery state.dump (memory_at state.log marks home showing.names) text showing.most query reply
 
 -- the reply is given back as a text, or where it is short it is put into a buffer
-abbrev pub IsAnswerIn : (state : Solution) → (marks : List Situation) → Showing → Query → (text : Option (List ℕ)) → (buffer : List ℕ) → Type 0
-IsAnswerIn state marks showing query None buffer = IsQueryReply state marks showing query buffer
-IsAnswerIn state marks showing query (Some text) buffer = IsQueryReply state marks showing query text
+abbrev pub IsAnswerIn : (state : Solution) → (marks : List Situation) → Showing → (text : List ℕ) → Query → (given : Option (List ℕ)) → (buffer : List ℕ) → Type 0
+IsAnswerIn state marks showing text query None buffer = IsQueryReply state marks showing text query buffer
+IsAnswerIn state marks showing text query (Some given) buffer = IsQueryReply state marks showing text query given

@@ -30,6 +30,6 @@ analyst_at board desk = record { dump = desk.dump; who = desk.who; roots = board
 abbrev pub situation_of : Replica → Situation
 situation_of desk = record { dump = desk.dump; log = desk.front }
 
--- a session of a desk at a board begins
-abbrev pub work_begun : Board → Replica → Work
-work_begun board desk = record { analyst = analyst_at board desk; memory = beginning desk.seen desk.front; front = desk.front }
+-- a session of a desk at a board begins, with names or without
+abbrev pub work_begun : Board → (names : Bool) → Replica → Work
+work_begun board names desk = record { analyst = analyst_at board desk; memory = beginning names desk.seen desk.front; front = desk.front }

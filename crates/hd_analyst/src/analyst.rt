@@ -94,17 +94,17 @@ pub(crate) fn board_in<'b>(board: &'b Board, private: &'b Option<PrivatePart>) -
 }
 
 impl<'a> Analyst<'a> {
-    /// A session of a desk at a board begins with these marks.
-    pub fn begin(board: &'a Board, desk: Desk, marks: Vec<Mark>) -> Analyst<'a>
+    /// A session of a desk at a board begins with these marks. Its replies show names, or they don't.
+    pub fn begin(board: &'a Board, desk: Desk, marks: Vec<Mark>, names: bool) -> Analyst<'a>
         requires { marks.items ≡ situation_of desk ∷ [] }
-        ensures { result ≡ work_begun board.now desk }
+        ensures { result ≡ work_begun board.now names desk }
     {
         Analyst {
             board,
             desk,
             marks,
             private: None,
-            names: false,
+            names,
         }
     }
 

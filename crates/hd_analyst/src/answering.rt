@@ -7,7 +7,7 @@ ghost use Rattle.hd_analyst.specs.Answering.{IsAnswered, IsRun};
 
 use crate::analyst::Analyst;
 use crate::fixed_buffer::FixedBuffer;
-use crate::query::answer_query;
+use crate::query::{Question, answer_query};
 use crate::reply::{
     LONGEST_REPLY, fault_name, put_edit, put_head, put_numbered, put_refused, refusal_text,
 };
@@ -17,21 +17,22 @@ use hd_terms::{LogFault, Refusal};
 use std::alloc::Global;
 use std::sync::Wait;
 
-/// Runs what a line spells, and answers it: a short reply is put in place of the bytes of `out`, a long one given back. Before a
-/// command other than `quit` the desk is refreshed.
+/// Runs what a line spells whose last word is `text`, and answers it: a short reply is put in place of the bytes of `out`, a long
+/// one given back. Before a command other than `quit` the desk is refreshed.
 pub fn answer(
     rt: &impl Wait,
     alloc: Global,
     analyst: &mut Analyst<'_>,
     reading: Result<Command, LineFault>,
+    text: &[u8],
     out: &mut FixedBuffer<LONGEST_REPLY>,
 ) -> Option<String>
-    ensures { MatchOption result (IsAnswered analyst.old analyst.new reading out.new)
-        (λ text. IsAnswered analyst.old analyst.new reading (string_bytes text)) }
+    ensures { MatchOption result (IsAnswered analyst.old analyst.new text.now reading out.new)
+        (λ reply. IsAnswered analyst.old analyst.new text.now reading (string_bytes reply)) }
 {
     analyst.is_lawful();
     match reading {
-        Ok(command) => answer_command(rt, alloc, analyst, command, out),
+        Ok(command) => answer_command(rt, alloc, analyst, command, text, out),
         Err(fault) => {
             put_refused(out, fault_name(fault));
             None
@@ -45,11 +46,12 @@ fn answer_command(
     alloc: Global,
     analyst: &mut Analyst<'_>,
     command: Command,
+    text: &[u8],
     out: &mut FixedBuffer<LONGEST_REPLY>,
 ) -> Option<String>
     requires { IsLawful analyst.old.memory.log }
-    ensures { MatchOption result (IsAnswered analyst.old analyst.new (Ok command) out.new)
-        (λ text. IsAnswered analyst.old analyst.new (Ok command) (string_bytes text)) }
+    ensures { MatchOption result (IsAnswered analyst.old analyst.new text.now (Ok command) out.new)
+        (λ reply. IsAnswered analyst.old analyst.new text.now (Ok command) (string_bytes reply)) }
 {
     if let Command::Quit = command {
         put_head(out, 0);
@@ -59,7 +61,7 @@ fn answer_command(
         put_refused(out, refusal_text(refusal));
         return None;
     }
-    run_command(rt, alloc, analyst, command, out)
+    run_command(rt, alloc, analyst, command, text, out)
 }
 
 /// Runs a command for an analyst whose desk is refreshed, and answers it.
@@ -68,15 +70,16 @@ fn run_command(
     alloc: Global,
     analyst: &mut Analyst<'_>,
     command: Command,
+    text: &[u8],
     out: &mut FixedBuffer<LONGEST_REPLY>,
 ) -> Option<String>
     requires command { is_quit_command (Ok command) ≡ false }
     requires refreshed { analyst.old.front ≡ analyst.old.memory.log }
-    ensures { MatchOption result (IsRun analyst.old analyst.new (Ok command) out.new)
-        (λ text. IsRun analyst.old analyst.new (Ok command) (string_bytes text)) }
+    ensures { MatchOption result (IsRun analyst.old analyst.new text.now (Ok command) out.new)
+        (λ reply. IsRun analyst.old analyst.new text.now (Ok command) (string_bytes reply)) }
 {
     match command {
-        Command::Ask(most, query) => return run_query(alloc, analyst, query, most, out),
+        Command::Ask(most, query) => return run_query(alloc, analyst, query, most, text, out),
         Command::Names(on) => {
             analyst.show_names(on);
             put_head(out, 0);
@@ -91,24 +94,33 @@ fn run_command(
     None
 }
 
-/// Runs a query for an analyst whose desk is refreshed, and answers it with at most so many lines.
+/// Runs a query for an analyst whose desk is refreshed, and answers it with at most `most` lines.
 fn run_query(
     alloc: Global,
     analyst: &Analyst<'_>,
     query: Query,
     most: Option<u32>,
+    text: &[u8],
     out: &mut FixedBuffer<LONGEST_REPLY>,
 ) -> Option<String>
     requires { analyst.now.front ≡ analyst.now.memory.log }
-    ensures { MatchOption result (IsRun analyst.now analyst.now (Ok (commands.Ask most query)) out.new)
-        (λ text. IsRun analyst.now analyst.now (Ok (commands.Ask most query)) (string_bytes text)) }
+    ensures { MatchOption result (IsRun analyst.now analyst.now text.now (Ok (commands.Ask most query)) out.new)
+        (λ reply. IsRun analyst.now analyst.now text.now (Ok (commands.Ask most query)) (string_bytes reply)) }
 {
     let showing = Showing {
         names: analyst.names(),
         most,
     };
-    match answer_query(alloc, analyst.state(), analyst.marks(), query, showing, out) {
-        Ok(text) => text,
+    let question = Question { query, text };
+    match answer_query(
+        alloc,
+        analyst.state(),
+        analyst.marks(),
+        question,
+        showing,
+        out,
+    ) {
+        Ok(reply) => reply,
         Err(_) => {
             put_refused(out, refusal_text(Refusal::Log(LogFault::OutOfMemory)));
             None

@@ -33,7 +33,11 @@ impl LineFormat for ClassLines<'_> {
 }
 
 /// Puts the name of a group behind a text.
-fn put_group_name(text: &mut String, graph: &Graph, group: Group) -> Result<(), AllocError>
+pub(crate) fn put_group_name(
+    text: &mut String,
+    graph: &Graph,
+    group: Group,
+) -> Result<(), AllocError>
     ensures { OnOk result (string_bytes text.new ≡ string_bytes text.old ++ group_name graph.now group) }
 {
     match group {

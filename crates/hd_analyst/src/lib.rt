@@ -11,6 +11,7 @@
 //! - `reply.rt`: short replies of at most 256 bytes, and the names of refusals and faults.
 //! - `texts.rt`: answers of many lines, and `log_text`, the lines of a log alone, for the server to print. A `Showing` says
 //!   whether lines show names, and how many are written at most.
+//! - `found_lines.rt`: the answer to `find`. Each group's name is printed and searched for the text.
 //! - `row_lines.rt`, `link_lines.rt`, `class_lines.rt`, `object_lines.rt`: the line formats that need the graph, for names and
 //!   IDs. `naming.rt` puts the name of an object and the place of a slot.
 #![tactic(auto)]
@@ -20,6 +21,7 @@ mod answering;
 mod class_lines;
 mod edit;
 mod fixed_buffer;
+mod found_lines;
 mod link_lines;
 mod naming;
 mod object_lines;
@@ -31,6 +33,6 @@ mod texts;
 pub use analyst::{Analyst, first_marks};
 pub use answering::answer;
 pub use fixed_buffer::FixedBuffer;
-pub use query::reply_text;
+pub use query::{Question, reply_text};
 pub use reply::LONGEST_REPLY;
 pub use texts::{Showing, log_text};

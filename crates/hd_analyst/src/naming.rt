@@ -1,8 +1,7 @@
 //! Names of objects and places of slots, as further columns of lines.
 ghost use Rattle.std.specs.Prelude.{◌≡◌, ◌<◌, ◌++◌, length, string_bytes, OnOk};
 ghost use Rattle.std.specs.Option.{option_copied};
-ghost use Rattle.hd_lines.specs.Names.{name_of_id, place_of_field, place_of_slot, place_text, slot_place};
-ghost use Rattle.hd_lines.specs.Replies.{name_at};
+ghost use Rattle.hd_lines.specs.Names.{name_at, name_of_id, place_of_field, place_of_slot, place_text, slot_place};
 
 use hd_graph::Graph;
 use hd_terms::{Group, Slot};

@@ -8,6 +8,7 @@ ghost use Rattle.hd_state.specs.Situation.{Situation};
 ghost use Rattle.hd_analyst.specs.Replying.{IsAnswerIn, IsQueryReply, IsWritten};
 
 use crate::fixed_buffer::FixedBuffer;
+use crate::found_lines::find_text;
 use crate::reply::{LONGEST_REPLY, put_head, put_line, put_refused, refusal_text};
 use crate::texts::{
     Showing, chain_text, classes_text, events_text, fell_text, freed_text, into_text, members_text,
@@ -19,6 +20,15 @@ use hd_terms::{NoMemory, Refusal};
 use hd_words::strength_text;
 use std::alloc::Global;
 
+/// A query, as a line asks it.
+#[derive(Clone, Copy)]
+pub struct Question<'a> {
+    /// The query.
+    pub query: Query,
+    /// The last word of the line, which `find` looks for.
+    pub text: &'a [u8],
+}
+
 /// The reply to a query over a state, with marks of states over the same graph.
 ///
 /// # Errors
@@ -28,14 +38,14 @@ pub fn reply_text(
     alloc: Global,
     state: &State,
     marks: &[Mark],
-    query: Query,
+    question: Question<'_>,
     showing: Showing,
 ) -> Result<Vec<u8>, NoMemory>
     requires { All (λ (mark : Situation). mark.dump ≡ state.now.dump) marks.now }
-    ensures { IfOk result (λ text. IsQueryReply state.now marks.now showing query text.items) }
+    ensures { IfOk result (λ text. IsQueryReply state.now marks.now showing question.entry.text.now question.entry.query text.items) }
 {
     let mut buffer = FixedBuffer::new(alloc)?;
-    match answer_query(alloc, state, marks, query, showing, &mut buffer)? {
+    match answer_query(alloc, state, marks, question, showing, &mut buffer)? {
         Some(text) => Ok(text.into_bytes()),
         None => {
             let text = buffer.as_slice().to_vec(alloc)?;
@@ -53,14 +63,14 @@ pub(crate) fn answer_query(
     alloc: Global,
     state: &State,
     marks: &[Mark],
-    query: Query,
+    question: Question<'_>,
     showing: Showing,
     out: &mut FixedBuffer<LONGEST_REPLY>,
 ) -> Result<Option<String>, NoMemory>
     requires { All (λ (mark : Situation). mark.dump ≡ state.now.dump) marks.now }
-    ensures { IfOk result (λ text. IsAnswerIn state.now marks.now showing query (option_map string_bytes text) out.new) }
+    ensures { IfOk result (λ text. IsAnswerIn state.now marks.now showing question.entry.text.now question.entry.query (option_map string_bytes text) out.new) }
 {
-    let text = match query {
+    let text = match question.query {
         Query::Strength(id) => {
             put_strength(out, state, id, showing.most);
             return Ok(None);
@@ -98,6 +108,7 @@ pub(crate) fn answer_query(
             Some(mark) => moved_text(alloc, state, mark, showing)?,
             None => return Ok(None),
         },
+        Query::Find => find_text(alloc, state, question.text, showing)?,
     };
     Ok(Some(text))
 }

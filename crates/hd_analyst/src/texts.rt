@@ -103,7 +103,11 @@ pub(crate) fn chain_text(
             Ok(text)
         }
         None => {
-            let text = lines_text(alloc, &EventLines, &[], showing.most)?;
+            let format = LinkLines {
+                graph: state.graph(),
+                names: showing.names,
+            };
+            let text = lines_text(alloc, &format, &[], showing.most)?;
             Ok(text)
         }
     }

@@ -1,6 +1,6 @@
 //! The words that the program takes, as `clap` is told them.
 use crate::limits::{MOST_ANALYSTS, VERSION};
-use clap::{Arg, Command, value_parser};
+use clap::{Arg, ArgAction, Command, value_parser};
 use hd_terms::MOST_WORKERS;
 use std::alloc::{AllocError, Global};
 
@@ -41,6 +41,14 @@ fn phantom_option<'a>(alloc: Global) -> Arg<'a> {
         .help("How far phantom references are followed: to their referents, or to all behind these")
 }
 
+/// The option that says that replies show names from the beginning.
+fn names_option<'a>(alloc: Global) -> Arg<'a> {
+    Arg::new(alloc, "names")
+        .long("names")
+        .action(ArgAction::SetTrue)
+        .help("Show the names of classes and fields from the beginning, as after names on")
+}
+
 /// The option that says which port is listened on.
 fn port_option<'a>(alloc: Global) -> Arg<'a> {
     Arg::new(alloc, "port")
@@ -78,6 +86,7 @@ fn serve_command<'a>(alloc: Global) -> Result<Command<'a>, AllocError> {
         "serve",
         "Serve several analysts over one log: example, hdesk serve heap.hprof --port 7070 --analysts 2",
     )?
+    .arg(names_option(alloc))?
     .arg(port_option(alloc))?
     .arg(analysts_option(alloc))?;
     Ok(command)
@@ -89,7 +98,8 @@ pub(crate) fn all_words<'a>(alloc: Global) -> Result<Command<'a>, AllocError> {
         alloc,
         "run",
         "Serve one analyst's lines over a dump: example, hdesk run heap.hprof",
-    )?;
+    )?
+    .arg(names_option(alloc))?;
     let command = Command::new(alloc, "hdesk")
         .bin_name("hdesk")?
         .version(VERSION)

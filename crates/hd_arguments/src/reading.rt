@@ -72,6 +72,7 @@ fn read_task<'a>(alloc: Global, words: &'a [String]) -> Result<Option<Task<'a>>,
         file,
         workers: workers_of(matches),
         mode: mode_of(matches),
+        names: matches.get_flag("names"),
     };
     Ok(Some(task_of(name, opening, matches)))
 }

@@ -9,6 +9,8 @@ pub struct Opening<'a> {
     pub workers: u32,
     /// How far phantom references are followed.
     pub mode: Mode,
+    /// Whether replies show names from the beginning.
+    pub names: bool,
 }
 
 /// How analysts are served over connections.

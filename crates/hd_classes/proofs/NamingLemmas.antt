@@ -82,7 +82,7 @@ lists-push t texts texts2 idss nss ids ns are more is texts' on =
     ∙ ap (λ (x : List (Option (List ℕ))). map (map (text_in t)) idss ++ x ∷ []) (is texts' on)
     ∙ sym (map-append (map (text_in t)) idss (ids ∷ []))
 
--- what is made of the first so many, and of one more
+-- what is made of the first `i` elements, and of one more
 pub map-next : {X Y : Type 0} (f : X → Y) (xs : List X) (i : ℕ) (x : X) → slice_get xs i ≡ Some x → map f (take (i + 1) xs) ≡ map f (take i xs) ++ f x ∷ []
 map-next f xs i x at = ap (map f) (take-next xs i x at) ∙ map-append f (take i xs) (x ∷ [])
 

@@ -13,7 +13,7 @@ use hd_subs::Static;
 use indexmap::IndexMap;
 use std::alloc::{AllocError, Global};
 
-/// The number of each name that isn't in the file. There are never so many texts.
+/// The number of each name that isn't in the file. No text has it.
 const NO_NAME: u32 = u32::MAX;
 
 /// The texts that were copied so far, by their numbers, and these by the IDs of the texts.

@@ -29,8 +29,8 @@ use std::thread::{Threads, join};
 
 impl Graph {
     /// The graph of a file, of which these are the records, the sub-records and the classes, and this is how phantom references
-    /// are followed. It has no names that go with class objects. What is kept of records, texts and names is given up before the rows of objects are made, and the list of the
-    /// sub-records before their references are found by number.
+    /// are followed. It has no names that go with class objects. What is kept of records, texts and names is given up before the rows
+    /// of objects are made, and the list of the sub-records before their references are found by number.
     ///
     /// # Errors
     ///
@@ -116,7 +116,7 @@ fn texts_and_subs<'a, R: Threads + Sync, G: Gate>(
     (texts, list)
 }
 
-/// The records of a file, its first texts and its sub-records, which so many workers read at once, each of which passes the gate
+/// The records of a file, its first texts and its sub-records, which `workers` workers read at once, each of which passes the gate
 /// first.
 fn read_file<'a, R: RandomSource + Threads + Sync, G: Gate>(
     rt: &R,

@@ -1,6 +1,7 @@
 pub mod OneStat
 pub mod OneList
 pub mod OneRanking
+pub mod OneFound
 pub mod OneMoved
 pub mod OneReply
 pub mod OneTurn

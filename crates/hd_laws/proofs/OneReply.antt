@@ -26,6 +26,7 @@ use Rattle.hd_terms.specs.Totals.{IsMember, IsGroupTotal}
 use Rattle.hd_terms.proofs.OneStrength.{one_strength}
 use Rattle.hd_laws.specs.Plain.{AsksNoChain}
 use Rattle.hd_laws.proofs.OneList.{one_list, rises_numbers, rises_keys, same_head, same_tail, no_items}
+use Rattle.hd_laws.proofs.OneFound.{one_found}
 use Rattle.hd_laws.proofs.OneMoved.{one_moved}
 use Rattle.hd_laws.proofs.OneRanking.{one_top}
 use Rattle.hd_laws.proofs.OneStat.{same_number, same_count, same_bytes}
@@ -147,31 +148,32 @@ abbrev IsNoChain : Query → Type 0
 IsNoChain query = (id : ℕ) → query ≡ queries.Chain id → ⊥
 
 -- the answer to a query that asks for no chain
-one_answer : (dump : Dump) (m : Memory) (query : Query) (answer other : Answer) → IsNoChain query → IsAnswer dump m query answer → IsAnswer dump m query other → answer ≡ other
-one_answer dump m (queries.Strength id) answer other no_chain a b = strength_of dump m.log (index_of dump.objects id) answer other a b
-one_answer dump m (queries.Chain id) answer other no_chain a b = absurd (no_chain id refl)
-one_answer dump m (queries.Slots id) answer other no_chain a b = a ∙ sym b
-one_answer dump m (queries.Into id) answer other no_chain a b = a ∙ sym b
-one_answer dump m queries.Roots answer other no_chain a b = a ∙ sym b
-one_answer dump m (queries.Classes s) answer other no_chain a b = one_classes dump m.log s answer other a b
-one_answer dump m (queries.Members group s) answer other no_chain a b = ids_of dump m.log m.names (IsMember dump m.log group s) answer other a b
-one_answer dump m (queries.Fell k) answer other no_chain a b = fell_of dump m.log m.names (slice_get m.marks k) answer other a b
-one_answer dump m queries.Events answer other no_chain a b = a ∙ sym b
-one_answer dump m (queries.Object id) answer other no_chain a b = object_of dump m.log (index_of dump.objects id) answer other a b
-one_answer dump m (queries.Top s) answer other no_chain a b = top_of dump m.log s answer other a b
-one_answer dump m (queries.Freed k) answer other no_chain a b = freed_of dump m.log (slice_get m.marks k) answer other a b
-one_answer dump m (queries.Moved k) answer other no_chain a b = moved_of dump m.log (slice_get m.marks k) answer other a b
+one_answer : (dump : Dump) (m : Memory) (text : List ℕ) (query : Query) (answer other : Answer) → IsNoChain query → IsAnswer dump m text query answer → IsAnswer dump m text query other → answer ≡ other
+one_answer dump m text (queries.Strength id) answer other no_chain a b = strength_of dump m.log (index_of dump.objects id) answer other a b
+one_answer dump m text (queries.Chain id) answer other no_chain a b = absurd (no_chain id refl)
+one_answer dump m text (queries.Slots id) answer other no_chain a b = a ∙ sym b
+one_answer dump m text (queries.Into id) answer other no_chain a b = a ∙ sym b
+one_answer dump m text queries.Roots answer other no_chain a b = a ∙ sym b
+one_answer dump m text (queries.Classes s) answer other no_chain a b = one_classes dump m.log s answer other a b
+one_answer dump m text (queries.Members group s) answer other no_chain a b = ids_of dump m.log m.names (IsMember dump m.log group s) answer other a b
+one_answer dump m text (queries.Fell k) answer other no_chain a b = fell_of dump m.log m.names (slice_get m.marks k) answer other a b
+one_answer dump m text queries.Events answer other no_chain a b = a ∙ sym b
+one_answer dump m text (queries.Object id) answer other no_chain a b = object_of dump m.log (index_of dump.objects id) answer other a b
+one_answer dump m text (queries.Top s) answer other no_chain a b = top_of dump m.log s answer other a b
+one_answer dump m text (queries.Freed k) answer other no_chain a b = freed_of dump m.log (slice_get m.marks k) answer other a b
+one_answer dump m text (queries.Moved k) answer other no_chain a b = moved_of dump m.log (slice_get m.marks k) answer other a b
+one_answer dump m text queries.Find answer other no_chain a b = one_found dump m.log text answer other a b
 
 -- what is answered to a command that changes nothing and asks for no chain
-pub one_reply : (dump : Dump) (m : Memory) (r : Result Command LineFault) (reply other : List ℕ) → AsksNoChain r → RepliesTo dump m r reply → RepliesTo dump m r other → reply ≡ other
-one_reply dump m (Err f) reply other no_chain a b = a ∙ sym b
-one_reply dump m (Ok (commands.Ask most query)) reply other no_chain (answer, are, is) (others, too, also) =
+pub one_reply : (dump : Dump) (m : Memory) (text : List ℕ) (r : Result Command LineFault) (reply other : List ℕ) → AsksNoChain r → RepliesTo dump m text r reply → RepliesTo dump m text r other → reply ≡ other
+one_reply dump m text (Err f) reply other no_chain a b = a ∙ sym b
+one_reply dump m text (Ok (commands.Ask most query)) reply other no_chain (answer, are, is) (others, too, also) =
     let asked : IsNoChain query = λ id same. no_chain most id (ap (λ (q : Query). Ok (commands.Ask most q)) same) in
-    is ∙ ap (answer_text most) (one_answer dump m query answer others asked are too) ∙ sym also
-one_reply dump m (Ok (commands.Names on)) reply other no_chain a b = absurd a
-one_reply dump m (Ok (commands.Edit edit)) reply other no_chain a b = absurd a
-one_reply dump m (Ok (commands.Undo number)) reply other no_chain a b = absurd a
-one_reply dump m (Ok commands.Mark) reply other no_chain a b = a.reply_is ∙ sym b.reply_is
-one_reply dump m (Ok commands.Private) reply other no_chain a b = private_of m.home reply other a b
-one_reply dump m (Ok commands.Back) reply other no_chain a b = back_of m.home reply other a b
-one_reply dump m (Ok commands.Quit) reply other no_chain a b = a ∙ sym b
+    is ∙ ap (answer_text most) (one_answer dump m text query answer others asked are too) ∙ sym also
+one_reply dump m text (Ok (commands.Names on)) reply other no_chain a b = absurd a
+one_reply dump m text (Ok (commands.Edit edit)) reply other no_chain a b = absurd a
+one_reply dump m text (Ok (commands.Undo number)) reply other no_chain a b = absurd a
+one_reply dump m text (Ok commands.Mark) reply other no_chain a b = a.reply_is ∙ sym b.reply_is
+one_reply dump m text (Ok commands.Private) reply other no_chain a b = private_of m.home reply other a b
+one_reply dump m text (Ok commands.Back) reply other no_chain a b = back_of m.home reply other a b
+one_reply dump m text (Ok commands.Quit) reply other no_chain a b = a ∙ sym b

@@ -9,7 +9,7 @@ use Rattle.hd_terms.specs.declared.errors.Refusal.{Refusal}
 use Rattle.hd_terms.specs.Appending.{append_refusal}
 use Rattle.hd_lines.specs.Asking.{asked}
 use Rattle.hd_terms.specs.Dump.{Dump}
-use Rattle.hd_lines.specs.Lines.{command_of}
+use Rattle.hd_lines.specs.Lines.{command_of, last_word}
 use Rattle.hd_lines.specs.Memory.{Memory, at_log, most_marks, with_mark, with_names}
 use Rattle.hd_lines.specs.Replies.{RepliesTo, RepliesDone, mark_reply, names_reply, refused, refusal_name}
 use Rattle.hd_lines.specs.Sessions.{Analyst, Turn, IsTurn, roots_at}
@@ -30,19 +30,19 @@ asked_by dump log who (Err f) = None
 asked_by dump log who (Ok c) = asked dump log who c
 
 -- what is answered without an event isn't asked of the log
-quiet_asks : (dump : Dump) (m : Memory) (who : ℕ) (r : Result Command LineFault) (reply : List ℕ) (x : Result What Refusal)
-    → RepliesTo dump m r reply → asked_by dump m.log who r ≡ Some x → ⊥
-quiet_asks dump m who (Err f) reply x h asks = some_none x (sym asks)
-quiet_asks dump m who (Ok (commands.Ask most query)) reply x h asks = some_none x (sym asks)
-quiet_asks dump m who (Ok (commands.Names on)) reply x h asks = h
-quiet_asks dump m who (Ok (commands.Edit edit)) reply x h asks = h
-quiet_asks dump m who (Ok (commands.Undo number)) reply x h asks = h
-quiet_asks dump m who (Ok commands.Mark) reply x h asks = some_none x (sym asks)
-quiet_asks dump m who (Ok commands.Private) reply x h asks = some_none x (sym asks)
-quiet_asks dump m who (Ok commands.Back) reply x h asks = some_none x (sym asks)
-quiet_asks dump m who (Ok commands.Quit) reply x h asks = some_none x (sym asks)
+quiet_asks : (dump : Dump) (m : Memory) (text : List ℕ) (who : ℕ) (r : Result Command LineFault) (reply : List ℕ) (x : Result What Refusal)
+    → RepliesTo dump m text r reply → asked_by dump m.log who r ≡ Some x → ⊥
+quiet_asks dump m text who (Err f) reply x h asks = some_none x (sym asks)
+quiet_asks dump m text who (Ok (commands.Ask most query)) reply x h asks = some_none x (sym asks)
+quiet_asks dump m text who (Ok (commands.Names on)) reply x h asks = h
+quiet_asks dump m text who (Ok (commands.Edit edit)) reply x h asks = h
+quiet_asks dump m text who (Ok (commands.Undo number)) reply x h asks = h
+quiet_asks dump m text who (Ok commands.Mark) reply x h asks = some_none x (sym asks)
+quiet_asks dump m text who (Ok commands.Private) reply x h asks = some_none x (sym asks)
+quiet_asks dump m text who (Ok commands.Back) reply x h asks = some_none x (sym asks)
+quiet_asks dump m text who (Ok commands.Quit) reply x h asks = some_none x (sym asks)
 
-module _ (a : Analyst) (m : Memory) (found : List Event) where
+module _ (a : Analyst) (m : Memory) (text : List ℕ) (found : List Event) where
   -- the log has the event of what was asked
   abbrev more : What → List Event
   more what = with_event found (event_by a.who what)
@@ -60,7 +60,7 @@ module _ (a : Analyst) (m : Memory) (found : List Event) where
 
   -- a plain turn: what changes nothing, what is asked of the log, a mark, and `names`
   abbrev Quiet : Result Command LineFault → (reply : List ℕ) → (after : Memory) → Type 0
-  Quiet r reply after = RepliesTo a.dump m r reply × (after ≡ at_log m found)
+  Quiet r reply after = RepliesTo a.dump m text r reply × (after ≡ at_log m found)
 
   abbrev Asks : Result Command LineFault → (reply : List ℕ) → (after : Memory) → Type 0
   Asks r reply after = (x : Result What Refusal) × (asked_by a.dump m.log a.who r ≡ Some x) × Ends x reply after
@@ -83,9 +83,9 @@ module _ (a : Analyst) (m : Memory) (found : List Event) where
   one_end (Ok what) reply other after later (inr (takes, done, l)) (inr (also, too, k)) = (one_done a.dump found (more what) reply other done too, l ∙ sym k)
 
   -- a mark that is refused isn't added
-  no_room : (r : Result Command LineFault) (reply : List ℕ) → RepliesTo a.dump m r reply → r ≡ Ok commands.Mark → length m.marks < most_marks → ⊥
+  no_room : (r : Result Command LineFault) (reply : List ℕ) → RepliesTo a.dump m text r reply → r ≡ Ok commands.Mark → length m.marks < most_marks → ⊥
   no_room r reply h is room =
-      let refuses = subst (λ (x : Result Command LineFault). RepliesTo a.dump m x reply) is h in
+      let refuses = subst (λ (x : Result Command LineFault). RepliesTo a.dump m text x reply) is h in
       let full = refuses.full in
       absurd (omega (arith, full, room))
 
@@ -94,8 +94,8 @@ module _ (a : Analyst) (m : Memory) (found : List Event) where
   no_event r x asks is = some_none x (sym (subst (λ (y : Result Command LineFault). asked_by a.dump m.log a.who y ≡ Some x) is asks))
 
   -- `names` isn't answered as what changes nothing, asks nothing of the log, and is no mark
-  no_quiet : (r : Result Command LineFault) (reply : List ℕ) (on : Bool) → RepliesTo a.dump m r reply → r ≡ Ok (commands.Names on) → ⊥
-  no_quiet r reply on h is = subst (λ (x : Result Command LineFault). RepliesTo a.dump m x reply) is h
+  no_quiet : (r : Result Command LineFault) (reply : List ℕ) (on : Bool) → RepliesTo a.dump m text r reply → r ≡ Ok (commands.Names on) → ⊥
+  no_quiet r reply on h is = subst (λ (x : Result Command LineFault). RepliesTo a.dump m text x reply) is h
 
   no_asking : (r : Result Command LineFault) (x : Result What Refusal) (on : Bool) → asked_by a.dump m.log a.who r ≡ Some x → r ≡ Ok (commands.Names on) → ⊥
   no_asking r x on asks is = some_none x (sym (subst (λ (y : Result Command LineFault). asked_by a.dump m.log a.who y ≡ Some x) is asks))
@@ -107,11 +107,11 @@ module _ (a : Analyst) (m : Memory) (found : List Event) where
   same_switch r on off is also = cc
 
   pub one_outcome : (r : Result Command LineFault) (reply other : List ℕ) (after later : Memory) → Outcome r reply after → Outcome r other later → (AsksNoChain r → reply ≡ other) × (after ≡ later)
-  one_outcome r reply other after later (inl (says, l)) (inl (too, k)) = ((λ no_chain. one_reply a.dump m r reply other no_chain says too), l ∙ sym k)
-  one_outcome r reply other after later (inl (says, l)) (inr (inl (x, asks, ends))) = absurd (quiet_asks a.dump m a.who r reply x says asks)
+  one_outcome r reply other after later (inl (says, l)) (inl (too, k)) = ((λ no_chain. one_reply a.dump m text r reply other no_chain says too), l ∙ sym k)
+  one_outcome r reply other after later (inl (says, l)) (inr (inl (x, asks, ends))) = absurd (quiet_asks a.dump m text a.who r reply x says asks)
   one_outcome r reply other after later (inl (says, l)) (inr (inr (inl (is, room, too, k)))) = absurd (no_room r reply says is room)
   one_outcome r reply other after later (inl (says, l)) (inr (inr (inr (on, is, too, k)))) = absurd (no_quiet r reply on says is)
-  one_outcome r reply other after later (inr (inl (x, asks, ends))) (inl (says, l)) = absurd (quiet_asks a.dump m a.who r other x says asks)
+  one_outcome r reply other after later (inr (inl (x, asks, ends))) (inl (says, l)) = absurd (quiet_asks a.dump m text a.who r other x says asks)
   one_outcome r reply other after later (inr (inl (x, asks, ends))) (inr (inl (y, also, too))) =
       let both = one_end y reply other after later (subst (λ (z : Result What Refusal). Ends z reply after) (some_same x y (sym asks ∙ also)) ends) too in
       ((λ no_chain. both.0), both.1)
@@ -140,7 +140,7 @@ module _ (a : Analyst) (m : Memory) (found : List Event) where
   none_open r reply after (inr (inr (inr (on, is, says, l)))) none = ap (λ (k : Memory). k.home) l ∙ none
 
 -- a plain turn outside a private part comes out so
-pub outcome_of : (a : Analyst) (t : Turn) → IsTurn a t → IsPlain t → t.before.home ≡ None → Outcome a t.before t.found (command_of t.line) t.reply t.after
+pub outcome_of : (a : Analyst) (t : Turn) → IsTurn a t → IsPlain t → t.before.home ≡ None → Outcome a t.before (last_word t.line) t.found (command_of t.line) t.reply t.after
 outcome_of a t (sessions.answered r f l) plain none = inl (r, l)
 outcome_of a t (sessions.declined c r is asks says f l) plain none = inr (inl (Err r, ap (asked_by a.dump t.before.log a.who) is ∙ asks, (says, l)))
 outcome_of a t (sessions.rejected c what r is asks refuses says l) plain none = inr (inl (Ok what, ap (asked_by a.dump t.before.log a.who) is ∙ asks, inl (r, refuses, says, l)))

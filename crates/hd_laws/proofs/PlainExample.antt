@@ -1,5 +1,5 @@
 -- A plain session over two arrays, turn by turn.
-use Rattle.std.proofs.Common.{◌≡◌, ℕ, ⊎_elim, List, [], ◌∷◌, ◌++◌, codes, lit<, sym, ap, refl, arith}
+use Rattle.std.proofs.Common.{◌≡◌, ℕ, ⊎_elim, false, List, [], ◌∷◌, ◌++◌, codes, lit<, sym, ap, refl, arith}
 use Rattle.std.specs.Prelude.{decimal}
 use Rattle.std.proofs.lemmas.Fmt.{decimal_digit}
 use Rattle.hd_terms.specs.declared.errors.LogFault.TheVariants as faults
@@ -25,13 +25,13 @@ ok_none_is = sym (ap (λ (digits : List ℕ). with_newline (codes "ok " ++ digit
 
 -- a turn over the empty log that changes nothing
 abbrev turn : List ℕ → List ℕ → Turn
-turn line reply = record { line = line; before = beginning [] []; found = []; after = beginning [] []; reply = reply }
+turn line reply = record { line = line; before = beginning false [] []; found = []; after = beginning false [] []; reply = reply }
 
 -- nothing came to the empty log
 nothing_came : IsLater 0 [] []
 nothing_came = record { more = []; begins = refl; same_own = refl; lawful = lawful [] refl }
 
-nothing_new : IsRefreshed 0 (beginning [] []) (beginning [] [])
+nothing_new : IsRefreshed 0 (beginning false [] []) (beginning false [] [])
 nothing_new = record { later = nothing_came; same = refl }
 
 abbrev first_of : List ℕ → ℕ
@@ -54,7 +54,7 @@ strong_is_plain = record { is_open = λ h. absurd cc; served = served ok_strong 
 quit_is_plain : IsPlain (turn (codes "quit") ok_none)
 quit_is_plain = record { is_open = λ h. absurd cc; served = served ok_none refl; finished = λ event is. no_refusal ok_none (codes "Accepted " ++ decimal event) refl is }
 
-pub plain_session : IsReply examples.two_arrays (beginning [] []) (codes "strength 0x2") ok_strong → (turns : List Turn) × IsServedPlainly examples.two_arrays (codes "strength 0x2" ++ 10 ∷ codes "quit" ++ 10 ∷ []) (ok_strong ++ ok_none) turns
+pub plain_session : IsReply examples.two_arrays (beginning false [] []) (codes "strength 0x2") ok_strong → (turns : List Turn) × IsServedPlainly examples.two_arrays false (codes "strength 0x2" ++ 10 ∷ codes "quit" ++ 10 ∷ []) (ok_strong ++ ok_none) turns
 plain_session strong = (
   turn (codes "strength 0x2") ok_strong ∷ turn (codes "quit") ok_none ∷ [],
   record {

@@ -1,6 +1,6 @@
 -- Sessions of which the definitions leave one text, but for chains.
 -- Source: this project. Which chain is shown is left open; so is when memory runs out or a log is foreign, and what others do beside a private part.
-use Rattle.std.specs.Prelude.{◌≡◌, ℕ, List, [], ◌∷◌, Option, Result, Ok}
+use Rattle.std.specs.Prelude.{◌≡◌, ℕ, Bool, List, [], ◌∷◌, Option, Result, Ok}
 use Rattle.std.specs.List.{AllByRecursion}
 use Rattle.hd_lines.specs.declared.commands.Command.{Command}
 use Rattle.hd_lines.specs.declared.commands.Command.TheVariants as commands
@@ -23,8 +23,8 @@ pub record IsPlain (t : Turn) : Type 0 where
   pub finished : (event : ℕ) → t.reply ≡ accepted_reply event → ⊥
 
 -- the whole input was served by these turns to the analyst 0, alone from the empty log, and all are plain
-pub record IsServedPlainly (dump : Dump) (input written : List ℕ) (turns : List Turn) : Type 0 where
-  pub served : IsServedBy (IsSessionAlone dump) turns input written
+pub record IsServedPlainly (dump : Dump) (names : Bool) (input written : List ℕ) (turns : List Turn) : Type 0 where
+  pub served : IsServedBy (IsSessionAlone dump names) turns input written
   pub plain : AllByRecursion IsPlain turns
 
 -- as many turns, with the same replies but for those to `chain`

@@ -1,5 +1,5 @@
 //! Two laws and an example, each the contract of a function that does nothing.
-ghost use Rattle.std.specs.Prelude.{ℕ, List, [], ◌∷◌, ◌++◌, ◌≡◌, codes};
+ghost use Rattle.std.specs.Prelude.{ℕ, Bool, false, List, [], ◌∷◌, ◌++◌, ◌≡◌, codes};
 ghost use Rattle.std.specs.List.{AllByRecursion};
 ghost use Rattle.hd_terms.specs.declared.Mode.{Mode};
 ghost use Rattle.hd_terms.specs.Dump.{Dump};
@@ -18,18 +18,18 @@ pub fn one_stat()
 {}
 
 /// Where an analyst alone is served a whole input over the bytes of a dump, no private part begins, and no reply says that
-/// memory ran out or that the log is foreign, the replies are a function of the bytes, the mode and the input, but for those
-/// to `chain`. Where no chain is asked for, all that is written is.
+/// memory ran out or that the log is foreign, the replies are a function of the bytes, the mode, the input and whether names are on
+/// from the beginning, but for those to `chain`. Where no chain is asked for, all that is written is.
 pub fn one_run()
-    ensures alike { (mode : Mode) (bytes input written other : List ℕ) (a b : Dump) (ts us : List Turn) → IsDumpOf mode bytes a → IsDumpOf mode bytes b
-        → IsServedPlainly a input written ts → IsServedPlainly b input other us → AreAlike ts us }
-    ensures same { (mode : Mode) (bytes input written other : List ℕ) (a b : Dump) (ts us : List Turn) → IsDumpOf mode bytes a → IsDumpOf mode bytes b
-        → IsServedPlainly a input written ts → IsServedPlainly b input other us → AllByRecursion (λ (t : Turn). AsksNoChain (command_of t.line)) ts → written ≡ other }
+    ensures alike { (mode : Mode) (names : Bool) (bytes input written other : List ℕ) (a b : Dump) (ts us : List Turn) → IsDumpOf mode bytes a → IsDumpOf mode bytes b
+        → IsServedPlainly a names input written ts → IsServedPlainly b names input other us → AreAlike ts us }
+    ensures same { (mode : Mode) (names : Bool) (bytes input written other : List ℕ) (a b : Dump) (ts us : List Turn) → IsDumpOf mode bytes a → IsDumpOf mode bytes b
+        → IsServedPlainly a names input written ts → IsServedPlainly b names input other us → AllByRecursion (λ (t : Turn). AsksNoChain (command_of t.line)) ts → written ≡ other }
 {}
 
 /// There are such sessions: over two arrays, one that asks for a strength and ends.
 pub fn plain_session()
-    ensures { (turns : List Turn) × IsServedPlainly examples.two_arrays (codes "strength 0x2" ++ 10 ∷ codes "quit" ++ 10 ∷ [])
+    ensures { (turns : List Turn) × IsServedPlainly examples.two_arrays false (codes "strength 0x2" ++ 10 ∷ codes "quit" ++ 10 ∷ [])
         (codes "ok 1" ++ 10 ∷ codes "STRONG" ++ 10 ∷ codes "ok 0" ++ 10 ∷ []) turns }
 {
     reply_examples();

@@ -2,7 +2,7 @@
 -- Source: this project's protocol (docs/PROTOCOL.md).
 use Rattle.std.specs.Prelude.{ℕ, ◌+◌, ◌*◌, ◌-◌, ◌==◌, Bool, true, false, ◌&&◌, nat_lt, nat_le, if◌then◌else◌, List, [], ◌∷◌, length, filter, fold, codes, Option, Some, None, Result, Ok, Err}
 use Rattle.std.specs.Option.{option_map, option_and_then, option_or}
-use Rattle.std.specs.List.{slice_split}
+use Rattle.std.specs.List.{list_all, slice_split}
 use Rattle.std.specs.Str.{bytes_eq}
 use Rattle.std.specs.Io.BufRead.{strip_last}
 use Rattle.hd_terms.specs.declared.Slot.{Slot}
@@ -203,6 +203,17 @@ abbrev pub bare : {X : Type 0} → X → List (List ℕ) → Result X LineFault
 bare x [] = Ok x
 bare x (more ∷ rest) = Err faults.BadArgument
 
+-- bytes that print as one character each, without the space
+abbrev pub is_printing : ℕ → Bool
+is_printing b = nat_le 0x21 b && nat_le b 0x7e
+
+-- `find TEXT`: a word of such bytes
+abbrev pub find_of_word : List ℕ → Option Query
+find_of_word word = if list_all is_printing word then Some queries.Find else None
+
+abbrev pub find_query : List (List ℕ) → Result Query LineFault
+find_query arguments = spelled (option_and_then find_of_word (only_word arguments))
+
 -- a query, by its first word, in lower case, and the arguments, which have to fit
 abbrev pub query_of : List ℕ → List (List ℕ) → Result Query LineFault
 query_of word arguments =
@@ -219,6 +230,7 @@ query_of word arguments =
     else if bytes_eq word (codes "top") then with_strength (λ s. queries.Top s) arguments
     else if bytes_eq word (codes "freed") then with_mark_number (λ m. queries.Freed m) arguments
     else if bytes_eq word (codes "moved") then with_mark_number (λ m. queries.Moved m) arguments
+    else if bytes_eq word (codes "find") then find_query arguments
     else Err faults.UnknownCommand
 
 -- the whole answer to a query is asked for
@@ -291,6 +303,15 @@ command_of_words (word ∷ arguments) =
     else if bytes_eq word (codes "back") then bare commands.Back arguments
     else if bytes_eq word (codes "quit") then bare commands.Quit arguments
     else change_command word arguments
+
+-- the last of words, and this one where there is none
+abbrev pub last_of : List ℕ → List (List ℕ) → List ℕ
+last_of word [] = word
+last_of word (next ∷ rest) = last_of next rest
+
+-- the last word of a line that isn't too long: what `find` looks for
+abbrev pub last_word : List ℕ → List ℕ
+last_word line = if nat_lt longest_line (length line) then [] else last_of [] (words_of line)
 
 -- the command that a line spells, or the first of its faults: too long, unknown, a wrong argument
 abbrev pub command_of : List ℕ → Result Command LineFault

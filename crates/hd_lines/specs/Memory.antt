@@ -1,6 +1,6 @@
 -- What a session remembers from one line to the next.
 -- Source: this project.
-use Rattle.std.specs.Prelude.{ℕ, Bool, false, List, [], ◌∷◌, ◌++◌, Option, None, Some}
+use Rattle.std.specs.Prelude.{ℕ, Bool, List, [], ◌∷◌, ◌++◌, Option, None, Some}
 use Rattle.hd_terms.specs.declared.Event.{Event}
 
 -- the log, the logs of the marks by their numbers, the log to which a private part goes back, if the session is in one, and
@@ -12,9 +12,9 @@ pub record Memory : Type 0 where
   pub names : Bool
 
 -- a session begins with the log that its desk has seen; mark 0 is the log of the desk's state, which may be shorter; nothing is
--- private; and replies show no names
-abbrev pub beginning : (seen front : List Event) → Memory
-beginning seen front = record { log = seen; marks = front ∷ []; home = None; names = false }
+-- private; and replies show names, or they don't
+abbrev pub beginning : (names : Bool) → (seen front : List Event) → Memory
+beginning names seen front = record { log = seen; marks = front ∷ []; home = None; names = names }
 
 -- the same but for the log
 abbrev pub at_log : Memory → List Event → Memory

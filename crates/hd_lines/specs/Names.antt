@@ -4,6 +4,7 @@ use Rattle.std.specs.Prelude.{ℕ, ◌+◌, ◌/◌, ◌%◌, ◌==◌, Bool, fa
 use Rattle.std.specs.Fmt.{digits}
 use Rattle.std.specs.Option.{option_map_or}
 use Rattle.std.specs.List.{flat_map}
+use Rattle.std.specs.Str.Iter.{HasSubslice}
 use Rattle.hd_terms.specs.declared.Group.{Group}
 use Rattle.hd_terms.specs.declared.Group.TheVariants as groups
 use Rattle.hd_terms.specs.declared.Slot.{Slot}
@@ -58,16 +59,24 @@ group_name dump (groups.Class id) = name_text (name_in dump id)
 group_name dump (groups.Prim element) = array_name element
 group_name dump groups.Classes = codes "classes"
 
+-- the name of a group contains a text
+abbrev pub IsNamedWith : Dump → (text : List ℕ) → Group → Type 0
+IsNamedWith dump text group = HasSubslice (group_name dump group) text
+
 -- the name of an object by its ID and its group: that of its class, of its array type, or of the class that it is
 abbrev pub object_name : Dump → ℕ → Group → List ℕ
 object_name dump id (groups.Class class) = name_text (name_in dump class)
 object_name dump id (groups.Prim element) = array_name element
 object_name dump id groups.Classes = name_text (name_in dump id) ++ codes ".class"
 
--- the name of the object of a number, if there is one
+-- the name of the object of a number
+abbrev pub name_at : Dump → ℕ → List ℕ
+name_at dump o = object_name dump (object_at dump o).id (object_at dump o).group
+
+-- the same, if there is such a number
 abbrev pub name_of_number : Dump → Option ℕ → List ℕ
 name_of_number dump None = codes "-"
-name_of_number dump (Some o) = object_name dump (object_at dump o).id (object_at dump o).group
+name_of_number dump (Some o) = name_at dump o
 
 -- the name of the object of an ID
 abbrev pub name_of_id : Dump → ℕ → List ℕ

@@ -30,6 +30,7 @@ use Rattle.hd_terms.specs.declared.errors.LogFault.TheVariants as faults
 use Rattle.hd_terms.specs.declared.errors.Refusal.{Refusal}
 use Rattle.hd_terms.specs.declared.errors.Refusal.TheVariants as refusals
 use Rattle.hd_terms.specs.declared.Event.{Event}
+use Rattle.hd_terms.specs.declared.Group.{Group}
 use Rattle.hd_terms.specs.Paths.{Edge, RootEntry}
 use Rattle.hd_terms.specs.Strengths.{HasStrength}
 use Rattle.hd_terms.specs.Chains.{IsChain}
@@ -41,18 +42,18 @@ use Rattle.hd_terms.specs.Log.{is_live}
 use Rattle.hd_terms.specs.SlotRows.{slot_rows}
 use Rattle.hd_terms.specs.RootRows.{root_rows}
 use Rattle.hd_terms.specs.IntoRows.{into_rows}
-use Rattle.hd_terms.specs.Listed.{AreMembers, AreFallen, AreClassRows, AreTopRows, AreMovedRows}
-use Rattle.hd_lines.specs.Names.{id_text, group_text, group_name, object_name, name_of_id, slot_place, place_of_slot, with_columns}
+use Rattle.hd_terms.specs.Listed.{AreMembers, AreFallen, AreClassRows, AreTopRows, AreMovedRows, AreNamedGroups}
+use Rattle.hd_lines.specs.Names.{id_text, group_text, group_name, name_at, name_of_id, slot_place, IsNamedWith, place_of_slot, with_columns}
 use Rattle.hd_lines.specs.Memory.{Memory, most_marks}
 use Rattle.hd_terms.specs.Fell.{Falls, FellCount}
-use Rattle.hd_terms.specs.Totals.{IsTotalOf}
+use Rattle.hd_terms.specs.Totals.{IsTotalOf, AreGroupCounts}
 use Rattle.hd_lines.specs.declared.commands.Command.{Command}
 use Rattle.hd_lines.specs.declared.commands.Command.TheVariants as commands
 use Rattle.hd_lines.specs.declared.commands.Query.{Query}
 use Rattle.hd_lines.specs.declared.commands.Query.TheVariants as queries
 use Rattle.hd_lines.specs.declared.commands.LineFault.{LineFault}
 use Rattle.hd_lines.specs.declared.commands.LineFault.TheVariants as line_faults
-use Rattle.hd_lines.specs.Lines.{command_of, is_quit_command}
+use Rattle.hd_lines.specs.Lines.{command_of, is_quit_command, last_word}
 
 -- a text and the newline that ends it
 abbrev pub with_newline : List ℕ → List ℕ
@@ -204,10 +205,6 @@ into_line dump names row = with_columns names (plain_into_line row) (name_of_id 
 abbrev pub id_line : Dump → (names : Bool) → ℕ → List ℕ
 id_line dump names id = with_columns names (id_text id) (name_of_id dump id ∷ [])
 
--- the name of the object of a number
-abbrev pub name_at : Dump → ℕ → List ℕ
-name_at dump o = object_name dump (object_at dump o).id (object_at dump o).group
-
 -- `G BYTES STRENGTH NAME`
 abbrev pub object_line : Dump → ℕ → Strength → List ℕ
 object_line dump o s = group_text (object_at dump o).group ++ 32 ∷ decimal (object_at dump o).bytes ++ 32 ∷ strength_name s ++ 32 ∷ name_at dump o
@@ -238,6 +235,14 @@ chain_lines dump names r es = chain_start dump names r ∷ map (link_line dump n
 abbrev pub class_line : Dump → ClassRow → List ℕ
 class_line dump row = group_text row.group ++ 32 ∷ decimal row.count ++ 32 ∷ decimal row.bytes ++ 32 ∷ group_name dump row.group
 
+-- the strengths, the greatest first
+abbrev pub falling_strengths : List Strength
+falling_strengths = strengths.Strong ∷ strengths.Soft ∷ strengths.Weak ∷ strengths.Final ∷ strengths.Phantom ∷ strengths.Unreachable ∷ []
+
+-- `G STRONG SOFT WEAK FINAL PHANTOM UNREACHABLE NAME`: how many objects of a group have each strength
+abbrev pub found_line : Dump → (count : Group → Strength → ℕ) → Group → List ℕ
+found_line dump count group = group_text group ++ flat_map (λ (s : Strength). 32 ∷ decimal (count group s)) falling_strengths ++ 32 ∷ group_name dump group
+
 -- `total COUNT BYTES`
 abbrev pub total_line : (count bytes : ℕ) → List ℕ
 total_line count bytes = codes "total " ++ decimal count ++ 32 ∷ decimal bytes
@@ -250,7 +255,7 @@ moved_line row = strength_name row.before ++ 32 ∷ strength_name row.after ++ 3
 abbrev pub mark_reply : ℕ → List ℕ
 mark_reply m = answered ((codes "mark " ++ decimal m) ∷ [])
 
--- the reply to `private` over a log of so many events, and to `back` from so many events after it
+-- the reply to `private` over a log of `n` events, and to `back` from `k` events after it
 abbrev pub private_reply : ℕ → List ℕ
 private_reply n = answered ((codes "private " ++ decimal n) ∷ [])
 
@@ -269,7 +274,7 @@ event_line event fell back = codes "event " ++ decimal event ++ codes " fell " +
 abbrev pub Answer : Type 0
 Answer = Result (List (List ℕ)) Refusal
 
--- so many of the first lines of an answer, all without a number; a refusal as it is
+-- the first `n` of these lines, all without a number
 abbrev pub first_lines : Option ℕ → List (List ℕ) → List (List ℕ)
 first_lines None lines = lines
 first_lines (Some n) lines = take n lines
@@ -353,25 +358,34 @@ abbrev pub AnswersMoved : Dump → List Event → Option (List Event) → Answer
 AnswersMoved dump log None answer = answer ≡ no_such_mark
 AnswersMoved dump log (Some before) answer = (rows : List MovedRow) × AreMovedRows dump before log rows × (answer ≡ Ok (map moved_line rows))
 
--- the answer to a query
-abbrev pub IsAnswer : Dump → Memory → Query → Answer → Type 0
-IsAnswer dump m (queries.Strength id) answer = AnswersStrength dump m.log (index_of dump.objects id) answer
-IsAnswer dump m (queries.Chain id) answer = AnswersChain dump m.names m.log (index_of dump.objects id) answer
-IsAnswer dump m (queries.Slots id) answer = answer ≡ slots_answer dump m.names m.log (index_of dump.objects id)
-IsAnswer dump m (queries.Into id) answer = answer ≡ into_answer dump m.names m.log (index_of dump.objects id)
-IsAnswer dump m queries.Roots answer = answer ≡ Ok (map (root_line dump m.names) (root_rows dump m.log))
-IsAnswer dump m (queries.Classes s) answer = AnswersClasses dump m.log s answer
-IsAnswer dump m (queries.Members group s) answer = AnswersIds dump m.names (AreMembers dump m.log group s) answer
-IsAnswer dump m (queries.Fell k) answer = AnswersFell dump m.names m.log (slice_get m.marks k) answer
-IsAnswer dump m queries.Events answer = answer ≡ Ok (log_lines m.log)
-IsAnswer dump m (queries.Object id) answer = AnswersObject dump m.log (index_of dump.objects id) answer
-IsAnswer dump m (queries.Top s) answer = AnswersTop dump m.log s answer
-IsAnswer dump m (queries.Freed k) answer = AnswersFreed dump m.log (slice_get m.marks k) answer
-IsAnswer dump m (queries.Moved k) answer = AnswersMoved dump m.log (slice_get m.marks k) answer
+-- the answer to `find`: a line for each group whose name contains the text
+pub record IsFound (dump : Dump) (log : List Event) (text : List ℕ) (answer : Answer) : Type 0 where
+  pub groups : List Group
+  pub count : Group → Strength → ℕ
+  pub are : AreNamedGroups dump (IsNamedWith dump text) groups
+  pub counts : AreGroupCounts dump log count
+  pub lines : answer ≡ Ok (map (found_line dump count) groups)
 
--- the reply to a query of which so many lines are wanted
-abbrev pub RepliesQuery : Dump → Memory → (most : Option ℕ) → Query → List ℕ → Type 0
-RepliesQuery dump m most query reply = (answer : Answer) × IsAnswer dump m query answer × (reply ≡ answer_text most answer)
+-- the answer to a query, with the last word of its line
+abbrev pub IsAnswer : Dump → Memory → (text : List ℕ) → Query → Answer → Type 0
+IsAnswer dump m text (queries.Strength id) answer = AnswersStrength dump m.log (index_of dump.objects id) answer
+IsAnswer dump m text (queries.Chain id) answer = AnswersChain dump m.names m.log (index_of dump.objects id) answer
+IsAnswer dump m text (queries.Slots id) answer = answer ≡ slots_answer dump m.names m.log (index_of dump.objects id)
+IsAnswer dump m text (queries.Into id) answer = answer ≡ into_answer dump m.names m.log (index_of dump.objects id)
+IsAnswer dump m text queries.Roots answer = answer ≡ Ok (map (root_line dump m.names) (root_rows dump m.log))
+IsAnswer dump m text (queries.Classes s) answer = AnswersClasses dump m.log s answer
+IsAnswer dump m text (queries.Members group s) answer = AnswersIds dump m.names (AreMembers dump m.log group s) answer
+IsAnswer dump m text (queries.Fell k) answer = AnswersFell dump m.names m.log (slice_get m.marks k) answer
+IsAnswer dump m text queries.Events answer = answer ≡ Ok (log_lines m.log)
+IsAnswer dump m text (queries.Object id) answer = AnswersObject dump m.log (index_of dump.objects id) answer
+IsAnswer dump m text (queries.Top s) answer = AnswersTop dump m.log s answer
+IsAnswer dump m text (queries.Freed k) answer = AnswersFreed dump m.log (slice_get m.marks k) answer
+IsAnswer dump m text (queries.Moved k) answer = AnswersMoved dump m.log (slice_get m.marks k) answer
+IsAnswer dump m text queries.Find answer = IsFound dump m.log text answer
+
+-- the reply to a query of which at most `most` lines are wanted, all without a number
+abbrev pub RepliesQuery : Dump → Memory → (text : List ℕ) → (most : Option ℕ) → Query → List ℕ → Type 0
+RepliesQuery dump m text most query reply = (answer : Answer) × IsAnswer dump m text query answer × (reply ≡ answer_text most answer)
 
 -- the reply to `mark` where it is refused: there are as many marks as there may be
 pub record RefusesMark (marks : List (List Event)) (reply : List ℕ) : Type 0 where
@@ -388,22 +402,22 @@ abbrev pub RefusesBack : Option (List Event) → List ℕ → Type 0
 RefusesBack None reply = reply ≡ refused (refusal_name refusals.NotPrivate)
 RefusesBack (Some home) reply = ⊥
 
--- the reply to a command that changes nothing of what the session remembers. What an edit, an undo, a new mark, `names`, or the
+-- the reply to a command that changes nothing of what the session remembers, with the last word of its line. What an edit, an undo, a new mark, `names`, or the
 -- beginning or end of a private part is answered isn't said here
-abbrev pub RepliesTo : Dump → Memory → Result Command LineFault → List ℕ → Type 0
-RepliesTo dump m (Err f) reply = reply ≡ refused (line_fault_name f)
-RepliesTo dump m (Ok (commands.Ask most query)) reply = RepliesQuery dump m most query reply
-RepliesTo dump m (Ok (commands.Names on)) reply = ⊥
-RepliesTo dump m (Ok (commands.Edit edit)) reply = ⊥
-RepliesTo dump m (Ok (commands.Undo number)) reply = ⊥
-RepliesTo dump m (Ok commands.Mark) reply = RefusesMark m.marks reply
-RepliesTo dump m (Ok commands.Private) reply = RefusesPrivate m.home reply
-RepliesTo dump m (Ok commands.Back) reply = RefusesBack m.home reply
-RepliesTo dump m (Ok commands.Quit) reply = reply ≡ answered []
+abbrev pub RepliesTo : Dump → Memory → (text : List ℕ) → Result Command LineFault → List ℕ → Type 0
+RepliesTo dump m text (Err f) reply = reply ≡ refused (line_fault_name f)
+RepliesTo dump m text (Ok (commands.Ask most query)) reply = RepliesQuery dump m text most query reply
+RepliesTo dump m text (Ok (commands.Names on)) reply = ⊥
+RepliesTo dump m text (Ok (commands.Edit edit)) reply = ⊥
+RepliesTo dump m text (Ok (commands.Undo number)) reply = ⊥
+RepliesTo dump m text (Ok commands.Mark) reply = RefusesMark m.marks reply
+RepliesTo dump m text (Ok commands.Private) reply = RefusesPrivate m.home reply
+RepliesTo dump m text (Ok commands.Back) reply = RefusesBack m.home reply
+RepliesTo dump m text (Ok commands.Quit) reply = reply ≡ answered []
 
 -- the reply to a line that changes nothing of what the session remembers
 abbrev pub IsReply : Dump → Memory → List ℕ → List ℕ → Type 0
-IsReply dump m line reply = RepliesTo dump m (command_of line) reply
+IsReply dump m line reply = RepliesTo dump m (last_word line) (command_of line) reply
 
 -- the reply to an edit or an undo that the log has taken: the number of its event, and how many objects fell by it and
 -- how many came back

@@ -1,6 +1,6 @@
 -- The worked examples of sessions in docs/DEFINITIONS.md as data: the turns of analysts over two arrays.
 -- Source: this project.
-use Rattle.std.specs.Prelude.{ℕ, List, [], ◌∷◌, ◌++◌, take, codes}
+use Rattle.std.specs.Prelude.{ℕ, false, List, [], ◌∷◌, ◌++◌, take, codes}
 use Rattle.hd_terms.specs.declared.Event.{Event}
 use Rattle.hd_lines.specs.Memory.{Memory, beginning, at_log, gone_private}
 use Rattle.hd_lines.specs.Sessions.{Analyst, Turn}
@@ -16,13 +16,13 @@ turn_over line before found after reply = record { line = line; before = before;
 
 -- the same of a session from its beginning, by the logs before and after it
 abbrev pub turn : List ℕ → (before found after : List Event) → List ℕ → Turn
-turn line before found after reply = turn_over line (at_log (beginning [] []) before) found (at_log (beginning [] []) after) reply
+turn line before found after reply = turn_over line (at_log (beginning false [] []) before) found (at_log (beginning false [] []) after) reply
 
 -- the same answered `ok 1` and a line
 abbrev pub turn_done : List ℕ → (before found after : List Event) → List ℕ → Turn
 turn_done line before found after reply = turn line before found after (codes "ok 1" ++ 10 ∷ reply)
 
--- so many of the events of `two_cuts_of_one_slot`
+-- the first `n` events of `two_cuts_of_one_slot`
 abbrev pub first_cuts : ℕ → List Event
 first_cuts n = take n two_cuts_of_one_slot
 
@@ -53,9 +53,9 @@ turns_behind =
     ∷ turn (codes "quit") (first_cuts 1) (first_cuts 1) (first_cuts 1) (codes "ok 0")
     ∷ []
 
--- what is remembered over the first so many events of `cut_and_undo`, before a private part and after it
+-- what is remembered over the first `n` events of `cut_and_undo`, before a private part and after it
 abbrev pub at_cut : ℕ → Memory
-at_cut n = at_log (beginning [] []) (take n cut_and_undo)
+at_cut n = at_log (beginning false [] []) (take n cut_and_undo)
 
 -- the same in a private part that began after the first event
 abbrev pub in_private : ℕ → Memory

@@ -121,10 +121,10 @@ pub record IsSessionOver (a : Analyst) (memory : Memory) (lines : List (List ℕ
   pub session : IsSession a memory ts
   pub over : map (λ (t : Turn). t.line) ts ≡ lines
 
--- a session of the analyst 0, alone from the empty log, over these lines
-pub record IsSessionAlone (dump : Dump) (lines : List (List ℕ)) (ts : List Turn) : Type 0 where
-  pub session : IsSessionOver (lone_analyst dump) (beginning [] []) lines ts
-  pub alone : IsAlone (beginning [] []) ts
+-- a session of the analyst 0, alone from the empty log, over these lines; it begins with names or without
+pub record IsSessionAlone (dump : Dump) (names : Bool) (lines : List (List ℕ)) (ts : List Turn) : Type 0 where
+  pub session : IsSessionOver (lone_analyst dump) (beginning names [] []) lines ts
+  pub alone : IsAlone (beginning names [] []) ts
 
 -- the whole input was served by these turns: the replies to its lines up to `quit` or to its end. What turns over lines are
 -- is said by the relation
@@ -159,11 +159,11 @@ pub record IsServedUntilWriteBy (IsOver : List (List ℕ) → List Turn → Type
   pub written_is : written ≡ replies whole ++ part
 
 -- the same of the analyst 0, alone from the empty log, by some turns
-abbrev pub IsServed : Dump → (input written : List ℕ) → Type 0
-IsServed dump input written = (turns : List Turn) × IsServedBy (IsSessionAlone dump) turns input written
+abbrev pub IsServed : Dump → (names : Bool) → (input written : List ℕ) → Type 0
+IsServed dump names input written = (turns : List Turn) × IsServedBy (IsSessionAlone dump names) turns input written
 
-abbrev pub IsServedUntilRead : Dump → (input rest written : List ℕ) → Type 0
-IsServedUntilRead dump input rest written = (turns : List Turn) × IsServedUntilReadBy (IsSessionAlone dump) turns input rest written
+abbrev pub IsServedUntilRead : Dump → (names : Bool) → (input rest written : List ℕ) → Type 0
+IsServedUntilRead dump names input rest written = (turns : List Turn) × IsServedUntilReadBy (IsSessionAlone dump names) turns input rest written
 
-abbrev pub IsServedUntilWrite : Dump → (input written : List ℕ) → Type 0
-IsServedUntilWrite dump input written = (turns : List Turn) × IsServedUntilWriteBy (IsSessionAlone dump) turns input written
+abbrev pub IsServedUntilWrite : Dump → (names : Bool) → (input written : List ℕ) → Type 0
+IsServedUntilWrite dump names input written = (turns : List Turn) × IsServedUntilWriteBy (IsSessionAlone dump names) turns input written

@@ -30,6 +30,8 @@ pub enum Query {
     Freed(u32),
     /// How many objects had one strength at the mark of a number and have another one now.
     Moved(u32),
+    /// The groups whose printed names contain the last word of the line, with how many objects of each strength they have.
+    Find,
 }
 
 /// A command, as a line spells it.

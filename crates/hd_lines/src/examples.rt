@@ -12,7 +12,7 @@ ghost use Rattle.hd_terms.specs.Examples as examples;
 ghost use Rattle.hd_lines.specs.declared.commands.Command.TheVariants as commands;
 ghost use Rattle.hd_lines.specs.declared.commands.Query.TheVariants as queries;
 ghost use Rattle.hd_lines.specs.declared.commands.LineFault.TheVariants as line_faults;
-ghost use Rattle.hd_lines.specs.Lines.{command_of, lines_of, whole_lines};
+ghost use Rattle.hd_lines.specs.Lines.{command_of, last_word, lines_of, whole_lines};
 ghost use Rattle.hd_lines.specs.Asking.{asked};
 ghost use Rattle.hd_lines.specs.Memory.{at_log, beginning, board_log};
 ghost use Rattle.hd_lines.specs.Names.{name_text};
@@ -31,13 +31,13 @@ pub fn asking_examples()
 
 /// What two analysts are answered who cut one slot, what is answered where memory runs out, and a private part.
 pub fn session_examples()
-    ensures first_analyst { IsSession (session_examples.at_two_arrays 0) (beginning [] []) session_examples.turns_of_the_first }
-    ensures second_analyst { IsSession (session_examples.at_two_arrays 1) (beginning [] []) session_examples.turns_of_the_second }
-    ensures out_of_memory { IsSession (session_examples.at_two_arrays 0) (beginning [] []) (session_examples.turn_without_memory ∷ []) }
-    ensures behind { IsSession (session_examples.at_two_arrays 0) (beginning [] []) session_examples.turns_behind }
-    ensures private_part { IsSession (session_examples.at_two_arrays 0) (beginning [] []) session_examples.turns_of_a_private_part }
-    ensures private_part_alone { IsAlone (beginning [] []) session_examples.turns_of_a_private_part }
-    ensures private_part_leaves { board_log (memory_after (beginning [] []) session_examples.turns_of_a_private_part) ≡ session_examples.first_cuts 1 }
+    ensures first_analyst { IsSession (session_examples.at_two_arrays 0) (beginning false [] []) session_examples.turns_of_the_first }
+    ensures second_analyst { IsSession (session_examples.at_two_arrays 1) (beginning false [] []) session_examples.turns_of_the_second }
+    ensures out_of_memory { IsSession (session_examples.at_two_arrays 0) (beginning false [] []) (session_examples.turn_without_memory ∷ []) }
+    ensures behind { IsSession (session_examples.at_two_arrays 0) (beginning false [] []) session_examples.turns_behind }
+    ensures private_part { IsSession (session_examples.at_two_arrays 0) (beginning false [] []) session_examples.turns_of_a_private_part }
+    ensures private_part_alone { IsAlone (beginning false [] []) session_examples.turns_of_a_private_part }
+    ensures private_part_leaves { board_log (memory_after (beginning false [] []) session_examples.turns_of_a_private_part) ≡ session_examples.first_cuts 1 }
 {}
 
 /// What lines ask for, and why some ask for nothing.
@@ -84,6 +84,12 @@ pub fn line_examples()
     ensures back { command_of (codes "back") ≡ Ok commands.Back }
     ensures object { command_of (codes "object 0x21") ≡ Ok (commands.Ask None (queries.Object 0x21)) }
     ensures top { command_of (codes "top STRONG") ≡ Ok (commands.Ask None (queries.Top strengths.Strong)) }
+    ensures find { command_of (codes "find ThreadLocal") ≡ Ok (commands.Ask None queries.Find) }
+    ensures find_text { last_word (codes "find  ThreadLocal ") ≡ codes "ThreadLocal" }
+    ensures find_nothing { command_of (codes "find") ≡ Err line_faults.BadArgument }
+    ensures find_two_words { command_of (codes "find a b") ≡ Err line_faults.BadArgument }
+    ensures find_an_odd_byte { command_of (codes "find a" ++ 127 ∷ []) ≡ Err line_faults.BadArgument }
+    ensures head_of_find { command_of (codes "head 3 find [") ≡ Ok (commands.Ask (Some 3) queries.Find) }
     ensures freed { command_of (codes "freed 0") ≡ Ok (commands.Ask None (queries.Freed 0)) }
     ensures moved { command_of (codes "moved 15") ≡ Ok (commands.Ask None (queries.Moved 15)) }
     ensures names_on { command_of (codes "names on") ≡ Ok (commands.Names true) }
@@ -113,21 +119,21 @@ pub fn line_examples()
 
 /// What lines and whole inputs are answered under the empty log.
 pub fn reply_examples()
-    ensures strength { IsReply examples.two_arrays (beginning [] []) (codes "strength 0x2") (codes "ok 1" ++ 10 ∷ codes "STRONG" ++ 10 ∷ []) }
-    ensures absent { IsReply examples.two_arrays (beginning [] []) (codes "strength 0x9") (codes "no NoSuchObject" ++ 10 ∷ []) }
-    ensures no_prefix { IsReply examples.two_arrays (beginning [] []) (codes "strength 2") (codes "no BadArgument" ++ 10 ∷ []) }
-    ensures nothing_there { IsReply examples.empty_dump (beginning [] []) (codes "strength 0x1") (codes "no NoSuchObject" ++ 10 ∷ []) }
-    ensures events { IsReply examples.two_arrays (at_log (beginning [] []) examples.cut_and_undo) (codes "events")
+    ensures strength { IsReply examples.two_arrays (beginning false [] []) (codes "strength 0x2") (codes "ok 1" ++ 10 ∷ codes "STRONG" ++ 10 ∷ []) }
+    ensures absent { IsReply examples.two_arrays (beginning false [] []) (codes "strength 0x9") (codes "no NoSuchObject" ++ 10 ∷ []) }
+    ensures no_prefix { IsReply examples.two_arrays (beginning false [] []) (codes "strength 2") (codes "no BadArgument" ++ 10 ∷ []) }
+    ensures nothing_there { IsReply examples.empty_dump (beginning false [] []) (codes "strength 0x1") (codes "no NoSuchObject" ++ 10 ∷ []) }
+    ensures events { IsReply examples.two_arrays (at_log (beginning false [] []) examples.cut_and_undo) (codes "events")
         (codes "ok 2" ++ 10 ∷ codes "0 0 cut 0x1 e0 undone" ++ 10 ∷ codes "1 0 undo 0" ++ 10 ∷ []) }
-    ensures first_event { IsReply examples.two_arrays (at_log (beginning [] []) examples.cut_and_undo) (codes "head 1 events")
+    ensures first_event { IsReply examples.two_arrays (at_log (beginning false [] []) examples.cut_and_undo) (codes "head 1 events")
         (codes "ok 1" ++ 10 ∷ codes "0 0 cut 0x1 e0 undone" ++ 10 ∷ []) }
     ensures odd_name { name_text (Some (0x41 ∷ 0x20 ∷ 0xc3 ∷ 0xa9 ∷ 0x5c ∷ [])) ≡ codes "A\\x20\\xc3\\xa9\\x5c" }
     ensures no_name { name_text None ≡ codes "?" }
     ensures empty_name { name_text (Some []) ≡ codes "?" }
-    ensures no_such_mark { IsReply examples.two_arrays (beginning [] []) (codes "fell 1") (codes "no NoSuchMark" ++ 10 ∷ []) }
-    ensures roots { IsReply examples.two_arrays (beginning [] []) (codes "roots") (codes "ok 1" ++ 10 ∷ codes "0 unknown 0x1 stands" ++ 10 ∷ []) }
-    ensures served { IsServed examples.two_arrays (codes "strength 0x2" ++ 10 ∷ codes "quit" ++ 10 ∷ codes "strength 0x1" ++ 10 ∷ [])
+    ensures no_such_mark { IsReply examples.two_arrays (beginning false [] []) (codes "fell 1") (codes "no NoSuchMark" ++ 10 ∷ []) }
+    ensures roots { IsReply examples.two_arrays (beginning false [] []) (codes "roots") (codes "ok 1" ++ 10 ∷ codes "0 unknown 0x1 stands" ++ 10 ∷ []) }
+    ensures served { IsServed examples.two_arrays false (codes "strength 0x2" ++ 10 ∷ codes "quit" ++ 10 ∷ codes "strength 0x1" ++ 10 ∷ [])
         (codes "ok 1" ++ 10 ∷ codes "STRONG" ++ 10 ∷ codes "ok 0" ++ 10 ∷ []) }
-    ensures read_failed { IsServedUntilRead examples.two_arrays (codes "strength 0x2") (codes "2") [] }
-    ensures write_failed { IsServedUntilWrite examples.two_arrays (codes "strength 0x2") (codes "ok 1" ++ 10 ∷ codes "ST") }
+    ensures read_failed { IsServedUntilRead examples.two_arrays false (codes "strength 0x2") (codes "2") [] }
+    ensures write_failed { IsServedUntilWrite examples.two_arrays false (codes "strength 0x2") (codes "ok 1" ++ 10 ∷ codes "ST") }
 {}

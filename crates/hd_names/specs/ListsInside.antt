@@ -10,7 +10,7 @@ part_of elements part = take part.len (drop part.start elements)
 abbrev pub lists_of : {T : Type 0} → List T → List Part → List (List T)
 lists_of elements parts = map (part_of elements) parts
 
--- a part lies among so many elements
+-- a part lies among `n` elements
 abbrev pub IsWithin : ℕ → Part → Type 0
 IsWithin n part = part.start + part.len ≤ n
 

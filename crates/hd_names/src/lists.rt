@@ -59,7 +59,7 @@ impl<T: Copy> Lists<T> {
         }
     }
 
-    /// No list, with room for the places of so many.
+    /// No list, with room for the places of `lists` lists.
     ///
     /// # Errors
     ///

@@ -1,6 +1,6 @@
 -- What the program does with what the words ask for, and the exit status that it ends with.
 -- Source: this project.
-use Rattle.std.specs.Prelude.{◌≡◌, ◌≢◌, ◌⊎◌, ◌++◌, ℕ, List, Option, Result, Ok, Err, OnOk, codes}
+use Rattle.std.specs.Prelude.{◌≡◌, ◌≢◌, ◌⊎◌, ◌++◌, ℕ, Bool, List, Option, Result, Ok, Err, OnOk, codes}
 use Rattle.std.specs.Io.KnownBytes.{Keeps, Appends}
 use Rattle.hd_terms.specs.declared.Mode.{Mode}
 use Rattle.hd_lines.specs.Replies.{with_newline}
@@ -30,11 +30,11 @@ server_status (Err server_faults.Listen) = 1
 server_status (Err server_faults.Write) = 1
 server_status (Err (server_faults.Serve f)) = 1
 
--- lines were served over the bytes that were read from a file, opened in a mode
-pub record RunsFile (mode : Mode) (input rest before after : Option (List ℕ)) (exit : ℕ) : Type 0 where
+-- lines were served over the bytes that were read from a file, opened in a mode, with names from the beginning or without
+pub record RunsFile (mode : Mode) (names : Bool) (input rest before after : Option (List ℕ)) (exit : ℕ) : Type 0 where
   pub bytes : List ℕ
   pub ended : Result (Unit {0}) RunFault
-  pub runs : RunsDump mode bytes input rest before after ended
+  pub runs : RunsDump mode names bytes input rest before after ended
   pub exit_is : exit ≡ status ended
 
 -- the counts and totals of the bytes that were read from a file, opened in a mode, were printed, and no line was read
@@ -81,17 +81,17 @@ pub record TellsVersion (version : List ℕ) (input rest before after : Option (
 
 -- what is asked for is done: a version is told, or a task over the bytes that are read from the file, or these can't be read
 abbrev pub Performs : Task → (input rest before after : Option (List ℕ)) → (exit : ℕ) → Type 0
-Performs (tasks.Run opening) input rest before after exit = RunsFile opening.mode input rest before after exit ⊎ FailsFirst input rest before after exit
+Performs (tasks.Run opening) input rest before after exit = RunsFile opening.mode opening.names input rest before after exit ⊎ FailsFirst input rest before after exit
 Performs (tasks.Stat opening) input rest before after exit = StatsFile opening.mode input rest before after exit ⊎ FailsFirst input rest before after exit
 Performs (tasks.Serve serving) input rest before after exit = ServesFile serving.opening.mode input rest before after exit
 Performs (tasks.Version version) input rest before after exit = TellsVersion version.now input rest before after exit
 
--- one of the three tasks over a file is done over the bytes that are read from it, in some mode, or nothing
+-- one of the three tasks over a file is done over the bytes that are read from it, in some mode and with names or without, or nothing
 abbrev pub RunsOnFile : (input rest before after : Option (List ℕ)) → (exit : ℕ) → Type 0
 RunsOnFile input rest before after exit =
-    (mode : Mode) × (RunsFile mode input rest before after exit ⊎ (StatsFile mode input rest before after exit ⊎ (ServesFile mode input rest before after exit ⊎ FailsFirst input rest before after exit)))
+    (mode : Mode) × (names : Bool) × (RunsFile mode names input rest before after exit ⊎ (StatsFile mode input rest before after exit ⊎ (ServesFile mode input rest before after exit ⊎ FailsFirst input rest before after exit)))
 
 -- a run with words: a version is told; or one of the three tasks over a file is done over the bytes that are read from it, in
--- some mode; or nothing
+-- some mode and with names or without; or nothing
 abbrev pub RunsWords : (input rest before after : Option (List ℕ)) → (exit : ℕ) → Type 0
 RunsWords input rest before after exit = ((version : List ℕ) × TellsVersion version input rest before after exit) ⊎ RunsOnFile input rest before after exit

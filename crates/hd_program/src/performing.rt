@@ -1,5 +1,5 @@
 //! The whole program, over given streams.
-ghost use Rattle.std.specs.Prelude.{◌≡◌, ◌≢◌, ◌⊎◌, [], Result, Err, IfOk, OnOk, string_bytes};
+ghost use Rattle.std.specs.Prelude.{◌≡◌, ◌≢◌, ◌⊎◌, [], false, Result, Err, IfOk, OnOk, string_bytes};
 ghost use Rattle.std.specs.Arc.{arc_value};
 ghost use Rattle.std.specs.Io.KnownBytes.{Appends, Keeps};
 ghost use Rattle.hd_terms.specs.Workers.{IsWorkers};
@@ -137,22 +137,24 @@ fn tell_version<W: Write>(alloc: Global, version: &str, output: &mut W) -> Resul
     Ok(())
 }
 
-/// Serves one analyst's lines over an open graph. What is being done is shown until the first line.
+/// Serves one analyst's lines over an open graph, with names from the beginning where `names` says so. What is being done is shown
+/// until the first line.
 fn run_graph<T: AllocGlobal + Clock + Threads + Wait + Sync, R: BufRead, W: Write, E: Write>(
     rt: &T,
     graph: Arc<Graph>,
+    names: bool,
     status: &mut StatusLine,
     input: &mut R,
     output: &mut W,
     faults: &mut E,
 ) -> Result<(), RunFault>
-    ensures { RunsOver (arc_value graph) (R.remaining input.old) (R.remaining input.new) (W.contents output.old) (W.contents output.new) result }
+    ensures { RunsOver (arc_value graph) names (R.remaining input.old) (R.remaining input.new) (W.contents output.old) (W.contents output.new) result }
 {
     status.show(rt, faults, "finding strengths");
     let counts = shown_counts(&graph, status);
     let (board, desk) = open_alone(rt, rt.alloc(), graph)?;
     end_status(status, rt, faults, counts);
-    serve_alone(rt, rt.alloc(), board, desk, input, output)
+    serve_alone(rt, names, board, desk, input, output)
 }
 
 /// Serves one analyst's lines over the bytes of a file, which are given up before the first line. What is being done is shown
@@ -172,12 +174,12 @@ fn run_file<
     faults: &mut E,
 ) -> Result<(), RunFault>
     requires workers { IsWorkers opening.workers }
-    ensures { RunsDump opening.entry.mode bytes.items (R.remaining input.old) (R.remaining input.new) (W.contents output.old) (W.contents output.new) result }
+    ensures { RunsDump opening.entry.mode opening.entry.names bytes.items (R.remaining input.old) (R.remaining input.new) (W.contents output.old) (W.contents output.new) result }
 {
     status.show(rt, faults, "finding objects and references");
     let graph = open_bytes(rt, bytes.as_slice(), opening.workers, opening.mode)?;
     drop(bytes);
-    run_graph(rt, graph, status, input, output, faults)?;
+    run_graph(rt, graph, opening.names, status, input, output, faults)?;
     Ok(())
 }
 
@@ -194,7 +196,7 @@ where
     T: AllocGlobal + Clock + Files<File = File> + RandomSource + Threads + Wait + Sync,
     requires { IsWorkers opening.workers }
     ensures no_usage { result ≢ USAGE }
-    ensures runs { RunsFile opening.entry.mode (R.remaining input.old) (R.remaining input.new) (W.contents output.old) (W.contents output.new) result
+    ensures runs { RunsFile opening.entry.mode opening.entry.names (R.remaining input.old) (R.remaining input.new) (W.contents output.old) (W.contents output.new) result
         ⊎ FailsFirst (R.remaining input.old) (R.remaining input.new) (W.contents output.old) (W.contents output.new) result }
 {
     match read_file(rt, opening.file, status, faults) {
@@ -312,7 +314,7 @@ where
         + Wait
         + Sync,
     ensures run { words.now ≡ [] → (ended : Result (Unit {0}) RunFault) × (result ≡ status ended)
-        × RunsDump Direct SAMPLE (R.remaining input.old) (R.remaining input.new) (W.contents output.old) (W.contents output.new) ended }
+        × RunsDump Direct false SAMPLE (R.remaining input.old) (R.remaining input.new) (W.contents output.old) (W.contents output.new) ended }
     ensures words { words.now ≢ [] → RunsWords (R.remaining input.old) (R.remaining input.new) (W.contents output.old) (W.contents output.new) result }
     ensures usage { result ≡ USAGE → Keeps (R.remaining input.old) (R.remaining input.new) × Keeps (W.contents output.old) (W.contents output.new) }
 {
@@ -325,7 +327,7 @@ where
         Ok(None) => {
             let _ = writeln!(
                 faults,
-                "usage: hdesk [run FILE | stat FILE | serve FILE --port P --analysts N] [--workers N] [--phantom MODE] | --version"
+                "usage: hdesk [run FILE | stat FILE | serve FILE --port P --analysts N] [--workers N] [--phantom MODE] [--names] | --version"
             );
             USAGE
         }

@@ -99,7 +99,8 @@ where
         return Err(ServerFault::Listen);
     };
     tell_port(rt.alloc(), port, output)?;
-    match serve_on(rt, rt.alloc(), graph, listener, serving.analysts, output) {
+    let names = serving.opening.names;
+    match serve_on(rt, names, graph, listener, serving.analysts, output) {
         Ok(()) => Ok(()),
         Err(fault) => Err(ServerFault::Serve(fault)),
     }

@@ -1,10 +1,11 @@
 -- Lemmas on the lines of what was read, and on what is kept of one.
 use Rattle.std.proofs.Common.{◌≡◌, ◌∙◌, ℕ, ◌<◌, ◌≤◌, inl, inr, Bool, true, false, cond, List, [], ◌∷◌, ◌++◌, length, refl, sym, ap, arith, append_assoc, append-nil, take_all, take-take, length-take, length-take-le, length-append}
-use Rattle.std.specs.Prelude.{◌==◌, nat_lt}
+use Rattle.std.specs.Prelude.{◌==◌, nat_lt, if◌then◌else◌, Err}
 use Rattle.std.specs.List.{onto_first}
 use Rattle.std.proofs.lemmas.Bool.{cases_lt, lt-ltb}
 use Rattle.std.proofs.lemmas.List.{take-append-le}
-use Rattle.hd_lines.specs.Lines.{pieces, all_but_last, without_empty_end, whole_lines, lines_of, run_lines, is_quit, command_of}
+use Rattle.hd_lines.specs.declared.commands.LineFault.TheVariants as line_faults
+use Rattle.hd_lines.specs.Lines.{pieces, all_but_last, without_empty_end, whole_lines, lines_of, run_lines, is_quit, command_of, command_of_words, last_of, last_word, words_of}
 use Rattle.hd_protocol.specs.Serving.{last_piece, open_line, kept_of, NoneQuits}
 
 -- a list with a first
@@ -144,16 +145,24 @@ run_lines-push xs x h = run_lines-append xs (x ∷ []) h ∙ ap (λ l. xs ++ l) 
 pub run_lines-quit : (xs : List (List ℕ)) (x : List ℕ) (ys : List (List ℕ)) → NoneQuits xs → is_quit x ≡ true → run_lines (xs ++ x ∷ ys) ≡ xs ++ x ∷ []
 run_lines-quit xs x ys h quits = run_lines-append xs (x ∷ ys) h ∙ ap (λ t. xs ++ cond t (x ∷ []) (x ∷ run_lines ys)) quits
 
--- what is kept of a line is enough for what it spells
-pub command_of-kept : (line : List ℕ) → command_of (kept_of line) ≡ command_of line
-command_of-kept line = elim (cases_lt 4096 (length line)) [
+-- what is kept of a line is enough for what is said of lines that aren't too long
+kept-enough : {X : Type 0} (long : X) (short : List ℕ → X) (line : List ℕ)
+    → (if nat_lt 4096 (length (kept_of line)) then long else short (kept_of line)) ≡ (if nat_lt 4096 (length line) then long else short line)
+kept-enough long short line = elim (cases_lt 4096 (length line)) [
   | inl lt ↦
-      let long : length (kept_of line) ≡ 4097 = length-take-le 4097 line (omega arith) in
+      let kept : length (kept_of line) ≡ 4097 = length-take-le 4097 line (omega arith) in
       let kept_long : nat_lt 4096 (length (kept_of line)) ≡ true = lt-ltb 4096 (length (kept_of line)) (omega arith) in
       let line_long : nat_lt 4096 (length line) ≡ true = lt-ltb 4096 (length line) lt in
       rw (kept_long, line_long) refl
-  | inr le ↦ ap command_of (take_all 4097 line (omega arith))
+  | inr le ↦ ap (λ (l : List ℕ). if nat_lt 4096 (length l) then long else short l) (take_all 4097 line (omega arith))
 ]
+
+-- so it spells the same, and has the same last word
+pub command_of-kept : (line : List ℕ) → command_of (kept_of line) ≡ command_of line
+command_of-kept line = kept-enough (Err line_faults.LineTooLong) (λ (l : List ℕ). command_of_words (words_of l)) line
+
+pub last_word-kept : (line : List ℕ) → last_word (kept_of line) ≡ last_word line
+last_word-kept line = kept-enough [] (λ (l : List ℕ). last_of [] (words_of l)) line
 
 -- one more byte of a line
 pub kept_of-push : (line : List ℕ) (b : ℕ) → kept_of (kept_of line ++ b ∷ []) ≡ kept_of (line ++ b ∷ [])

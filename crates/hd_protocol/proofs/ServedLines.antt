@@ -6,7 +6,7 @@ use Rattle.std.proofs.KnownBytes.{Keeps-refl}
 use Rattle.std.proofs.lemmas.List.{take_more}
 use Rattle.hd_lines.specs.declared.commands.Command.{Command}
 use Rattle.hd_lines.specs.declared.commands.LineFault.{LineFault}
-use Rattle.hd_lines.specs.Lines.{whole_lines, lines_of, run_lines, is_quit, is_quit_command, command_of}
+use Rattle.hd_lines.specs.Lines.{whole_lines, lines_of, run_lines, is_quit, is_quit_command, command_of, last_word}
 use Rattle.hd_lines.specs.Memory.{Memory}
 use Rattle.hd_lines.specs.Sessions.{Analyst, Turn, replies}
 use Rattle.hd_analyst.specs.Work.{Work}
@@ -16,7 +16,7 @@ use Rattle.hd_protocol.specs.declared.serving.Flow.{Flow}
 use Rattle.hd_protocol.specs.declared.serving.Flow.TheVariants as flows
 use Rattle.hd_analyst.specs.Answering.{IsAnswered}
 use Rattle.hd_protocol.specs.Serving.{open_line, kept_of, IsAnsweredSoFar, Midway, midway, IsLeft, IsOpen, OfBytes, ServedFrom, ServedUntilReadFrom, ServedUntilWriteFrom, Stands, RunsBytes, RunsLine, StandsAtEnd, RunsEnd, RunsInput, ServesFrom}
-use Rattle.hd_protocol.proofs.Lines.{whole_lines-newline, open_line-newline, whole_lines-other, open_line-other, lines_of-none, lines_of-some, lines_of-newline, run_lines-all, run_lines-push, run_lines-quit, command_of-kept, kept_of-push, kept_of-none, kept_of-some}
+use Rattle.hd_protocol.proofs.Lines.{whole_lines-newline, open_line-newline, whole_lines-other, open_line-other, lines_of-none, lines_of-some, lines_of-newline, run_lines-all, run_lines-push, run_lines-quit, command_of-kept, last_word-kept, kept_of-push, kept_of-none, kept_of-some}
 use Rattle.hd_protocol.proofs.Turns.{answered_none, answered_push, all_push, last_turn, memory_with, reply_with, session_with}
 use Rattle.hd_protocol.proofs.Writing.{appends_nil, appends_both, appends_kept, consumes_nil, consumes_both, consumes_kept}
 
@@ -51,7 +51,7 @@ fault_between a first seen rest written memory lines read are so_far = (
 
 -- the reply to one more line broke off
 fault_at : (a : Analyst) (first : Memory) (seen rest written : List ℕ) (before lines : List (List ℕ)) (old new : Work) (line reply : List ℕ) (k : ℕ) → (lines ≡ whole_lines seen) ⊎ ((rest ≡ []) × (lines ≡ lines_of seen))
-    → run_lines lines ≡ before ++ line ∷ [] → old.analyst ≡ a → IsAnsweredSoFar a first before written old.memory → IsAnswered old new (command_of line) reply
+    → run_lines lines ≡ before ++ line ∷ [] → old.analyst ≡ a → IsAnsweredSoFar a first before written old.memory → IsAnswered old new (last_word line) (command_of line) reply
     → ServedUntilWriteFrom a first new.memory (seen ++ rest) (written ++ take k reply)
 fault_at a first seen rest written before lines old new line reply k read are is so_far h =
     let t : Turn = last_turn a first before written old new line reply is so_far h in (
@@ -76,26 +76,32 @@ fault_at a first seen rest written before lines old new line reply k read are is
     )
 
 -- a line that is answered leaves the analyst
-pub answered_same : (old new : Work) (reading : Result Command LineFault) (reply : List ℕ) → IsAnswered old new reading reply → new.analyst ≡ old.analyst
-answered_same old new reading reply h = h.run.same_analyst ∙ h.refreshes.same_analyst
+pub answered_same : (old new : Work) (text : List ℕ) (reading : Result Command LineFault) (reply : List ℕ) → IsAnswered old new text reading reply → new.analyst ≡ old.analyst
+answered_same old new text reading reply h = h.run.same_analyst ∙ h.refreshes.same_analyst
 
 -- nothing was read
 pub open_none : (work : Work) → IsOpen work.analyst work.memory [] (midway work []) []
 open_none work = record { same_analyst = refl; so_far = answered_none work.analyst work.memory; none_quits = tt; kept_is = refl }
 
 module _ (a : Analyst) (first : Memory) (seen : List ℕ) (m : Midway) (written : List ℕ) (o : IsOpen a first seen m written) where
-  -- what is kept of the open line spells the same
+  -- what is kept of the open line spells the same, and has the same last word
   same_command : command_of (open_line seen) ≡ command_of m.kept
   same_command = sym (ap command_of o.kept_is ∙ command_of-kept (open_line seen))
+
+  same_word : last_word (open_line seen) ≡ last_word m.kept
+  same_word = sym (ap last_word o.kept_is ∙ last_word-kept (open_line seen))
 
   quit_of_open : is_quit (open_line seen) ≡ is_quit m.kept
   quit_of_open = ap is_quit_command same_command
 
-  -- the open line is answered
-  answered_open : (new : Work) (reply : List ℕ) → IsAnswered m.work new (command_of m.kept) reply → IsAnsweredSoFar a first (whole_lines seen ++ open_line seen ∷ []) (written ++ reply) new.memory
-  answered_open new reply h =
-      answered_push a first (whole_lines seen) written m.work new (open_line seen) reply o.same_analyst o.so_far
-      (subst (λ (c : Result Command LineFault). IsAnswered m.work new c reply) (sym same_command) h)
+  -- what was answered to what is kept is answered to the open line
+  open_answered : (new : Work) (reply : List ℕ) → IsAnswered m.work new (last_word m.kept) (command_of m.kept) reply → IsAnswered m.work new (last_word (open_line seen)) (command_of (open_line seen)) reply
+  open_answered new reply h =
+      subst (λ (word : List ℕ). IsAnswered m.work new word (command_of (open_line seen)) reply) (sym same_word)
+      (subst (λ (c : Result Command LineFault). IsAnswered m.work new (last_word m.kept) c reply) (sym same_command) h)
+
+  answered_open : (new : Work) (reply : List ℕ) → IsAnswered m.work new (last_word m.kept) (command_of m.kept) reply → IsAnsweredSoFar a first (whole_lines seen ++ open_line seen ∷ []) (written ++ reply) new.memory
+  answered_open new reply h = answered_push a first (whole_lines seen) written m.work new (open_line seen) reply o.same_analyst o.so_far (open_answered new reply h)
 
   -- a byte that is no newline
   pub after_other : (b : ℕ) → (b ≡ 10 → ⊥) → IsOpen a first (seen ++ b ∷ []) (midway m.work (kept_of (m.kept ++ b ∷ []))) written
@@ -110,18 +116,18 @@ module _ (a : Analyst) (first : Memory) (seen : List ℕ) (m : Midway) (written 
       }
 
   -- a newline after a line that isn't `quit`
-  after_newline : (new : Work) (reply : List ℕ) → IsAnswered m.work new (command_of m.kept) reply → is_quit m.kept ≡ false → IsOpen a first (seen ++ 10 ∷ []) (midway new []) (written ++ reply)
+  after_newline : (new : Work) (reply : List ℕ) → IsAnswered m.work new (last_word m.kept) (command_of m.kept) reply → is_quit m.kept ≡ false → IsOpen a first (seen ++ 10 ∷ []) (midway new []) (written ++ reply)
   after_newline new reply h goes_on =
       let whole : whole_lines (seen ++ 10 ∷ []) ≡ whole_lines seen ++ open_line seen ∷ [] = whole_lines-newline seen in
       record {
-        same_analyst = answered_same m.work new (command_of m.kept) reply h ∙ o.same_analyst;
+        same_analyst = answered_same m.work new (last_word m.kept) (command_of m.kept) reply h ∙ o.same_analyst;
         so_far = rw whole (answered_open new reply h);
         none_quits = rw whole (all_push (λ line. is_quit line ≡ false) (whole_lines seen) (open_line seen) o.none_quits (quit_of_open ∙ goes_on));
         kept_is = ap kept_of (sym (open_line-newline seen));
       }
 
   -- a newline after `quit`
-  after_quit : (new : Work) (reply : List ℕ) → IsAnswered m.work new (command_of m.kept) reply → is_quit m.kept ≡ true → (rest : List ℕ)
+  after_quit : (new : Work) (reply : List ℕ) → IsAnswered m.work new (last_word m.kept) (command_of m.kept) reply → is_quit m.kept ≡ true → (rest : List ℕ)
       → ServedFrom a first new.memory ((seen ++ 10 ∷ []) ++ rest) (written ++ reply)
   after_quit new reply h quits rest =
       served a first ((seen ++ 10 ∷ []) ++ rest) (written ++ reply) new.memory (whole_lines seen ++ open_line seen ∷ [])
@@ -130,12 +136,8 @@ module _ (a : Analyst) (first : Memory) (seen : List ℕ) (m : Midway) (written 
       ∙ run_lines-quit (whole_lines seen) (open_line seen) (lines_of rest) o.none_quits (quit_of_open ∙ quits))
       (answered_open new reply h)
 
-  -- what was read so far spells this open line
-  open_answered : (new : Work) (reply : List ℕ) → IsAnswered m.work new (command_of m.kept) reply → IsAnswered m.work new (command_of (open_line seen)) reply
-  open_answered new reply h = subst (λ (c : Result Command LineFault). IsAnswered m.work new c reply) (sym same_command) h
-
   -- a fault while the reply to the open line was written
-  after_fault : (new : Work) (reply : List ℕ) (k : ℕ) → IsAnswered m.work new (command_of m.kept) reply → (rest : List ℕ)
+  after_fault : (new : Work) (reply : List ℕ) (k : ℕ) → IsAnswered m.work new (last_word m.kept) (command_of m.kept) reply → (rest : List ℕ)
       → ServedUntilWriteFrom a first new.memory ((seen ++ 10 ∷ []) ++ rest) (written ++ take k reply)
   after_fault new reply k h rest =
       fault_at a first (seen ++ 10 ∷ []) rest written (whole_lines seen) (whole_lines seen ++ open_line seen ∷ []) m.work new (open_line seen) reply k (inl (sym (whole_lines-newline seen)))
@@ -164,12 +166,12 @@ module _ (a : Analyst) (first : Memory) (seen : List ℕ) (m : Midway) (written 
   last : 0 < length m.kept → lines_of seen ≡ whole_lines seen ++ open_line seen ∷ []
   last some = lines_of-some seen (kept_of-some (open_line seen) (subst (λ l. 0 < length l) o.kept_is some))
 
-  end_served : 0 < length m.kept → (new : Work) (reply : List ℕ) → IsAnswered m.work new (command_of m.kept) reply → ServedFrom a first new.memory seen (written ++ reply)
+  end_served : 0 < length m.kept → (new : Work) (reply : List ℕ) → IsAnswered m.work new (last_word m.kept) (command_of m.kept) reply → ServedFrom a first new.memory seen (written ++ reply)
   end_served some new reply h =
       served a first seen (written ++ reply) new.memory (whole_lines seen ++ open_line seen ∷ [])
       (ap run_lines (last some) ∙ run_lines-push (whole_lines seen) (open_line seen) o.none_quits) (answered_open new reply h)
 
-  end_fault : 0 < length m.kept → (new : Work) (reply : List ℕ) (k : ℕ) → IsAnswered m.work new (command_of m.kept) reply → ServedUntilWriteFrom a first new.memory seen (written ++ take k reply)
+  end_fault : 0 < length m.kept → (new : Work) (reply : List ℕ) (k : ℕ) → IsAnswered m.work new (last_word m.kept) (command_of m.kept) reply → ServedUntilWriteFrom a first new.memory seen (written ++ take k reply)
   end_fault some new reply k h =
       subst (λ l. ServedUntilWriteFrom a first new.memory l (written ++ take k reply)) (append-nil seen)
       (fault_at a first seen [] written (whole_lines seen) (whole_lines seen ++ open_line seen ∷ []) m.work new (open_line seen) reply k (inr (refl, sym (last some)))
@@ -212,7 +214,7 @@ module _ (old new : Work) (line kept : List ℕ) (b : ℕ) (before after : Optio
   pub runs_newline : (kept' : List ℕ) (flow : Flow) → kept' ≡ [] → RunsLine old new line before after (Ok flow) → RunsBytes (b ∷ []) (midway old kept) (midway new kept') before after (Ok flow)
   runs_newline kept' flow none run =
       let ran : RunsBytes (10 ∷ []) (midway old kept) (midway new []) before after (Ok flow) = (
-        answered_same old new (command_of line) run.reply run.answered,
+        answered_same old new (last_word line) (command_of line) run.reply run.answered,
         λ a first seen written o. newline_ok a first seen (midway old kept) written o new before after flow (subst (λ l. RunsLine old new l before after (Ok flow)) same run),
       ) in
       subst (λ d. RunsBytes (d ∷ []) (midway old kept) (midway new kept') before after (Ok flow)) (sym newline)
@@ -222,7 +224,7 @@ module _ (old new : Work) (line kept : List ℕ) (b : ℕ) (before after : Optio
       → RunsBytes (b ∷ []) (midway old kept) (midway new kept') before after result
   runs_newline_fault kept' e result is run =
       let ran : RunsBytes (10 ∷ []) (midway old kept) (midway new kept') before after (Err e) = (
-        answered_same old new (command_of line) run.reply run.answered,
+        answered_same old new (last_word line) (command_of line) run.reply run.answered,
         λ a first seen written o. newline_err a first seen (midway old kept) written o new before after kept' e (subst (λ l. RunsLine old new l before after (Err e)) same run),
       ) in
       subst (λ d. RunsBytes (d ∷ []) (midway old kept) (midway new kept') before after result) (sym newline) (subst (λ r. RunsBytes (10 ∷ []) (midway old kept) (midway new kept') before after r) (sym is) ran)
@@ -297,14 +299,14 @@ module _ (m : Midway) (a b : Option (List ℕ)) (done : Unit {0}) where
 
   pub runs_end : (new : Work) (flow : Flow) → 0 < length m.kept → RunsLine m.work new m.kept a b (Ok flow) → RunsEnd m new a b (Ok done)
   runs_end new flow some run = (
-    answered_same m.work new (command_of m.kept) run.reply run.answered,
+    answered_same m.work new (last_word m.kept) (command_of m.kept) run.reply run.answered,
     λ analyst first seen written o. end_ok analyst first seen m written o some new a b flow run,
   )
 
   pub runs_end_fault : (new : Work) (e : ServeFault) (result : Result (Unit {0}) ServeFault) → result ≡ Err e → 0 < length m.kept → RunsLine m.work new m.kept a b (Err e) → RunsEnd m new a b result
   runs_end_fault new e result is some run =
       subst (RunsEnd m new a b) (sym is) (
-        answered_same m.work new (command_of m.kept) run.reply run.answered,
+        answered_same m.work new (last_word m.kept) (command_of m.kept) run.reply run.answered,
         λ analyst first seen written o. end_err analyst first seen m written o some new a b e run,
       )
 

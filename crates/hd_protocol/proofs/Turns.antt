@@ -3,7 +3,7 @@ use Rattle.std.proofs.Common.{◌≡◌, ◌∙◌, ℕ, List, [], ◌∷◌, �
 use Rattle.std.specs.List.{AllByRecursion}
 use Rattle.std.proofs.lemmas.List.{map-append}
 use Rattle.std.proofs.lemmas.List.Concat.{flat_map-append}
-use Rattle.hd_lines.specs.Lines.{command_of}
+use Rattle.hd_lines.specs.Lines.{command_of, last_word}
 use Rattle.hd_lines.specs.Memory.{Memory}
 use Rattle.hd_lines.specs.Sessions.{Analyst, Turn, IsLater, IsRefreshed, IsTurn, IsSession, IsSessionOver, memory_after, replies}
 use Rattle.hd_analyst.specs.Answering.{IsAnswered, turn_of}
@@ -29,7 +29,7 @@ all_push P [] x h p = (p, tt)
 all_push P (y ∷ ys) x h p = (h.0, all_push P ys x h.1 p)
 
 -- the turn of one more line
-module _ (a : Analyst) (first : Memory) (lines : List (List ℕ)) (written : List ℕ) (old new : Work) (line reply : List ℕ) (is : old.analyst ≡ a) (so_far : IsAnsweredSoFar a first lines written old.memory) (h : IsAnswered old new (command_of line) reply) where
+module _ (a : Analyst) (first : Memory) (lines : List (List ℕ)) (written : List ℕ) (old new : Work) (line reply : List ℕ) (is : old.analyst ≡ a) (so_far : IsAnsweredSoFar a first lines written old.memory) (h : IsAnswered old new (last_word line) (command_of line) reply) where
   abbrev pub last_turn : Turn
   last_turn = turn_of line h.between.memory h.run.found new.memory reply
 
@@ -46,7 +46,7 @@ module _ (a : Analyst) (first : Memory) (lines : List (List ℕ)) (written : Lis
   pub session_with : IsSessionOver a first (lines ++ line ∷ []) (so_far.turns ++ last_turn ∷ [])
   session_with = record {
     session = session_push a first so_far.turns last_turn so_far.session.session (subst (λ (m : Memory). IsRefreshed a.who m h.between.memory) so_far.memory_is refreshed) later
-        (subst (λ (x : Analyst). IsTurn x last_turn) same (h.run.is_turn line refl));
+        (subst (λ (x : Analyst). IsTurn x last_turn) same (h.run.is_turn line refl refl));
     over = map-append (λ (u : Turn). u.line) so_far.turns (last_turn ∷ []) ∙ ap (λ l. l ++ line ∷ []) so_far.session.over;
   }
 

@@ -1,9 +1,9 @@
 -- What serving does: to a beginning of the input, and to all of it.
 -- Source: this project.
-use Rattle.std.specs.Prelude.{◌≡◌, ℕ, true, false, List, [], ◌∷◌, ◌++◌, take, Option, Some, Result, Ok, Err, IfSome}
+use Rattle.std.specs.Prelude.{◌≡◌, ℕ, Bool, true, false, List, [], ◌∷◌, ◌++◌, take, Option, Some, Result, Ok, Err, IfSome}
 use Rattle.std.specs.List.{AllByRecursion}
 use Rattle.std.specs.Io.KnownBytes.{Keeps, Appends}
-use Rattle.hd_lines.specs.Lines.{command_of, pieces, whole_lines, is_quit}
+use Rattle.hd_lines.specs.Lines.{command_of, last_word, pieces, whole_lines, is_quit}
 use Rattle.hd_lines.specs.Memory.{Memory, beginning, board_log}
 use Rattle.hd_terms.specs.Schedule.{Board}
 use Rattle.hd_lines.specs.Sessions.{Analyst, Turn, IsSessionOver, memory_after, replies, IsServedBy, IsServedUntilReadBy, IsServedUntilWriteBy}
@@ -95,7 +95,7 @@ EndsLine line reply before after (Err faults.OutOfMemory) = ⊥
 -- a line is run
 pub record RunsLine (old new : Work) (line : List ℕ) (before after : Option (List ℕ)) (result : Result Flow ServeFault) : Type 0 where
   pub reply : List ℕ
-  pub answered : IsAnswered old new (command_of line) reply
+  pub answered : IsAnswered old new (last_word line) (command_of line) reply
   pub ends : EndsLine line reply before after result
 
 -- how it stands at the end of the input
@@ -146,11 +146,11 @@ pub record RunsInput (old new : Work) (input rest before after : Option (List �
   pub same_analyst : new.analyst ≡ old.analyst
   pub serves : ServesFrom old.analyst old.memory new.memory input rest before after result
 
--- a session of a desk at a board was served. The desk has then seen what the session had seen at last of the board's log: that
+-- a session of a desk at a board was served, which began with names or without. The desk has then seen what the session had seen at last of the board's log: that
 -- of its last turn, or where it ended in a private part, of the part's home
-pub record Serves (board : Board) (old new : Replica) (input rest before after : Option (List ℕ)) (result : Result Unit ServeFault) : Type 0 where
+pub record Serves (board : Board) (names : Bool) (old new : Replica) (input rest before after : Option (List ℕ)) (result : Result Unit ServeFault) : Type 0 where
   pub last : Memory
-  pub served : ServesFrom (analyst_at board old) (beginning old.seen old.front) last input rest before after result
+  pub served : ServesFrom (analyst_at board old) (beginning names old.seen old.front) last input rest before after result
   pub same_who : new.who ≡ old.who
   pub same_dump : new.dump ≡ old.dump
   pub seen_is : new.seen ≡ board_log last

@@ -1,5 +1,5 @@
 //! A run: a dump's bytes are opened, and one analyst's lines are served over it.
-ghost use Rattle.std.specs.Prelude.{◌≡◌, IfOk, IfErr};
+ghost use Rattle.std.specs.Prelude.{◌≡◌, false, IfOk, IfErr};
 ghost use Rattle.std.specs.Arc.{arc_value};
 ghost use Rattle.hd_terms.specs.Workers.{IsWorkers};
 ghost use Rattle.hd_terms.specs.Objects.{IsDumpOf, IsNamelessDumpOf};
@@ -137,14 +137,15 @@ pub fn open_alone<T: Threads + Sync>(
     }
 }
 
-/// Serves the lines of the only analyst of a board that was just opened, and closes the board.
+/// Serves the lines of the only analyst of a board that was just opened, and closes the board. Replies show names from the beginning
+/// where `names` says so.
 ///
 /// # Errors
 ///
 /// Serving ended early, or the board can't be closed.
-pub fn serve_alone<R: BufRead, W: Write>(
-    rt: &impl Wait,
-    alloc: Global,
+pub fn serve_alone<T: AllocGlobal + Wait, R: BufRead, W: Write>(
+    rt: &T,
+    names: bool,
     board: Board,
     desk: Desk,
     input: &mut R,
@@ -152,10 +153,10 @@ pub fn serve_alone<R: BufRead, W: Write>(
 ) -> Result<(), RunFault>
     requires board { board ≡ opened_board desk.dump 1 }
     requires desk { desk ≡ opened_desk desk.dump 0 }
-    ensures { RunsOver desk.dump (R.remaining input.old) (R.remaining input.new) (W.contents output.old) (W.contents output.new) result }
+    ensures { RunsOver desk.dump names (R.remaining input.old) (R.remaining input.new) (W.contents output.old) (W.contents output.new) result }
 {
     let mut desks = [desk];
-    serve(rt, alloc, input, output, &board, &mut desks[0])?;
+    serve(rt, names, input, output, &board, &mut desks[0])?;
     match board.close(&desks) {
         Ok(_log) => Ok(()),
         Err(_fault) => Err(RunFault::Close),
@@ -163,6 +164,7 @@ pub fn serve_alone<R: BufRead, W: Write>(
 }
 
 /// Opens the bytes of a dump and serves one analyst's lines over it, on a board of one desk, which is closed at the end.
+/// Replies show names once a line says so.
 ///
 /// `workers` is the number of threads that decode, 1 to 16; `mode` says how far phantom references are followed.
 ///
@@ -178,10 +180,10 @@ pub fn run_bytes<T: AllocGlobal + RandomSource + Threads + Wait + Sync, R: BufRe
     output: &mut W,
 ) -> Result<(), RunFault>
     requires workers { IsWorkers workers }
-    ensures { RunsDump mode bytes.now (R.remaining input.old) (R.remaining input.new) (W.contents output.old) (W.contents output.new) result }
+    ensures { RunsDump mode false bytes.now (R.remaining input.old) (R.remaining input.new) (W.contents output.old) (W.contents output.new) result }
 {
     let graph = open_bytes(rt, bytes, workers, mode)?;
     let (board, desk) = open_alone(rt, rt.alloc(), graph)?;
-    serve_alone(rt, rt.alloc(), board, desk, input, output)?;
+    serve_alone(rt, false, board, desk, input, output)?;
     Ok(())
 }

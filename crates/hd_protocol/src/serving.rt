@@ -8,7 +8,7 @@ use hd_analyst::{Analyst, FixedBuffer, LONGEST_REPLY, answer, first_marks};
 use hd_board::{Board, Desk};
 use hd_lines::{Command, LineFault};
 use hd_terms::NoMemory;
-use hd_words::{LONGEST_LINE, read_command};
+use hd_words::{LONGEST_LINE, last_word, read_command};
 use std::alloc::{AllocError, Global};
 use std::io::{BufRead, Write};
 use std::mem;
@@ -131,12 +131,14 @@ fn run_line<W: Write>(
     ensures line { service.new.line ≡ service.old.line }
     ensures runs { RunsLine service.old.analyst service.new.analyst service.old.line (W.contents writer.old) (W.contents writer.new) result }
 {
-    let reading = read_command(service.line.as_slice());
+    let line = service.line.as_slice();
+    let reading = read_command(line);
     match answer(
         rt,
         service.alloc,
         &mut service.analyst,
         reading,
+        last_word(line),
         &mut service.reply,
     ) {
         Some(text) => put_all(writer, text.as_bytes())?,
@@ -243,7 +245,7 @@ fn run_input<R: BufRead, W: Write>(
 }
 
 /// Serves the lines of a reader to a writer: a session of a desk at a board, from what the desk has seen, until the input ends, a
-/// line is `quit`, or a fault. Before each command but `quit` the desk is refreshed. Room for lines, short replies and marks is
+/// line is `quit`, or a fault. Replies show names from the beginning where `names` says so. Before each command but `quit` the desk is refreshed. Room for lines, short replies and marks is
 /// taken before anything is read; the writer is flushed before each refill and at the end. Where the session ends in a private
 /// part, the desk is left as it was when the part began.
 ///
@@ -251,23 +253,24 @@ fn run_input<R: BufRead, W: Write>(
 ///
 /// The reader or the writer failed, and the desk has seen what the lines that were run have done; or memory ran out before
 /// anything was read, and the desk has seen no more than before.
-pub fn serve<R: BufRead, W: Write>(
-    rt: &impl Wait,
-    alloc: Global,
+pub fn serve<T: AllocGlobal + Wait, R: BufRead, W: Write>(
+    rt: &T,
+    names: bool,
     reader: &mut R,
     writer: &mut W,
     board: &Board,
     desk: &mut Desk,
 ) -> Result<(), ServeFault>
-    ensures { Serves board.now desk.old desk.new (R.remaining reader.old) (R.remaining reader.new) (W.contents writer.old) (W.contents writer.new) result }
+    ensures { Serves board.now names desk.old desk.new (R.remaining reader.old) (R.remaining reader.new) (W.contents writer.old) (W.contents writer.new) result }
 {
+    let alloc = rt.alloc();
     let mut chunk = FixedBuffer::new(alloc)?;
     let line = FixedBuffer::new(alloc)?;
     let reply = FixedBuffer::new(alloc)?;
     let marks = first_marks(alloc, desk)?;
     // The session owns its desk; another one stands in its place until it comes back.
     let (_board, stand_in) = Board::fork(desk)?;
-    let analyst = Analyst::begin(board, mem::replace(desk, stand_in), marks);
+    let analyst = Analyst::begin(board, mem::replace(desk, stand_in), marks, names);
     let mut service = Service {
         alloc,
         analyst,

@@ -1,5 +1,7 @@
 -- The groups that have objects of a strength, where what is kept of the objects is settled.
-use Rattle.std.proofs.Common.{◌≡◌, ◌∙◌, ℕ, ◌<◌, List, length, map, get_or, Contains, sym, subst, arith}
+use Rattle.std.proofs.Common.{◌≡◌, ◌∙◌, ℕ, ◌<◌, List, length, map, get_or, Contains, refl, sym, subst, arith}
+use Rattle.std.specs.Prelude.{sum_by}
+use Rattle.std.specs.List.{range_with_len}
 use Rattle.std.proofs.lemmas.List.{get_or-map, length-map}
 use Rattle.std.proofs.lemmas.List.Elements.{recursion_from_All}
 use Rattle.hd_terms.specs.declared.ClassRow.{ClassRow}
@@ -12,8 +14,8 @@ use Rattle.hd_terms.specs.EditedDump.{standing}
 use Rattle.hd_terms.specs.Paths.{Standing}
 use Rattle.hd_terms.specs.Settled.{Reached, Settled, reached_at}
 use Rattle.hd_terms.specs.Strengths.{HasStrength}
-use Rattle.hd_terms.specs.Totals.{Decides, IsMember, IsGroupTotal}
-use Rattle.hd_totals.specs.Members.{is_member, InRange}
+use Rattle.hd_terms.specs.Totals.{Decides, IsMember, IsGroupTotal, AreGroupCounts}
+use Rattle.hd_totals.specs.Members.{bytes_if, is_member, member_count, InRange}
 use Rattle.hd_totals.specs.Rows.{row_group, AreMemberRows, IsMemberRow}
 use Rattle.hd_totals.specs.Totals.{Totals, AreTotals, total_in}
 use Rattle.hd_queries.proofs.ListedLemmas.{decides-member}
@@ -33,6 +35,13 @@ module _ (gives : (g : Standing) (ks : List Reached) → Settled g ks → (o : �
     count_is = h.counts group s range;
     bytes_is = h.bytes group s range;
   }
+
+  -- how many objects each group has of each strength
+  pub group-counts : AreGroupCounts dump log (member_count dump ks)
+  group-counts group s = (
+    sum_by (bytes_if dump (is_member dump ks group s)) (range_with_len 0 (length dump.objects)),
+    record { has = is_member dump ks group s; decides = decides s group; count_is = refl; bytes_is = refl },
+  )
 
   -- the rows of groups
   module _ (s : Strength) (rows : List ClassRow) (h : AreMemberRows dump ks s rows) where

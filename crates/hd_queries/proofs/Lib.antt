@@ -3,8 +3,8 @@ pub mod ChainLemmas
 pub mod ClassLemmas
 pub mod FallenLemmas
 pub mod FreedLemmas
+pub mod GroupLemmas
 pub mod IntoLemmas
-pub mod Joined
 pub mod ListedLemmas
 pub mod MovedLemmas
 pub mod RefusalLemmas

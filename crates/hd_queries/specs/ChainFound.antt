@@ -24,7 +24,7 @@ pub record IsEdgeOf (e : Edge) (source : ℕ) (slot : Slot) (target : ℕ) : Typ
 abbrev pub link_of : Edge → Link
 link_of e = record { source = e.source; slot = e.slot; kind = e.kind; target = e.target }
 
--- the source and the target of a link are among so many objects
+-- the source and the target of a link are among `objects` objects
 pub record IsWithin (objects : ℕ) (link : Link) : Type 0 where
   pub from : link.source < objects
   pub to : link.target < objects

@@ -6,7 +6,7 @@ use Rattle.hd_queries.specs.declared.compared.Compared.{Compared}
 use Rattle.hd_totals.specs.LastChanges.{page_of, IsUnchanged}
 use Rattle.hd_totals.specs.Running.{strength_in}
 
--- something is kept of each of so many objects
+-- under both logs something is kept of each of `n` objects
 abbrev pub AreBothKept : ℕ → Compared → Type 0
 AreBothKept n compared = (length compared.earlier.strengths.now ≡ n) × (length compared.later.strengths.now ≡ n)
 
@@ -18,7 +18,7 @@ IsQuietPage compared page = IsUnchanged compared.earlier.last_changes.now page c
 abbrev pub IsSameOnQuiet : Compared → Type 0
 IsSameOnQuiet compared = (o : ℕ) → IsQuietPage compared (page_of o) → strength_in compared.earlier.strengths.now o ≡ strength_in compared.later.strengths.now o
 
--- so many first events of two logs are the same
+-- the first `n` events of two logs are the same
 pub record AreCommon (earlier later : List Event) (n : ℕ) : Type 0 where
   pub within_earlier : n ≤ length earlier
   pub within_later : n ≤ length later

@@ -16,6 +16,6 @@ slots_into dump o = filter (λ (p : PlacedSlot). refers_to dump o p.entry) (all_
 abbrev pub placed_row : Dump → List Event → ℕ → PlacedSlot → IntoRow
 placed_row dump log o p = into_row log o (object_at dump p.source) p.entry
 
--- the rows of the first so many
+-- the rows of the first `i` references to an object
 abbrev pub rows_before : Dump → List Event → (o i : ℕ) → List IntoRow
 rows_before dump log o i = map (placed_row dump log o) (take i (slots_into dump o))

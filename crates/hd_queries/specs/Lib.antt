@@ -8,3 +8,4 @@ pub mod Freed
 pub mod ChainFound
 pub mod RootsShown
 pub mod IntoShown
+pub mod Groups

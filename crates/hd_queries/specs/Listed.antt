@@ -14,7 +14,7 @@ abbrev pub is_listed : Dump → Listed → ℕ → Bool
 is_listed dump (listed.Fallen compared) o = falls_from compared.earlier.strengths.now compared.later.strengths.now o
 is_listed dump (listed.Members strengths group s) o = is_member dump strengths.now group s o
 
--- something is kept of each of so many objects
+-- the same for the logs that a list is of
 abbrev pub AreAllKept : ℕ → Listed → Type 0
 AreAllKept n (listed.Fallen compared) = AreBothKept n compared
 AreAllKept n (listed.Members strengths group s) = length strengths.now ≡ n
@@ -28,7 +28,7 @@ IsQuiet (listed.Members strengths group s) page = ⊥
 abbrev pub IsNoneOnQuiet : Dump → Listed → Type 0
 IsNoneOnQuiet dump list = (o : ℕ) → IsQuiet list (page_of o) → is_listed dump list o ≡ false
 
--- the IDs of those among so many first objects that pass a test, in any order
+-- the IDs of those among the first `k` objects that pass a test, in any order
 pub record AreIdsBefore (dump : Dump) (test : ℕ → Bool) (k : ℕ) (ids : List ℕ) : Type 0 where
   pub passes : (id : ℕ) → Contains ids id → (o : ℕ) × (o < k) × (test o ≡ true) × ((object_at dump o).id ≡ id)
   pub all : (o : ℕ) → o < k → test o ≡ true → Contains ids (object_at dump o).id

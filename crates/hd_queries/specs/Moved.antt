@@ -31,7 +31,7 @@ pub record AreMovesWith (dump : Dump) (before after : List Reached) (o : ℕ) (o
   pub whole : length new ≡ 36
   pub each : (place : ℕ) → place < 36 → IsCountedIf dump (is_moved_at before after place) o (slice_index_or old place no_total) (slice_index_or new place no_total)
 
--- an object of so many bytes is counted at a place
+-- an object of `bytes` bytes is counted at a place
 pub record AreMovesAdded (old : List Total) (place bytes : ℕ) (new : List Total) : Type 0 where
   pub whole : length new ≡ 36
   pub here : slice_index_or new place no_total ≡ plus_object (slice_index_or old place no_total) bytes
@@ -43,7 +43,7 @@ pub record IsMoveRow (totals : List Total) (row : MovedRow) : Type 0 where
   pub bytes_is : row.bytes ≡ (slice_index_or totals (move_key row) no_total).bytes
   pub some : 1 ≤ row.count
 
--- the rows of those among so many first pairs that have objects, in order
+-- the rows of those among the first `k` pairs that have objects, in order
 pub record AreMoveRows (totals : List Total) (k : ℕ) (rows : List MovedRow) : Type 0 where
   pub in_order : IsStrictlyIncreasing (map move_key rows)
   pub before : All (λ (row : MovedRow). move_key row < k) rows

@@ -9,7 +9,7 @@ use crate::solved::Solved;
 use hd_log::Front;
 use hd_terms::{Strength, one_strength};
 
-/// Two logs over one graph, with the strengths that they leave. Both begin with so many common events.
+/// Two logs over one graph, with the strengths that they leave. Both begin with the same `common` events.
 #[derive(Clone, Copy)]
 pub(crate) struct Compared<'a> {
     pub(crate) earlier: Solved<'a>,

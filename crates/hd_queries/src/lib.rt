@@ -9,6 +9,7 @@
 //! - `compared.rt`: two logs over one graph, and the pages that didn't change between them.
 //! - `moved.rt`: how many objects have one strength at a mark and another one now, for each pair of strengths.
 //! - `freed.rt`: how much became unreachable since a mark, and of which groups.
+//! - `groups.rt`: the groups that can be looked for by their names (`find`).
 //! - `refusing.rt`: why the dump refuses an edit. Whether a root can be dropped is for the log to say.
 //! - `totals.rt`: the totals of `stat`. It computes the strengths alone, and counts the objects in up to sixteen shares
 //!   side by side.
@@ -18,6 +19,7 @@
 mod chain;
 mod compared;
 mod freed;
+mod groups;
 mod into;
 mod listing;
 mod moved;
@@ -29,6 +31,7 @@ mod totals;
 
 pub use chain::{Chain, Link, chain_of};
 pub use freed::{Freed, freed_rows};
+pub use groups::named_groups;
 pub use into::into_rows;
 pub use listing::{fallen_ids, member_ids};
 pub use moved::moved_rows;

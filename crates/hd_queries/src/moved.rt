@@ -33,8 +33,8 @@ fn place_of(strength: Strength) -> usize
     }
 }
 
-/// The strength than which so many are greater.
-fn strength_at(place: usize) -> Strength
+/// The strength than which `place` others are greater.
+pub(crate) fn strength_at(place: usize) -> Strength
     requires { place < 6 }
     ensures { place + rank result ≡ 5 }
 {
@@ -48,7 +48,7 @@ fn strength_at(place: usize) -> Strength
     }
 }
 
-/// Counts an object of so many bytes for a pair of strengths.
+/// Counts an object of `bytes` bytes for a pair of strengths.
 fn add_move(totals: &mut Vec<Total>, before: Strength, after: Strength, bytes: u64)
     requires whole { length totals.old.items ≡ 36 }
     requires count { (slice_index_or totals.old.items (move_place before after) no_total).count + 1 < 2 ^ 64 }

@@ -1,16 +1,22 @@
 //! One analyst's connection.
 use hd_board::{Board, Desk};
 use hd_protocol::{ServeFault, serve};
-use std::alloc::Global;
 use std::io::{BufReader, BufWriter};
 use std::net::TcpStream;
 use std::sync::Wait;
 
 /// Serves one analyst over a connection until its input ends, a line is `quit`, or a fault, and then closes it. A fault ends
-/// this connection and nothing else: the peer went away, the reader or the writer failed, or memory ran out.
-pub fn attend<R: Wait>(rt: &R, alloc: Global, stream: TcpStream, board: &Board, desk: &mut Desk) {
+/// this connection and nothing else: the peer went away, the reader or the writer failed, or memory ran out. Replies show names
+/// from the beginning where `names` says so.
+pub fn attend<R: AllocGlobal + Wait>(
+    rt: &R,
+    names: bool,
+    stream: TcpStream,
+    board: &Board,
+    desk: &mut Desk,
+) {
     let _at_once = stream.set_nodelay(true);
-    let _ended = talk(rt, alloc, &stream, board, desk);
+    let _ended = talk(rt, names, &stream, board, desk);
 }
 
 /// Serves one analyst over a connection, with a buffer for each way.
@@ -18,18 +24,18 @@ pub fn attend<R: Wait>(rt: &R, alloc: Global, stream: TcpStream, board: &Board, 
 /// # Errors
 ///
 /// There is no room for the buffers, or serving ended early.
-fn talk<R: Wait>(
+fn talk<R: AllocGlobal + Wait>(
     rt: &R,
-    alloc: Global,
+    names: bool,
     stream: &TcpStream,
     board: &Board,
     desk: &mut Desk,
 ) -> Result<(), ServeFault> {
-    let Ok(mut reader) = BufReader::new(alloc, stream) else {
+    let Ok(mut reader) = BufReader::new(rt.alloc(), stream) else {
         return Err(ServeFault::OutOfMemory);
     };
-    let Ok(mut writer) = BufWriter::new(alloc, stream) else {
+    let Ok(mut writer) = BufWriter::new(rt.alloc(), stream) else {
         return Err(ServeFault::OutOfMemory);
     };
-    serve(rt, alloc, &mut reader, &mut writer, board, desk)
+    serve(rt, names, &mut reader, &mut writer, board, desk)
 }

@@ -19,15 +19,15 @@ use std::thread::{Scope, Threads};
 
 /// Serves `n` analysts, 1 to 16, over a dump's graph. The i-th connection that is accepted is that of analyst i. Each is
 /// served in a thread of its own from the moment on that it is accepted, and what ends it ends no other. Nothing more is
-/// accepted then. When all have ended, the log is written on `output`: the lines of the reply to `events`, without the `ok N`.
+/// accepted then. Replies show names from the beginning where `names` says so. When all have ended, the log is written on `output`: the lines of the reply to `events`, without the `ok N`.
 ///
 /// # Errors
 ///
 /// The system gives no connection; or memory runs out, or no thread can be started: then the connections that have a thread
 /// are served to their ends, and no log is written. Or the log can't be written; or the board can't be closed with its desks.
-pub fn serve_on<R: Threads + Wait + Sync, W: Write>(
+pub fn serve_on<R: AllocGlobal + Threads + Wait + Sync, W: Write>(
     rt: &R,
-    alloc: Global,
+    names: bool,
     graph: Arc<Graph>,
     listener: TcpListener,
     n: u8,
@@ -38,9 +38,9 @@ pub fn serve_on<R: Threads + Wait + Sync, W: Write>(
     ensures ok { OnOk result (PrintsLog (opened_board (arc_value graph) n) (W.contents output.old) (W.contents output.new)) }
     ensures err { IfErr result (λ fault. fault ≢ ServeOnFault.Write → Keeps (W.contents output.old) (W.contents output.new)) }
 {
-    let (board, mut desks) = open(rt, alloc, graph, n)?;
-    attend_all(rt, alloc, listener, &board, desks.as_mut_slice())?;
-    close_and_print(alloc, board, desks.as_slice(), output)
+    let (board, mut desks) = open(rt, rt.alloc(), graph, n)?;
+    attend_all(rt, names, listener, &board, desks.as_mut_slice())?;
+    close_and_print(rt.alloc(), board, desks.as_slice(), output)
 }
 
 /// Accepts a connection for each desk, and serves each in a thread of its own. Returns when all have ended.
@@ -48,9 +48,9 @@ pub fn serve_on<R: Threads + Wait + Sync, W: Write>(
 /// # Errors
 ///
 /// The system gives no connection, or no thread can be started. The connections that have a thread are served to their ends.
-fn attend_all<R: Threads + Wait + Sync>(
+fn attend_all<R: AllocGlobal + Threads + Wait + Sync>(
     rt: &R,
-    alloc: Global,
+    names: bool,
     listener: TcpListener,
     board: &Board,
     desks: &mut [Desk],
@@ -62,7 +62,7 @@ fn attend_all<R: Threads + Wait + Sync>(
         rt,
         move |scope| -> Result<(), ServeOnFault>
             ensures { IfErr result (λ fault. fault ≢ ServeOnFault.Write) }
-        { attend_each(scope, rt, alloc, &listener, board, desks) },
+        { attend_each(scope, rt, names, &listener, board, desks) },
     )
 }
 
@@ -71,10 +71,10 @@ fn attend_all<R: Threads + Wait + Sync>(
 /// # Errors
 ///
 /// The system gives no connection, or no thread can be started.
-fn attend_each<'s, E, R: Threads + Wait + Sync>(
+fn attend_each<'s, E, R: AllocGlobal + Threads + Wait + Sync>(
     scope: &Scope<'s, E>,
     rt: &'s R,
-    alloc: Global,
+    names: bool,
     listener: &TcpListener,
     board: &'s Board,
     desks: &'s mut [Desk],
@@ -82,7 +82,7 @@ fn attend_each<'s, E, R: Threads + Wait + Sync>(
     ensures { IfErr result (λ fault. fault ≢ ServeOnFault.Write) }
 {
     for desk in desks {
-        attend_next(scope, rt, alloc, listener, board, desk)?;
+        attend_next(scope, rt, names, listener, board, desk)?;
     }
     Ok(())
 }
@@ -92,10 +92,10 @@ fn attend_each<'s, E, R: Threads + Wait + Sync>(
 /// # Errors
 ///
 /// The system gives no connection, or no thread can be started.
-fn attend_next<'s, E, R: Threads + Wait + Sync>(
+fn attend_next<'s, E, R: AllocGlobal + Threads + Wait + Sync>(
     scope: &Scope<'s, E>,
     rt: &'s R,
-    alloc: Global,
+    names: bool,
     listener: &TcpListener,
     board: &'s Board,
     desk: &'s mut Desk,
@@ -105,7 +105,7 @@ fn attend_next<'s, E, R: Threads + Wait + Sync>(
     let Ok((stream, _peer)) = listener.accept() else {
         return Err(ServeOnFault::Accept);
     };
-    match scope.spawn(move || attend(rt, alloc, stream, board, desk)) {
+    match scope.spawn(move || attend(rt, names, stream, board, desk)) {
         Ok(_thread) => Ok(()),
         Err(_closure) => Err(ServeOnFault::OutOfMemory),
     }

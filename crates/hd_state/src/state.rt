@@ -15,13 +15,14 @@ ghost use Rattle.hd_strength.specs.Removed.{IsRemovedBy};
 ghost use Rattle.hd_view.specs.Added.{IsAddedBy};
 ghost use Rattle.hd_state.specs.Done.{IsDone};
 ghost use Rattle.hd_terms.specs.declared.Strength.{Strength};
-ghost use Rattle.hd_terms.specs.Totals.{IsGroupTotal, IsTotalOf};
+ghost use Rattle.hd_terms.specs.Totals.{AreGroupCounts, IsGroupTotal, IsTotalOf};
 ghost use Rattle.hd_terms.specs.Fell.{Falls};
-ghost use Rattle.hd_terms.specs.Listed.{AreClassRows, AreFallen, AreMembers, AreMovedRows, AreTopRows};
+ghost use Rattle.hd_terms.specs.Listed.{AreClassRows, AreFallen, AreMembers, AreMovedRows, AreNamedGroups, AreTopRows};
 ghost use Rattle.hd_terms.specs.Kept.{AreKept};
 ghost use Rattle.hd_state.specs.Next.{IsNextLog};
 ghost use Rattle.hd_queries.specs.ChainFound.{IsChainFound};
 ghost use Rattle.hd_totals.specs.LastChanges.{AreLastChanges};
+ghost use Rattle.hd_totals.specs.Members.{member_count};
 ghost use Rattle.hd_totals.specs.Totals.{AreTotals};
 
 use crate::mark::Mark;
@@ -31,7 +32,7 @@ use hd_graph::Graph;
 use hd_log::Front;
 use hd_queries::{
     Chain, Freed, Solved, chain_of, fallen_ids, freed_rows, into_rows, member_ids, moved_rows,
-    root_rows, rows_of,
+    named_groups, root_rows, rows_of,
 };
 use hd_reverse::ReverseRows;
 use hd_strength::Removed;
@@ -431,7 +432,8 @@ impl State {
 
     /// How many objects of a group have a strength, and their recorded bytes. They are looked up; it takes no memory.
     pub fn total(&self, group: Group, strength: Strength) -> (u64, u64)
-        ensures { IsGroupTotal self.now.dump self.now.log group strength result.0 result.1 }
+        ensures total { IsGroupTotal self.now.dump self.now.log group strength result.0 result.1 }
+        ensures count { result.0 ≡ member_count self.now.dump self.now.kept group strength }
     {
         settled_supports_give_strengths();
         one_strength();
@@ -464,6 +466,20 @@ impl State {
     {
         let rows = self.classes(alloc, strength)?;
         Ok(ranked(rows))
+    }
+
+    /// The groups of the objects, and for each class object that of its instances: each once, in their order.
+    ///
+    /// # Errors
+    ///
+    /// Memory ran out.
+    pub fn groups(&self, alloc: Global) -> Result<Vec<Group>, NoMemory>
+        ensures groups { IfOk result (λ v. AreNamedGroups self.now.dump (λ group. Unit {0}) v.items) }
+        ensures counts { AreGroupCounts self.now.dump self.now.log (member_count self.now.dump self.now.kept) }
+    {
+        settled_supports_give_strengths();
+        one_strength();
+        named_groups(alloc, &self.graph, &self.totals)
     }
 
     /// The chain of an object: a root path of the object's strength in which no object occurs twice, by the supports that are

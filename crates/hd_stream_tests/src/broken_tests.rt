@@ -78,7 +78,7 @@ fn read_some<R: Abort + AllocGlobal + RandomSource + Threads + Wait + Sync>(
     let mut desk = desks.pop().expect(rt, "there is a desk");
     let mut reader = FailingReader { rest: input };
     let mut written = Vec::new(rt.alloc());
-    let ended = serve(rt, rt.alloc(), &mut reader, &mut written, &board, &mut desk);
+    let ended = serve(rt, false, &mut reader, &mut written, &board, &mut desk);
     (Served { written, ended }, desk.seen().len())
 }
 
@@ -96,7 +96,7 @@ fn write_some<R: Abort + AllocGlobal + RandomSource + Threads + Wait + Sync>(
         room,
         fails: true,
     };
-    let ended = serve(rt, rt.alloc(), &mut reader, &mut writer, &board, &mut desk);
+    let ended = serve(rt, false, &mut reader, &mut writer, &board, &mut desk);
     let written = writer.taken;
     (Served { written, ended }, desk.seen().len())
 }

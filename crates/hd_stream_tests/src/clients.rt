@@ -23,7 +23,7 @@ pub fn listen<R: Abort + Net<Listener = TcpListener, Stream = TcpStream>>(
 }
 
 /// Serves two analysts over the two arrays, and answers what is printed.
-pub fn serve_two<R: Abort + RandomSource + Threads + Wait + Sync>(
+pub fn serve_two<R: Abort + AllocGlobal + RandomSource + Threads + Wait + Sync>(
     rt: &R,
     alloc: Global,
     listener: TcpListener,
@@ -31,7 +31,7 @@ pub fn serve_two<R: Abort + RandomSource + Threads + Wait + Sync>(
     let opened = open_dump(rt, alloc, &SAMPLE, 1, Mode::Direct, &NoGate);
     let graph = opened.expect(rt, "the dump opens");
     let mut output = Vec::new(alloc);
-    match serve_on(rt, alloc, graph, listener, 2, &mut output) {
+    match serve_on(rt, false, graph, listener, 2, &mut output) {
         Ok(()) => Ok(output),
         Err(fault) => Err(fault),
     }

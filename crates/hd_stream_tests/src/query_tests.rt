@@ -1,6 +1,6 @@
 //! Replies to queries, as texts.
 use crate::serving::board_of;
-use hd_analyst::{Showing, reply_text};
+use hd_analyst::{Question, Showing, reply_text};
 use hd_board::Desk;
 use hd_lines::Query;
 use std::alloc::Global;
@@ -14,7 +14,8 @@ fn text_at<R: Abort>(rt: &R, alloc: Global, desk: &Desk, query: Query) -> Vec<u8
         names: false,
         most: None,
     };
-    reply_text(alloc, state, &marks, query, showing).expect(rt, "the query is answered")
+    let question = Question { query, text: b"" };
+    reply_text(alloc, state, &marks, question, showing).expect(rt, "the query is answered")
 }
 
 /// Whether the text that was answered is this one.

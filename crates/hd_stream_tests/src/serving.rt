@@ -25,7 +25,7 @@ pub fn board_of<R: Abort + AllocGlobal + RandomSource + Threads + Sync>(
 }
 
 /// Serves the lines of a text to a desk.
-pub fn serve_text<R: Wait>(
+pub fn serve_text<R: AllocGlobal + Wait>(
     rt: &R,
     alloc: Global,
     board: &Board,
@@ -34,6 +34,6 @@ pub fn serve_text<R: Wait>(
 ) -> Served {
     let mut input = text;
     let mut written = Vec::new(alloc);
-    let ended = serve(rt, alloc, &mut input, &mut written, board, desk);
+    let ended = serve(rt, false, &mut input, &mut written, board, desk);
     Served { written, ended }
 }

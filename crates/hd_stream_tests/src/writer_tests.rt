@@ -56,7 +56,7 @@ struct Meeting {
 }
 
 /// Serves a desk one line, to a writer that waits for another.
-fn serve_meeting<R: Wait>(
+fn serve_meeting<R: AllocGlobal + Wait>(
     rt: &R,
     alloc: Global,
     board: &Board,
@@ -69,7 +69,7 @@ fn serve_meeting<R: Wait>(
         begun,
         met: false,
     };
-    let ended = serve(rt, alloc, &mut input, &mut output, board, desk);
+    let ended = serve(rt, false, &mut input, &mut output, board, desk);
     Meeting {
         met: output.met,
         written: output.written,

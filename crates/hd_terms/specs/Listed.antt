@@ -1,6 +1,6 @@
 -- Objects and groups as they are listed under a log.
 -- Source: this project. A list is told by what is in it and by its order, and not by how it is made.
-use Rattle.std.specs.Prelude.{◌≡◌, ◌≢◌, ℕ, ◌+◌, ◌*◌, ◌-◌, ◌^◌, ◌<◌, ◌⊎◌, ◌↔◌, Bool, true, List, length, map, Contains, slice_get, Some}
+use Rattle.std.specs.Prelude.{◌≡◌, ◌≢◌, ℕ, ◌+◌, ◌*◌, ◌-◌, ◌^◌, ◌<◌, ◌⊎◌, ◌↔◌, List, length, map, Contains, slice_get, Some}
 use Rattle.std.specs.List.{AllByRecursion}
 use Rattle.std.specs.List.Sorted.{IsStrictlyIncreasing}
 use Rattle.hd_terms.specs.declared.Group.{Group}
@@ -77,10 +77,10 @@ pub record AreTopRows (dump : Dump) (IsMeant : ℕ → Type 0) (rows : List Clas
 abbrev pub IsNamedGroup : Dump → Group → Type 0
 IsNamedGroup dump group = HasMeant dump (λ (o : ℕ). Unit {0}) group ⊎ ((c : NamedClass) × Contains dump.classes c × (group ≡ groups.Class c.class))
 
--- all of these of which a test holds, in order
-pub record AreNamedGroups (dump : Dump) (test : Group → Bool) (found : List Group) : Type 0 where
+-- those of these groups that are meant, in order
+pub record AreNamedGroups (dump : Dump) (IsMeant : Group → Type 0) (found : List Group) : Type 0 where
   pub in_order : IsStrictlyIncreasing (map group_key found)
-  pub are : (group : Group) → Contains found group ↔ (IsNamedGroup dump group × (test group ≡ true))
+  pub are : (group : Group) → Contains found group ↔ (IsNamedGroup dump group × IsMeant group)
 
 -- an object has a strength under the earlier log and another one under the later
 pub record IsMoved (dump : Dump) (before after : List Event) (was is : Strength) (o : ℕ) : Type 0 where

@@ -32,3 +32,7 @@ IsMember dump log group s o = ((object_at dump o).group ≡ group) × HasStrengt
 -- the objects of a group and a strength under a log
 abbrev pub IsGroupTotal : Dump → List Event → Group → Strength → (count bytes : ℕ) → Type 0
 IsGroupTotal dump log group s count bytes = IsTotalOf dump (IsMember dump log group s) count bytes
+
+-- how many objects of each group have each strength under a log
+abbrev pub AreGroupCounts : Dump → List Event → (count : Group → Strength → ℕ) → Type 0
+AreGroupCounts dump log count = (group : Group) (s : Strength) → (bytes : ℕ) × IsGroupTotal dump log group s (count group s) bytes

@@ -1,6 +1,7 @@
 -- The objects of a group that have a strength, by what is kept of them.
 -- Source: this project.
-use Rattle.std.specs.Prelude.{ℕ, ◌<◌, ◌==◌, Bool, ◌&&◌, if◌then◌else◌, List}
+use Rattle.std.specs.Prelude.{ℕ, ◌<◌, ◌==◌, Bool, ◌&&◌, if◌then◌else◌, List, length, count_by}
+use Rattle.std.specs.List.{range_with_len}
 use Rattle.hd_terms.specs.declared.Group.{Group}
 use Rattle.hd_terms.specs.declared.Group.TheVariants as groups
 use Rattle.hd_terms.specs.declared.Strength.{Strength}
@@ -29,6 +30,10 @@ is_member dump ks group s o = has_kept ks s o && same_group (object_at dump o).g
 -- the recorded bytes of the object of a number, if it passes a test
 abbrev pub bytes_if : Dump → (ℕ → Bool) → ℕ → ℕ
 bytes_if dump test o = if test o then (object_at dump o).bytes else 0
+
+-- how many objects of a group have a strength, by what is kept of them
+abbrev pub member_count : Dump → List Reached → Group → Strength → ℕ
+member_count dump ks group s = count_by (is_member dump ks group s) (range_with_len 0 (length dump.objects))
 
 -- the ID of a class has 64 bits, and the type of elements 8
 abbrev pub InRange : Group → Type 0

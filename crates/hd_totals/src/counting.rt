@@ -112,11 +112,7 @@ fn add_totals(
 }
 
 /// The totals of two parts together.
-///
-/// # Errors
-///
-/// Memory ran out.
-pub fn join_parts(one: Counted, other: Counted) -> Result<Counted, NoMemory>
+fn join_parts(one: Counted, other: Counted) -> Result<Counted, NoMemory>
     requires whole { AreWhole one × AreWhole other }
     requires counts { (group : OneGroup) (s : OneStrength) → InRange group → (total_in (totals_of one) group s).count + (total_in (totals_of other) group s).count < 2 ^ 64 }
     requires bytes { (group : OneGroup) (s : OneStrength) → InRange group → (total_in (totals_of one) group s).bytes + (total_in (totals_of other) group s).bytes < 2 ^ 64 }
@@ -140,7 +136,7 @@ impl Counted {
         Counted { keys, rows }
     }
 
-    /// Counts one more object of a group and a strength, and of so many bytes.
+    /// Counts one more object of a group and a strength, which has `bytes` bytes.
     ///
     /// # Errors
     ///
@@ -160,7 +156,7 @@ impl Counted {
     }
 }
 
-/// The same as `count_part`, in so many shares side by side. The calling thread begins a thread for each but the last, and counts that
+/// The same as `count_part`, in `shares` shares side by side. The calling thread begins a thread for each but the last, and counts that
 /// one itself; where the system refuses a thread, one share after the other.
 #[cycle(shares)]
 fn count_shares<R: Threads + Sync>(

@@ -18,7 +18,7 @@
 //!   (`apply`), one move for each `Change` of `hd_repair`. Where memory runs out, some moves may be missing, so the
 //!   version must not be used further.
 //! - `classes.rt` gathers the rows that have objects of a strength and sorts them by their keys. `ranking.rt` sorts rows by their
-//!   bytes.
+//!   bytes, `groups.rt` groups by their keys.
 //! - `fallen.rt` counts the objects that a list of changes makes unreachable, and those that it makes reachable again.
 //! - `last_changes.rt` has, of each page of 1,024 objects, the number of events that the log had when a strength in the
 //!   page last changed (`LastChanges`), 0 where none has since the opening. The query that compares two logs skips the
@@ -30,14 +30,16 @@ mod classes;
 mod counting;
 mod fallen;
 mod group_totals;
+mod groups;
 mod keys;
 mod last_changes;
 mod ranking;
 mod total;
 
-pub use counting::{Counted, join_parts};
+pub use counting::Counted;
 pub use fallen::{count_back, count_fallen, falls};
 pub use group_totals::GroupTotals;
+pub use groups::in_order;
 pub use last_changes::{LastChanges, PAGE_OBJECTS};
 pub use ranking::ranked;
 pub use total::{StrengthTotals, Total};

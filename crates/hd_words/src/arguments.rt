@@ -1,7 +1,8 @@
 //! The arguments of commands: what single words spell.
 ghost use Rattle.std.specs.Prelude.{◌≡◌};
+ghost use Rattle.std.specs.List.{list_all};
 ghost use Rattle.std.specs.Option.{option_and_then};
-ghost use Rattle.hd_lines.specs.Lines.{id_of_word, kind_of_word, number_of_word, only_word, root_of_word, slot_of_word, strength_of_word, switch_of_word};
+ghost use Rattle.hd_lines.specs.Lines.{find_of_word, id_of_word, is_printing, kind_of_word, number_of_word, only_word, root_of_word, slot_of_word, strength_of_word, switch_of_word};
 ghost use Rattle.hd_words.specs.Words.{words_between};
 
 use crate::kind_words::read_kind;
@@ -9,6 +10,7 @@ use crate::numbers::{read_hexadecimal, read_root, read_small};
 use crate::slot_words::read_slot;
 use crate::strength_words::read_strength;
 use crate::words::only_word;
+use hd_lines::Query;
 use hd_terms::{RefKind, Slot, Strength};
 
 /// The ID that the only word spells.
@@ -61,6 +63,30 @@ pub(crate) fn read_only_strength(rest: &[u8]) -> Option<Strength>
     ensures { result ≡ option_and_then strength_of_word (only_word (words_between rest.now)) }
 {
     read_strength(only_word(rest)?)
+}
+
+/// Whether all bytes of a word print as one character each.
+fn is_printing(word: &[u8]) -> bool
+    ensures { result ≡ list_all is_printing word.now }
+{
+    for byte in word {
+        if *byte < 0x21 || *byte > 0x7e {
+            return false;
+        }
+    }
+    true
+}
+
+/// The query for the only word, if its bytes print as one character each.
+pub(crate) fn read_only_find(rest: &[u8]) -> Option<Query>
+    ensures { result ≡ option_and_then find_of_word (only_word (words_between rest.now)) }
+{
+    let word = only_word(rest)?;
+    if is_printing(word) {
+        Some(Query::Find)
+    } else {
+        None
+    }
 }
 
 /// Whether the only word is `on` or `off`.

@@ -4,17 +4,14 @@ ghost use Rattle.hd_lines.specs.Lines.{asks, bare, change_command, command_of, c
 ghost use Rattle.hd_words.specs.Words.{words_between};
 
 use crate::arguments::{
-    read_id, read_only_id, read_only_kind, read_only_number, read_only_root, read_only_slot,
-    read_only_strength, read_only_switch,
+    read_id, read_only_find, read_only_id, read_only_kind, read_only_number, read_only_root,
+    read_only_slot, read_only_strength, read_only_switch,
 };
 use crate::group_words::read_group;
 use crate::numbers::read_small;
-use crate::words::{split_word, without_return};
+use crate::words::{LONGEST_LINE, split_word, without_return};
 use hd_lines::{Command, LineFault, Query};
 use hd_terms::Edit;
-
-/// The most bytes of a line before its newline.
-pub const LONGEST_LINE: usize = 4096;
 
 /// The command that a line spells, or the first of its faults.
 pub fn read_command(line: &[u8]) -> Result<Command, LineFault>
@@ -94,6 +91,8 @@ fn read_query(word: &[u8], rest: &[u8]) -> Result<Query, LineFault>
         spelled(read_only_number(rest).map(|mark| Query::Freed(mark)))
     } else if word == b"moved".as_slice() {
         spelled(read_only_number(rest).map(|mark| Query::Moved(mark)))
+    } else if word == b"find".as_slice() {
+        spelled(read_only_find(rest))
     } else {
         Err(LineFault::UnknownCommand)
     }

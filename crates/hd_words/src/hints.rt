@@ -9,7 +9,7 @@ use hd_lines::LineFault;
 
 /// The words that lines begin with.
 const COMMANDS: &str =
-    "commands: strength, chain, slots, into, object, roots, classes, top, members, head, names, cut, clear, clearall, drop, add, undo, mark, fell, freed, moved, events, private, back, quit";
+    "commands: strength, chain, slots, into, object, roots, find, classes, top, members, head, names, cut, clear, clearall, drop, add, undo, mark, fell, freed, moved, events, private, back, quit";
 
 /// What would be right instead of a line that is no command: the form of the command where its first word is one, else the words
 /// that there are. There is none for a command, and for a line that is too long.
@@ -34,6 +34,7 @@ fn form_of(line: &[u8]) -> &'static str {
         b"slots" => "slots ID",
         b"into" => "into ID",
         b"object" => "object ID",
+        b"find" => "find TEXT, where TEXT is a part of a class's name, as find ThreadLocal",
         b"classes" =>
             "classes STRONG, or another strength: SOFT, WEAK, FINAL, PHANTOM, UNREACHABLE",
         b"top" => "top STRONG, or another strength: SOFT, WEAK, FINAL, PHANTOM, UNREACHABLE",

@@ -32,7 +32,7 @@ mod slot_words;
 mod strength_words;
 mod words;
 
-pub use command::{LONGEST_LINE, read_command};
+pub use command::read_command;
 pub use event_lines::{EventLines, EventRow};
 pub use group_words::{array_text, put_group};
 pub use hints::hint_to;
@@ -44,3 +44,4 @@ pub use root_words::root_text;
 pub use row_words::{put_id, put_into_row, put_root_row, put_slot_row};
 pub use slot_words::put_slot;
 pub use strength_words::strength_text;
+pub use words::{LONGEST_LINE, last_word};

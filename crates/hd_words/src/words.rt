@@ -2,8 +2,11 @@
 ghost use Rattle.std.specs.Prelude.{◌≡◌, ◌≢◌, ℕ, ◌<◌, ◌≤◌, [], ◌∷◌, length, drop, slice_index, MatchOption};
 ghost use Rattle.std.specs.Io.BufRead.{strip_last};
 ghost use Rattle.std.specs.Option.{option_copied};
-ghost use Rattle.hd_lines.specs.Lines.{only_word};
+ghost use Rattle.hd_lines.specs.Lines.{last_of, last_word, only_word};
 ghost use Rattle.hd_words.specs.Words.{words_between};
+
+/// The most bytes of a line before its newline.
+pub const LONGEST_LINE: usize = 4096;
 
 /// A line without one carriage return at its end.
 pub(crate) fn without_return(line: &[u8]) -> &[u8]
@@ -66,4 +69,27 @@ pub(crate) fn only_word(bytes: &[u8]) -> Option<&[u8]>
         return None;
     }
     Some(word)
+}
+
+/// The last of the words, if there is one; else no bytes.
+fn last_of(words: &[u8]) -> &[u8]
+    ensures { result.now ≡ last_of [] (words_between words.now) }
+{
+    let mut last: &[u8] = &[];
+    let mut rest = words;
+    while let Some((word, more)) = split_word(rest) {
+        last = word;
+        rest = more;
+    }
+    last
+}
+
+/// The last word of a line, if it has one and isn't too long; else no bytes.
+pub fn last_word(line: &[u8]) -> &[u8]
+    ensures { result.now ≡ last_word line.now }
+{
+    if line.len() > LONGEST_LINE {
+        return &[];
+    }
+    last_of(without_return(line))
 }

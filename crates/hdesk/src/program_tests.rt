@@ -89,21 +89,30 @@ where
 
 #[test]
 fn tasks(rt: HostRuntime) {
-    let rows: [(&[&str], u32, Mode); 3] = [
-        (&["run", "x"], 4, Mode::Direct),
+    let rows: [(&[&str], u32, Mode, bool); 5] = [
+        (&["run", "x"], 4, Mode::Direct, false),
         (
             &["run", "x", "--phantom", "closure", "--workers", "2"],
             2,
             Mode::Closure,
+            false,
         ),
-        (&["run", "--phantom", "direct", "x"], 4, Mode::Direct),
+        (&["run", "--phantom", "direct", "x"], 4, Mode::Direct, false),
+        (&["run", "x", "--names"], 4, Mode::Direct, true),
+        (
+            &["run", "--names", "--workers", "1", "x"],
+            1,
+            Mode::Direct,
+            true,
+        ),
     ];
-    for (words, workers, mode) in rows {
+    for (words, workers, mode, names) in rows {
         let words = owned(&rt, rt.alloc(), words);
         let wanted = Opening {
             file: "x",
             workers,
             mode,
+            names,
         };
         let read = read_arguments(rt.alloc(), words.as_slice()).ok();
         assert_eq!(rt; read, Some(Some(Task::Run(wanted))));
@@ -112,21 +121,39 @@ fn tasks(rt: HostRuntime) {
 
 #[test]
 fn serve_tasks(rt: HostRuntime) {
-    let rows: [(&[&str], u16, u8); 3] = [
-        (&["serve", "x", "--port", "0", "--analysts", "1"], 0, 1),
+    let rows: [(&[&str], u16, u8, bool); 4] = [
+        (
+            &["serve", "x", "--port", "0", "--analysts", "1"],
+            0,
+            1,
+            false,
+        ),
         (
             &["serve", "--analysts", "16", "x", "--port", "65535"],
             65_535,
             16,
+            false,
         ),
-        (&["serve", "x", "--port=7070", "--analysts=2"], 7_070, 2),
+        (
+            &["serve", "x", "--port=7070", "--analysts=2"],
+            7_070,
+            2,
+            false,
+        ),
+        (
+            &["serve", "x", "--names", "--port=7070", "--analysts=2"],
+            7_070,
+            2,
+            true,
+        ),
     ];
-    for (words, port, analysts) in rows {
+    for (words, port, analysts, names) in rows {
         let words = owned(&rt, rt.alloc(), words);
         let opening = Opening {
             file: "x",
             workers: 4,
             mode: Mode::Direct,
+            names,
         };
         let wanted = Serving {
             opening,
@@ -158,7 +185,7 @@ fn serve_usage_faults(rt: HostRuntime) {
 
 #[test]
 fn usage_faults(rt: HostRuntime) {
-    let rows: [&[&str]; 11] = [
+    let rows: [&[&str]; 13] = [
         &["--help"],
         &["nothing"],
         &["run"],
@@ -170,6 +197,8 @@ fn usage_faults(rt: HostRuntime) {
         &["run", "x", "--worker", "4"],
         &["stat", "x", "--phantom", "both"],
         &["run", "x", "--phantom"],
+        &["stat", "x", "--names"],
+        &["run", "x", "--names", "on"],
     ];
     for words in rows {
         assert!(rt; !usage_of(&rt, words).is_empty());
@@ -186,7 +215,7 @@ fn usage_faults(rt: HostRuntime) {
 
 #[test]
 fn version(rt: HostRuntime) {
-    assert!(rt; ends(&rt, &["--version"], DONE, b"hdesk 1.2.0\n", b""));
+    assert!(rt; ends(&rt, &["--version"], DONE, b"hdesk 1.3.0\n", b""));
     assert!(rt; !usage_of(&rt, &["stat", "--version"]).is_empty());
 }
 

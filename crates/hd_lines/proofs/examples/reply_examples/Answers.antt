@@ -1,4 +1,4 @@
-use Rattle.std.proofs.Common.{◌≡◌, ◌∙◌, ℕ, inr, List, [], ◌∷◌, ◌++◌, Ok, codes, lit<, sym, ap, refl, arith}
+use Rattle.std.proofs.Common.{◌≡◌, ◌∙◌, ℕ, inr, false, List, [], ◌∷◌, ◌++◌, Ok, codes, lit<, sym, ap, refl, arith}
 use Rattle.std.specs.Prelude.{decimal, false, map}
 use Rattle.std.specs.Fmt.{digits}
 use Rattle.std.proofs.lemmas.Fmt.{decimal_digit, hex_one_digit}
@@ -32,7 +32,7 @@ ok_none_is : ok_none ≡ answered []
 ok_none_is = sym (ap (λ (digits : List ℕ). with_newline (codes "ok " ++ digits) ++ []) (decimal_digit 0 (lit< tt)))
 
 -- the second object is strong
-strong_reply : IsReply examples.two_arrays (beginning [] []) (codes "strength 0x2") ok_strong
+strong_reply : IsReply examples.two_arrays (beginning false [] []) (codes "strength 0x2") ok_strong
 strong_reply = (
   Ok (codes "STRONG" ∷ []),
   (
@@ -47,17 +47,17 @@ strong_reply = (
 
 -- a turn under the empty log that leaves it empty
 abbrev turn : List ℕ → List ℕ → Turn
-turn line reply = record { line = line; before = beginning [] []; found = []; after = beginning [] []; reply = reply }
+turn line reply = record { line = line; before = beginning false [] []; found = []; after = beginning false [] []; reply = reply }
 
 -- nothing came to the empty log
 nothing_came : IsLater 0 [] []
 nothing_came = record { more = []; begins = refl; same_own = refl; lawful = lawful [] refl }
 
-nothing_new : IsRefreshed 0 (beginning [] []) (beginning [] [])
+nothing_new : IsRefreshed 0 (beginning false [] []) (beginning false [] [])
 nothing_new = record { later = nothing_came; same = refl }
 
 -- a session of the one line
-one_turn : IsSessionAlone examples.two_arrays (codes "strength 0x2" ∷ []) (turn (codes "strength 0x2") ok_strong ∷ [])
+one_turn : IsSessionAlone examples.two_arrays false (codes "strength 0x2" ∷ []) (turn (codes "strength 0x2") ok_strong ∷ [])
 one_turn = record {
   session = record { session = (nothing_new, nothing_came, sessions.answered strong_reply refl refl, tt); over = refl };
   alone = (λ _. (refl, refl), tt);

@@ -1,4 +1,4 @@
-use Rattle.std.proofs.Common.{◌≡◌, ◌∙◌, ℕ, inl, inr, true, List, [], ◌∷◌, ◌++◌, ◌+◌, ◌<◌, Some, None, take, codes, lit<, sym, ap, refl, append-nil}
+use Rattle.std.proofs.Common.{◌≡◌, ◌∙◌, ℕ, inl, inr, true, false, List, [], ◌∷◌, ◌++◌, ◌+◌, ◌<◌, Some, None, take, codes, lit<, sym, ap, refl, append-nil}
 use Rattle.std.specs.Prelude.{decimal}
 use Rattle.std.proofs.lemmas.Fmt.{decimal_digit}
 use Rattle.hd_terms.specs.declared.Slot.TheVariants as slots
@@ -46,7 +46,7 @@ later : (who n m : ℕ) (more : List Event) → session_examples.first_cuts m �
     → IsLater who (session_examples.first_cuts n) (session_examples.first_cuts m)
 later who n m more begins same is = record { more = more; begins = begins; same_own = same; lawful = is }
 
-refreshed : (who n m : ℕ) → IsLater who (session_examples.first_cuts n) (session_examples.first_cuts m) → IsRefreshed who (at_log (beginning [] []) (session_examples.first_cuts n)) (at_log (beginning [] []) (session_examples.first_cuts m))
+refreshed : (who n m : ℕ) → IsLater who (session_examples.first_cuts n) (session_examples.first_cuts m) → IsRefreshed who (at_log (beginning false [] []) (session_examples.first_cuts n)) (at_log (beginning false [] []) (session_examples.first_cuts m))
 refreshed who n m is = record { later = is; same = refl }
 
 -- nothing came meanwhile
