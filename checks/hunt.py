@@ -11,7 +11,8 @@ It checks that
   and an undo brings all of it back;
 - `freed` and `moved` count what that cut let fall, and `top` has the lines of `classes`, most bytes first;
 - `find` counts the objects of each class by strength, as `classes` does;
-- with names on, the end of the session's chain names the fields and classes of Planted.java that hold it.
+- with names on, the end of the session's chain names the fields and classes of Planted.java that hold it;
+- `--names` begins a session so, in `run` and in `serve`.
 
 It ends at the first check that doesn't hold.
 """
@@ -119,6 +120,22 @@ def check_names(analyst: Session, report: Report) -> None:
     report.check(analyst.rows("names off") == [] and analyst.rows(f"chain {session}") == plain, "names are put off again")
 
 
+def check_named_sessions(program: Program, analyst: Session, report: Report, dump: str) -> None:
+    """Sessions that begin with names, over standard input and over a connection."""
+    session = only_member(analyst, "Session", "STRONG")
+    analyst.rows("names on")
+    named = analyst.rows(f"chain {session}")
+    analyst.rows("names off")
+    alone = program.run(dump, "--names")
+    report.check(alone.rows(f"chain {session}") == named, "run --names begins with names")
+    alone.quit()
+    server = program.serve(dump, 1, "--names")
+    client = server.connect()
+    report.check(client.rows(f"chain {session}") == named, "serve --names begins with names")
+    client.quit()
+    report.check(server.log() == [], "its log is empty")
+
+
 def check_top(analyst: Session, report: Report) -> None:
     top = analyst.rows("top STRONG")
     sizes = [(int(row[2]), int(row[1])) for row in top]
@@ -165,6 +182,7 @@ def hunt(given: argparse.Namespace, report: Report) -> None:
         check_planted(analyst, report)
         check_leak(analyst, report)
         check_names(analyst, report)
+        check_named_sessions(program, analyst, report, given.dump)
         check_top(analyst, report)
         for text in ("Planted", "java/util/", "[]"):
             check_find(analyst, report, text)

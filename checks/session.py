@@ -237,9 +237,9 @@ class Program:
     def run(self, dump: str, *words: str) -> Session:
         return Session(self.start([self.path, "run", dump, *words], stdin=subprocess.PIPE), self.wait)
 
-    def serve(self, dump: str, analysts: int) -> Server:
+    def serve(self, dump: str, analysts: int, *others: str) -> Server:
         faults = tempfile.TemporaryFile()
-        words = [self.path, "serve", dump, "--port", "0", "--analysts", str(analysts)]
+        words = [self.path, "serve", dump, "--port", "0", "--analysts", str(analysts), *others]
         return Server(self.start(words, stdin=subprocess.DEVNULL, stderr=faults), faults, self.wait)
 
     def finish(self, words: Sequence[str], text: str = "", **others: object) -> Ended:
