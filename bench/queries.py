@@ -70,6 +70,7 @@ def measure_all(desk):
     for strength in ["STRONG", "SOFT", "WEAK", "FINAL", "PHANTOM", "UNREACHABLE"]:
         measure(desk, f"classes {strength}", f"classes {strength}")
     measure(desk, "members of one", f"members {groups['Session']} STRONG")
+    measure(desk, "first members of millions", f"head 20 members {groups['Node']} STRONG")
     measure(desk, "members of millions", f"members {groups['Node']} STRONG")
     measure(desk, "roots", "roots")
     began = time.monotonic()

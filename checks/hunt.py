@@ -4,6 +4,8 @@
 It checks that
 
 - `classes` at each strength adds up to what `stat` prints of it;
+- `members` lists as many objects of each group and strength as `classes` counts, ascending, each object once, and `head`
+  shows the first of them;
 - each planted object is found by `classes` and `members`, at its own strength and at no other;
 - its chain holds, link by link: the root stands on the first object, each link stands in a slot of the object before,
   no object comes twice, and the weakest link is the object's strength;
@@ -144,6 +146,23 @@ def check_top(analyst: Session, report: Report) -> None:
     report.check(analyst.rows("head 3 top STRONG") == top[:3], "head shows the first of them")
 
 
+def check_members(analyst: Session, report: Report) -> None:
+    """The objects of each group and strength: no two lists have one in common, so they are all that `classes` counts."""
+    seen: set[str] = set()
+    counted = 0
+    holds = True
+    for strength in STRENGTHS:
+        for group, count, _, _ in analyst.rows(f"classes {strength}"):
+            members = ids(analyst, f"members {group} {strength}")
+            rising = [int(member, 16) for member in members]
+            holds = holds and len(members) == int(count) and all(a < b for a, b in zip(rising, rising[1:]))
+            holds = holds and ids(analyst, f"head 3 members {group} {strength}") == members[:3]
+            seen.update(members)
+            counted += int(count)
+    report.check(holds, "members lists each group and strength as classes counts it, ascending, and head the first of them")
+    report.check(len(seen) == counted, f"its {counted} objects come once")
+
+
 def check_find(analyst: Session, report: Report, text: str) -> None:
     """The lines of `find` against those of `classes`; a class without objects has no line there."""
     counts: dict[str, list[str]] = {}
@@ -179,6 +198,7 @@ def hunt(given: argparse.Namespace, report: Report) -> None:
         stat = program.stat(given.dump)
         analyst = program.run(given.dump)
         check_totals(analyst, report, stat)
+        check_members(analyst, report)
         check_planted(analyst, report)
         check_leak(analyst, report)
         check_names(analyst, report)

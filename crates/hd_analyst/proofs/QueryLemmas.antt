@@ -1,5 +1,5 @@
 -- Replies to queries, by the object or the mark that they name, and as turns of a session.
-use Rattle.std.proofs.Common.{◌≡◌, ◌∙◌, ℕ, zero, suc, List, [], ◌∷◌, Option, Some, None, Result, Ok, inl, inr, sym, ap, subst, refl, append-nil}
+use Rattle.std.proofs.Common.{◌≡◌, ◌∙◌, ℕ, zero, suc, List, [], ◌∷◌, map, take, Option, Some, None, Result, Ok, inl, inr, sym, ap, subst, refl, append-nil}
 use Rattle.std.specs.Prelude.{Bool, All, slice_get}
 use Rattle.std.specs.Option.{option_map}
 use Rattle.std.proofs.lemmas.Option.{slice_get_cases, slice_get-map}
@@ -15,6 +15,7 @@ use Rattle.hd_lines.specs.Lines.{command_of, last_word}
 use Rattle.hd_lines.specs.Memory.{Memory}
 use Rattle.hd_lines.specs.Replies.{Answer, IsUnserved, RepliesTo, first_lines, no_such_mark, no_such_object, refused, refusal_name, refreshes}
 use Rattle.hd_lines.specs.Sessions.{IsTurn, answered, unserved}
+use Rattle.hd_queries.specs.Gathered.{first_of}
 use Rattle.hd_state.specs.Situation.{Situation}
 use Rattle.hd_state.specs.Solution.{Solution}
 use Rattle.hd_analyst.specs.declared.texts.Showing.{Showing}
@@ -35,6 +36,16 @@ module _ (Answers : Option ℕ → Answer → Type 0) (most : Option ℕ) where
 
   pub about_none : (found : Option ℕ) (reply : List ℕ) → Answers None no_such_object → found ≡ None → reply ≡ refused (refusal_name refusals.NoSuchObject) → IsWritten (Answers found) most reply
   about_none found reply none is says = subst (λ (x : Option ℕ). IsWritten (Answers x) most reply) (sym is) (no_such_object, none, says)
+
+-- the first of the lines of the first
+take_of_taken : (n : ℕ) (line : ℕ → List ℕ) (xs : List ℕ) → take n (map line (take n xs)) ≡ take n (map line xs)
+take_of_taken zero line xs = refl
+take_of_taken (suc n) line [] = refl
+take_of_taken (suc n) line (x ∷ xs) = ap (λ (lines : List (List ℕ)). line x ∷ lines) (take_of_taken n line xs)
+
+pub first_of_first : (most : Option ℕ) (line : ℕ → List ℕ) (xs : List ℕ) → first_lines most (map line (first_of most xs)) ≡ first_lines most (map line xs)
+first_of_first None line xs = refl
+first_of_first (Some n) line xs = take_of_taken n line xs
 
 -- of one line the first ones are that line, unless none is wanted
 pub first_of_one : (most : Option ℕ) (line : List ℕ) → (most ≡ Some 0 → ⊥) → first_lines most (line ∷ []) ≡ line ∷ []

@@ -17,8 +17,8 @@ use hd_terms::{LogFault, Refusal};
 use std::alloc::Global;
 use std::sync::Wait;
 
-/// Runs what a line spells whose last word is `text`, and answers it: a short reply is put in place of the bytes of `out`, a long
-/// one given back. Before a command other than `quit` the desk is refreshed.
+/// Runs what a line spells whose last word is `text`, and answers it: a short reply replaces the bytes of `out`, a long one is
+/// given back. Before a command other than `quit` the desk is refreshed.
 pub fn answer(
     rt: &impl Wait,
     alloc: Global,

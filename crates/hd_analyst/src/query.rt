@@ -54,7 +54,7 @@ pub fn reply_text(
     }
 }
 
-/// Answers a query: a short reply is put in place of the bytes of `out`, a long one given back. `strength` takes no memory.
+/// Answers a query: a short reply replaces the bytes of `out`, a long one is given back. `strength` takes no memory.
 ///
 /// # Errors
 ///
@@ -113,7 +113,7 @@ pub(crate) fn answer_query(
     Ok(Some(text))
 }
 
-/// The number of the object of an ID; without one `no NoSuchObject` is put in place of the bytes of `out`.
+/// The number of the object of an ID; without one `no NoSuchObject` replaces the bytes of `out`.
 fn find_object(state: &State, id: u64, out: &mut FixedBuffer<LONGEST_REPLY>) -> Option<u32>
     ensures { MatchOption result
         ((index_of state.now.dump.objects id ≡ None) × (out.new ≡ refused (refusal_name refusals.NoSuchObject)))
@@ -126,7 +126,7 @@ fn find_object(state: &State, id: u64, out: &mut FixedBuffer<LONGEST_REPLY>) -> 
     object
 }
 
-/// The mark of a number; without one `no NoSuchMark` is put in place of the bytes of `out`.
+/// The mark of a number; without one `no NoSuchMark` replaces the bytes of `out`.
 fn find_mark<'a>(
     marks: &'a [Mark],
     number: u32,

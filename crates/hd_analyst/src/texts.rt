@@ -165,7 +165,7 @@ pub(crate) fn members_text(
 ) -> Result<String, NoMemory>
     ensures { IfOk result (λ text. IsWritten (AnswersIds state.now.dump showing.names (AreMembers state.now.dump state.now.log group strength)) showing.most (string_bytes text)) }
 {
-    let ids = state.members(alloc, group, strength)?;
+    let ids = state.members(alloc, group, strength, showing.most)?;
     let format = IdLines {
         graph: state.graph(),
         names: showing.names,
@@ -184,7 +184,7 @@ pub(crate) fn fell_text(
     requires { mark.now.dump ≡ state.now.dump }
     ensures { IfOk result (λ text. IsWritten (AnswersIds state.now.dump showing.names (AreFallen state.now.dump mark.now.log state.now.log)) showing.most (string_bytes text)) }
 {
-    let ids = state.fell(alloc, mark)?;
+    let ids = state.fell(alloc, mark, showing.most)?;
     let format = IdLines {
         graph: state.graph(),
         names: showing.names,

@@ -95,7 +95,7 @@ pub fn flush<W: Write>(writer: &mut W) -> Result<(), ServeFault>
     }
 }
 
-/// Takes what the reader shows, as far as there is room for it, in place of the bytes of `chunk`.
+/// Takes what the reader shows, as far as there is room for it. It replaces the bytes of `chunk`.
 fn refill<R: BufRead>(reader: &mut R, chunk: &mut FixedBuffer<CHUNK>) -> Result<(), ServeFault>
     ensures ok { OnOk result (Consumes (R.remaining reader.old) (R.remaining reader.new) chunk.new) }
     ensures end { OnOk result (length chunk.new ≡ 0 → OnSome (R.remaining reader.old) (IsAtEnd (R.remaining reader.new))) }
@@ -245,9 +245,9 @@ fn run_input<R: BufRead, W: Write>(
 }
 
 /// Serves the lines of a reader to a writer: a session of a desk at a board, from what the desk has seen, until the input ends, a
-/// line is `quit`, or a fault. Replies show names from the beginning where `names` says so. Before each command but `quit` the desk is refreshed. Room for lines, short replies and marks is
-/// taken before anything is read; the writer is flushed before each refill and at the end. Where the session ends in a private
-/// part, the desk is left as it was when the part began.
+/// line is `quit`, or a fault. Replies show names from the beginning where `names` says so. Before each command but `quit` the
+/// desk is refreshed. Room for lines, short replies and marks is taken before anything is read; the writer is flushed before each
+/// refill and at the end. Where the session ends in a private part, the desk is left as it was when the part began.
 ///
 /// # Errors
 ///

@@ -1,5 +1,5 @@
 -- The groups that can be looked for by their names, gathered one after another.
-use Rattle.std.proofs.Common.{◌≡◌, ◌∙◌, ℕ, ◌+◌, ◌<◌, ◌≤◌, ◌⊎◌, true, inl, inr, List, [], ◌∷◌, ◌++◌, length, map, take, get_or, Contains, Option, Some, None, eqb-true, eq-eqb, take_all, refl, sym, ap, subst, arith}
+use Rattle.std.proofs.Common.{◌≡◌, ◌∙◌, ℕ, ◌+◌, ◌<◌, ◌≤◌, inl, inr, List, [], ◌∷◌, ◌++◌, length, map, take, get_or, Contains, Some, None, eqb-true, eq-eqb, take_all, sym, ap, subst, arith}
 use Rattle.std.specs.Prelude.{◌↔◌}
 use Rattle.std.specs.Option.{option_map}
 use Rattle.std.specs.List.{slice_get}
@@ -17,8 +17,8 @@ use Rattle.hd_terms.specs.Ranks.{rank}
 use Rattle.hd_terms.specs.Dump.{NamedClass, Dump, object_at}
 use Rattle.hd_terms.specs.Listed.{AreNamedGroups, IsNamedGroup, group_key}
 use Rattle.hd_terms.specs.Settled.{Reached, reached_at}
-use Rattle.hd_totals.specs.Members.{has_kept, is_member, same_group}
-use Rattle.hd_totals.specs.Rows.{row_group, AreMemberRows, IsMemberRow}
+use Rattle.hd_totals.specs.Members.{has_kept, same_group}
+use Rattle.hd_totals.specs.Rows.{row_group, AreMemberRows}
 use Rattle.hd_queries.specs.Groups.{class_group, IsGroupAbove, AreGroupsAbove}
 use Rattle.hd_queries.proofs.ListedLemmas.{both, one-group}
 

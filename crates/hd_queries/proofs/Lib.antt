@@ -3,8 +3,10 @@ pub mod ChainLemmas
 pub mod ClassLemmas
 pub mod FallenLemmas
 pub mod FreedLemmas
+pub mod GatheredLemmas
 pub mod GroupLemmas
 pub mod IntoLemmas
+pub mod LeastLemmas
 pub mod ListedLemmas
 pub mod MovedLemmas
 pub mod RefusalLemmas

@@ -16,8 +16,9 @@ use Rattle.hd_terms.specs.Totals.{Decides, IsMember}
 use Rattle.hd_terms.specs.Listed.{AreIdsOf}
 use Rattle.hd_strength.proofs.Lists.{Contains-nil, Contains-head, Contains-cons_cases}
 use Rattle.hd_queries.specs.Listed.{AreIdsBefore}
-use Rattle.hd_totals.specs.Members.{same_group, is_member}
-use Rattle.hd_totals.specs.Members.{has_kept}
+use Rattle.hd_totals.specs.GroupPages.{PageMarks, IsMarked, IsNoted}
+use Rattle.hd_totals.specs.LastChanges.{page_of}
+use Rattle.hd_totals.specs.Members.{same_group, has_kept, is_member}
 use Rattle.hd_queries.proofs.TotalLemmas.{has-strength, is-kept}
 
 -- groups that are one are equal
@@ -47,6 +48,17 @@ pub pass : (a b : Bool) → a ≡ true → b ≡ true → (a && b) ≡ true
 pass true true h k = refl
 pass true false h k = absurd cc
 pass false b h k = absurd cc
+
+-- an object of a page at which a group is not marked is no member
+pub unmarked-not-member : (dump : Dump) (ks : List Reached) (pages : PageMarks) (group : Group) (s : Strength) (o : ℕ) → IsNoted pages o (object_at dump o).group (object_at dump o).id → (IsMarked pages (page_of o) group → ⊥)
+    → is_member dump ks group s o ≡ false
+unmarked-not-member dump ks pages group s o noted unmarked = by (is_member dump ks group s o) refl
+  where
+    by : (b : Bool) → is_member dump ks group s o ≡ b → b ≡ false
+    by true e =
+        let parts = both (has_kept ks s o) (same_group (object_at dump o).group group) e in
+        absurd (unmarked (subst (λ (g : Group). IsMarked pages (page_of o) g) (one-group (object_at dump o).group group parts.1) noted.marked))
+    by false e = refl
 
 -- what is kept is settled for a dump under a log
 module _ (gives : (g : Standing) (ks : List Reached) → Settled g ks → (o : ℕ) → HasStrength g o (reached_at ks o).strength)

@@ -1,5 +1,7 @@
 pub mod Shown
 pub mod Totals
+pub mod LeastIds
+pub mod Gathered
 pub mod Listed
 pub mod Compared
 pub mod Between

@@ -4,8 +4,10 @@
 //! - `into.rt`: the references to an object, by its reverse rows.
 //! - `chain.rt`: a root path of an object, which follows the supports back to the root. It shows no object twice.
 //! - `listing.rt`: the IDs of the objects of a group and strength (`members`), and of those that became unreachable
-//!   since a mark (`fell`). It goes over the objects, for `fell` only over the pages of 1,024 that changed since the
-//!   mark where the log begins with the mark's.
+//!   since a mark (`fell`), all or the first ones. It goes over pages of 1,024 objects: for `members` over those that may
+//!   have objects of the group, for `fell` over those that changed since the mark where the log begins with the mark's.
+//! - `gathered.rt`: the IDs that a list gathers: all, or the least ones (`least_ids.rt`), in a set that never has more than
+//!   are wanted.
 //! - `compared.rt`: two logs over one graph, and the pages that didn't change between them.
 //! - `moved.rt`: how many objects have one strength at a mark and another one now, for each pair of strengths.
 //! - `freed.rt`: how much became unreachable since a mark, and of which groups.
@@ -19,8 +21,10 @@
 mod chain;
 mod compared;
 mod freed;
+mod gathered;
 mod groups;
 mod into;
+mod least_ids;
 mod listing;
 mod moved;
 mod refusing;
@@ -33,7 +37,7 @@ pub use chain::{Chain, Link, chain_of};
 pub use freed::{Freed, freed_rows};
 pub use groups::named_groups;
 pub use into::into_rows;
-pub use listing::{fallen_ids, member_ids};
+pub use listing::{Members, fallen_ids, member_ids};
 pub use moved::moved_rows;
 pub use refusing::edit_refusal;
 pub use roots::root_rows;

@@ -71,7 +71,7 @@ fn has_totals<R: Threads + Sync>(
     if supports.len() != state.graph().objects() {
         return Ok(false);
     }
-    let totals = GroupTotals::of(rt, alloc, state.graph(), &supports)?;
+    let (totals, _pages) = GroupTotals::of(rt, alloc, state.graph(), &supports)?;
     for strength in STRENGTHS {
         if totals.classes(alloc, strength)? != state.classes(alloc, strength)? {
             return Ok(false);

@@ -41,7 +41,7 @@ fn is_told(
 {
     let fell = fallen_by_strengths(alloc, state, before, after)?;
     let back = fallen_by_strengths(alloc, state, after, before)?;
-    let told = state.fell(alloc, mark)?;
+    let told = state.fell(alloc, mark, None)?;
     let counted = done.fell == fell.len() as u64 && done.back == back.len() as u64;
     Ok(counted && told.as_slice() == fell.as_slice())
 }

@@ -1,6 +1,6 @@
 //! Random edits and undos of random dumps, in both modes: after each, what is kept is settled, strengths and totals are
-//! those that a search from scratch gives, and what fell and came back is what they say. One log is filled. The stored output says
-//! that this held of each dump.
+//! those that a search from scratch gives, what fell and came back is what they say, and each object's group lists those that
+//! have its strength. One log is filled. The stored output says that this held of each dump.
 #![tactic(auto)]
 
 mod afresh;
@@ -8,6 +8,7 @@ mod dumps;
 mod events;
 mod fallen;
 mod long_log;
+mod members;
 mod shapes;
 
 use afresh::is_as_afresh;
@@ -19,6 +20,7 @@ use hd_state_tests::dumps::graph_in;
 use hd_state_tests::random::next_random;
 use hd_terms::{Event, Mode, What};
 use long_log::events_of_long_log;
+use members::lists_members;
 use shapes::{SHAPES, Shape, shaped_dump};
 use std::alloc::Global;
 use std::io;
@@ -74,6 +76,9 @@ fn taken_events<R: Threads + Sync>(
         x = next_random(x);
         state = stepped(alloc, state, random_event(x))?;
         let Ok(true) = is_as_afresh(rt, alloc, &state) else {
+            return None;
+        };
+        let Ok(true) = lists_members(alloc, &state) else {
             return None;
         };
     }

@@ -1,9 +1,8 @@
 -- What a log takes away, where it differs from another by one live edit.
-use Rattle.std.proofs.Common.{◌≡◌, ◌∙◌, ℕ, ◌+◌, Bool, true, false, cond, List, Some, refl, sym, ap, arith}
+use Rattle.std.proofs.Common.{◌≡◌, ◌∙◌, ℕ, Bool, true, false, cond, List, Some, refl, ap, arith}
 use Rattle.std.specs.Prelude.{count_by}
 use Rattle.hd_terms.specs.declared.Edit.{Edit}
 use Rattle.hd_terms.specs.declared.Edit.TheVariants as edits
-use Rattle.hd_terms.specs.declared.EdgeKind.{EdgeKind}
 use Rattle.hd_terms.specs.declared.Event.{Event}
 use Rattle.hd_terms.specs.Dump.{Dump, object_at}
 use Rattle.hd_terms.specs.EditedDump.{adds_root, drops}

@@ -12,8 +12,8 @@ use hd_totals::LastChanges;
 use std::marker::Model;
 use std::sync::Arc;
 
-/// What a log makes of a dump: the log, the strength of each object under it, and when these last changed. A mark owns these parts together with
-/// the state that it is of, and copies none of them.
+/// What a log makes of a dump: the log, the strength of each object under it, and when these last changed. A mark owns these
+/// parts together with the state that it is of, and copies none of them.
 pub struct Mark {
     graph: Arc<Graph>,
     front: Front,

@@ -16,7 +16,7 @@ use hd_reverse::ReverseRows;
 use hd_strength::{Removed, from_removed};
 use hd_supports::Supports;
 use hd_terms::{NoMemory, settled_supports_give_strengths};
-use hd_totals::{GroupTotals, LastChanges};
+use hd_totals::{GroupPages, GroupTotals, LastChanges};
 use hd_view::AddedRoots;
 use std::alloc::Global;
 use std::sync::Arc;
@@ -30,12 +30,14 @@ pub(crate) struct LogParts {
     pub(crate) added: Arc<AddedRoots>,
 }
 
-/// What is kept of the objects: their strengths with supports, when these last changed, and the totals of groups.
+/// What is kept of the objects: their strengths with supports, when these last changed, the totals of groups, and which pages have
+/// objects of a group. The last never changes.
 #[derive(Drop)]
 pub(crate) struct KeptParts {
     pub(crate) supports: Arc<Supports>,
     pub(crate) last_changes: Arc<LastChanges>,
     pub(crate) totals: Arc<GroupTotals>,
+    pub(crate) pages: Arc<GroupPages>,
 }
 
 impl LogParts {
@@ -110,11 +112,12 @@ impl KeptParts {
         settled_supports_give_strengths();
         let supports = from_removed(rt, alloc, graph, &log.front, &log.removed)?;
         let last_changes = LastChanges::none(alloc, graph.objects())?;
-        let totals = GroupTotals::of(rt, alloc, graph, &supports)?;
+        let (totals, pages) = GroupTotals::of(rt, alloc, graph, &supports)?;
         Ok(KeptParts {
             supports: Arc::new(alloc, supports)?,
             last_changes: Arc::new(alloc, last_changes)?,
             totals: Arc::new(alloc, totals)?,
+            pages: Arc::new(alloc, pages)?,
         })
     }
 }

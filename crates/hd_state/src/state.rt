@@ -21,6 +21,8 @@ ghost use Rattle.hd_terms.specs.Listed.{AreClassRows, AreFallen, AreMembers, Are
 ghost use Rattle.hd_terms.specs.Kept.{AreKept};
 ghost use Rattle.hd_state.specs.Next.{IsNextLog};
 ghost use Rattle.hd_queries.specs.ChainFound.{IsChainFound};
+ghost use Rattle.hd_queries.specs.Gathered.{AreFirst};
+ghost use Rattle.hd_totals.specs.GroupPages.{AreNoted};
 ghost use Rattle.hd_totals.specs.LastChanges.{AreLastChanges};
 ghost use Rattle.hd_totals.specs.Members.{member_count};
 ghost use Rattle.hd_totals.specs.Totals.{AreTotals};
@@ -31,8 +33,8 @@ use crate::repairing::{Repair, repaired};
 use hd_graph::Graph;
 use hd_log::Front;
 use hd_queries::{
-    Chain, Freed, Solved, chain_of, fallen_ids, freed_rows, into_rows, member_ids, moved_rows,
-    named_groups, root_rows, rows_of,
+    Chain, Freed, Members, Solved, chain_of, fallen_ids, freed_rows, into_rows, member_ids,
+    moved_rows, named_groups, root_rows, rows_of,
 };
 use hd_reverse::ReverseRows;
 use hd_strength::Removed;
@@ -41,7 +43,7 @@ use hd_terms::{
     ClassRow, Event, Group, IntoRow, MovedRow, NoMemory, RootRow, SlotRow, Strength, one_strength,
     settled_supports_give_strengths,
 };
-use hd_totals::{GroupTotals, LastChanges, count_back, count_fallen, ranked};
+use hd_totals::{GroupPages, GroupTotals, LastChanges, count_back, count_fallen, ranked};
 use hd_view::{AddedRoots, Edited, View, edge_stands, root_stands};
 use std::alloc::Global;
 use std::marker::Model;
@@ -50,7 +52,7 @@ use std::thread::Threads;
 
 /// What one log makes of a dump: the dump's graph and its reverse rows, which all states share, the log, what its live edits
 /// take away, the roots that its events add, the strength of each object with its support, when these last changed, and the
-/// totals of groups, in pages that states share.
+/// totals of groups, in pages that states share; and which pages of objects have a group, which all states share as well.
 pub struct State {
     graph: Arc<Graph>,
     reverse: Arc<ReverseRows>,
@@ -60,6 +62,7 @@ pub struct State {
     supports: Arc<Supports>,
     last_changes: Arc<LastChanges>,
     totals: Arc<GroupTotals>,
+    pages: Arc<GroupPages>,
 }
 
 impl Drop for State {
@@ -74,6 +77,7 @@ impl Drop for State {
             supports,
             last_changes,
             totals,
+            pages,
         } = self;
     }
 }
@@ -128,6 +132,7 @@ impl State {
             supports: kept.supports,
             last_changes: kept.last_changes,
             totals: kept.totals,
+            pages: kept.pages,
         })
     }
 
@@ -173,6 +178,7 @@ impl State {
             supports: moved.supports,
             last_changes: moved.last_changes,
             totals: moved.totals,
+            pages: moved.pages,
         };
         Ok((state, done))
     }
@@ -203,6 +209,7 @@ impl State {
         ensures stamps { IfOk result (λ r. (o : ℕ) → (reached_at (arc_value r.0.supports) o).stamp ≤ (length self.now.log + 2) * length self.now.dump.objects) }
         ensures changes { IfOk result (λ r. AreLastChanges self.now.dump next.now.front (arc_value r.0.supports) (arc_value r.0.last_changes)) }
         ensures totals { IfOk result (λ r. AreTotals self.now.dump (arc_value r.0.supports) (arc_value r.0.totals)) }
+        ensures pages { IfOk result (λ r. AreNoted self.now.dump (arc_value r.0.pages)) }
         ensures done { IfOk result (λ r. IsDone self.now.dump self.now.log next.now.front r.1) }
         ensures outside { IfOk result (λ r. (o : ℕ) → (InEventRegion self.now.dump self.now.log next.now.front self.now.kept (arc_value r.0.supports) o → ⊥) → reached_at (arc_value r.0.supports) o ≡ reached_at self.now.kept o) }
     {
@@ -214,6 +221,7 @@ impl State {
             supports: Arc::new(alloc, repair.supports)?,
             last_changes: Arc::new(alloc, last_changes)?,
             totals: Arc::new(alloc, totals)?,
+            pages: Arc::try_clone(&self.pages)?,
         };
         Ok((moved, done))
     }
@@ -314,6 +322,7 @@ impl State {
             supports: Arc::try_clone(&self.supports)?,
             last_changes: Arc::try_clone(&self.last_changes)?,
             totals: Arc::try_clone(&self.totals)?,
+            pages: Arc::try_clone(&self.pages)?,
         })
     }
 
@@ -372,17 +381,18 @@ impl State {
         Ok(Mark::new(graph, front, supports, last_changes))
     }
 
-    /// The IDs of the objects that are unreachable and were not at a mark, ascending. Where the log begins with that of the mark,
-    /// only the pages of 1,024 objects are gone through that have changed since.
+    /// The IDs of the objects that are unreachable and were not at a mark, ascending: the first `most` of them, without a number all.
+    /// It takes memory for those alone. Where the log begins with that of the mark, only the pages of 1,024 objects are gone through
+    /// that have changed since.
     ///
     /// # Errors
     ///
     /// Memory ran out.
-    pub fn fell(&self, alloc: Global, mark: &Mark) -> Result<Vec<u64>, NoMemory>
+    pub fn fell(&self, alloc: Global, mark: &Mark, most: Option<u32>) -> Result<Vec<u64>, NoMemory>
         requires { mark.now.dump ≡ self.now.dump }
-        ensures { IfOk result (λ v. AreFallen self.now.dump mark.now.log self.now.log v.items) }
+        ensures { IfOk result (λ v. AreFirst most (AreFallen self.now.dump mark.now.log self.now.log) v.items) }
     {
-        fallen_ids(alloc, mark.solved(), self.solved())
+        fallen_ids(alloc, mark.solved(), self.solved(), most)
     }
 
     /// The pairs of strengths that have objects which had the first at a mark and have the second now, in their order, with how many
@@ -414,7 +424,9 @@ impl State {
         freed_rows(alloc, mark.solved(), self.solved())
     }
 
-    /// The IDs of the objects of a group that have a strength, ascending. All objects are gone through.
+    /// The IDs of the objects of a group that have a strength, ascending: the first `most` of them, without a number all. It takes
+    /// memory for those alone. Only the pages of 1,024 objects are gone through that may have objects of the group, and where only
+    /// some IDs are wanted, of these pages only those with an ID that is low enough.
     ///
     /// # Errors
     ///
@@ -424,10 +436,16 @@ impl State {
         alloc: Global,
         group: Group,
         strength: Strength,
+        most: Option<u32>,
     ) -> Result<Vec<u64>, NoMemory>
-        ensures { IfOk result (λ v. AreMembers self.now.dump self.now.log group strength v.items) }
+        ensures { IfOk result (λ v. AreFirst most (AreMembers self.now.dump self.now.log group strength) v.items) }
     {
-        member_ids(alloc, self.solved(), group, strength)
+        let members = Members {
+            group,
+            strength,
+            pages: &self.pages,
+        };
+        member_ids(alloc, self.solved(), members, most)
     }
 
     /// How many objects of a group have a strength, and their recorded bytes. They are looked up; it takes no memory.

@@ -44,6 +44,21 @@ pub fn wide_array(alloc: Global) -> Result<String, NoMemory> {
     Ok(text)
 }
 
+/// The same array, which stands behind the others, and these from the greatest ID down.
+pub fn wide_array_backwards(alloc: Global) -> Result<String, NoMemory> {
+    let mut text = String::new(alloc);
+    text.push_str("ids 4\nsegment\nroot 1")?;
+    for below in 0..3000u32 {
+        write!(text, "\narray {:x}:", 3001 - below).map_err(|_| NoMemory)?;
+    }
+    text.push_str("\narray 1:")?;
+    for id in 2..3002u32 {
+        write!(text, " {id:x}").map_err(|_| NoMemory)?;
+    }
+    text.push_str("\n")?;
+    Ok(text)
+}
+
 /// The graph of the dump that a text spells, opened in a mode, if it opens.
 pub fn graph_in<R: RandomSource + Threads + Sync>(
     rt: &R,

@@ -66,8 +66,12 @@ fn fallen_since<R: Abort>(
     requires opening { opening.now.dump ≡ state.now.dump }
     requires first { first.now.dump ≡ state.now.dump }
 {
-    let since_opening = state.fell(alloc, opening).expect(rt, "what fell is listed");
-    let since_first = state.fell(alloc, first).expect(rt, "what fell is listed");
+    let since_opening = state
+        .fell(alloc, opening, None)
+        .expect(rt, "what fell is listed");
+    let since_first = state
+        .fell(alloc, first, None)
+        .expect(rt, "what fell is listed");
     Fallen {
         since_opening,
         since_first,
@@ -136,7 +140,9 @@ fn fallen_around_undo<R: Abort>(
 ) -> (Vec<u64>, Fallen)
     requires { opening.now.dump ≡ state.now.dump }
 {
-    let by_cut = state.fell(alloc, opening).expect(rt, "what fell is listed");
+    let by_cut = state
+        .fell(alloc, opening, None)
+        .expect(rt, "what fell is listed");
     let between = state.mark().expect(rt, "the state is marked");
     let by_undo = fallen_after_undo(rt, alloc, state, opening, &between);
     (by_cut, by_undo)

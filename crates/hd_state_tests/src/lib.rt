@@ -16,6 +16,8 @@ mod lazy_tests;
 mod log_tests;
 pub mod looks;
 #[cfg(test)]
+mod member_tests;
+#[cfg(test)]
 mod moved_tests;
 #[cfg(test)]
 mod part_tests;

@@ -13,7 +13,9 @@ use Rattle.hd_terms.specs.Records.{largest_file}
 use Rattle.hd_terms.specs.Settled.{Reached}
 use Rattle.hd_totals.specs.declared.total.Total.{Total}
 use Rattle.hd_totals.specs.declared.total.StrengthTotals.{StrengthTotals}
-use Rattle.hd_totals.specs.Counting.{AreTotalsBetween, AreJoined}
+use Rattle.hd_totals.specs.Counting.{totals_of, AreTotalsBetween, AreJoined, IsShare}
+use Rattle.hd_totals.specs.declared.counting.Share.{Share}
+use Rattle.hd_totals.specs.GroupPages.{IsNoted}
 use Rattle.hd_totals.specs.Members.{bytes_if, InRange}
 use Rattle.hd_totals.specs.Running.{counts_for, strength_in, plus_one, IsRowPut}
 use Rattle.hd_totals.specs.Totals.{Totals, no_totals, total_for, total_in, row_at, place_of, sums_of, AreTotals}
@@ -212,6 +214,21 @@ module _ (dump : Dump) (strength : ℕ → Strength) (start middle end : ℕ) (o
       few_keys = omega (arith, j.few_keys, first.few_keys, second.few_keys);
       whole = j.whole;
     }
+
+-- two shares, of which one begins where the other ends
+pub both-shares : (dump : Dump) (ks : List Reached) (start middle end : ℕ) (one other : Share) → IsShare dump ks start middle one → IsShare dump ks middle end other
+    → (both : Share) → AreJoined (totals_of one.counted) (totals_of other.counted) (totals_of both.counted) → length both.pages.least ≡ length one.pages.least
+    → ((o : ℕ) (group : Group) (id : ℕ) → IsNoted one.pages o group id → IsNoted both.pages o group id)
+    → ((o : ℕ) (group : Group) (id : ℕ) → IsNoted other.pages o group id → IsNoted both.pages o group id)
+    → IsShare dump ks start end both
+both-shares dump ks start middle end one other first second both j room low high = record {
+  counted = both-between dump (strength_in ks) start middle end (totals_of one.counted) (totals_of other.counted) first.counted second.counted (totals_of both.counted) j;
+  room = room ∙ first.room;
+  noted = λ o le lt. elim (cases_lt o middle) [
+    | inl below ↦ low o (object_at dump o).group (object_at dump o).id (first.noted o le below)
+    | inr above ↦ high o (object_at dump o).group (object_at dump o).id (second.noted o (omega arith) lt)
+  ];
+}
 
 -- all objects
 pub all-counted : (dump : Dump) (ks : List Reached) (t : Totals) → AreTotalsBetween dump (strength_in ks) 0 (length dump.objects) t → length dump.objects < 2 ^ 32 → AreTotals dump ks t

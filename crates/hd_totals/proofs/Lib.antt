@@ -3,6 +3,7 @@ pub mod ClassLemmas
 pub mod CountingLemmas
 pub mod FallenLemmas
 pub mod GroupLemmas
+pub mod GroupPageLemmas
 pub mod Joining
 pub mod LastChangeLemmas
 pub mod RankingLemmas

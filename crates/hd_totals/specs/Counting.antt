@@ -1,6 +1,6 @@
 -- Totals of some of the objects, and of two parts together.
 -- Source: this project.
-use Rattle.std.specs.Prelude.{◌≡◌, ℕ, ◌+◌, ◌*◌, ◌<◌, ◌≤◌, List, length, Contains, count_by, sum_by}
+use Rattle.std.specs.Prelude.{◌≡◌, ℕ, ◌+◌, ◌*◌, ◌/◌, ◌<◌, ◌≤◌, List, length, Contains, count_by, sum_by}
 use Rattle.std.specs.List.{range_with_len}
 use Rattle.hd_terms.specs.declared.Group.{Group}
 use Rattle.hd_terms.specs.declared.Strength.{Strength}
@@ -9,6 +9,8 @@ use Rattle.hd_terms.specs.Listed.{group_key}
 use Rattle.hd_terms.specs.Records.{largest_file}
 use Rattle.hd_terms.specs.Settled.{Reached}
 use Rattle.hd_totals.specs.declared.counting.Counted.{Counted}
+use Rattle.hd_totals.specs.declared.counting.Share.{Share}
+use Rattle.hd_totals.specs.GroupPages.{AreNotedBetween}
 use Rattle.hd_totals.specs.Members.{bytes_if, InRange}
 use Rattle.hd_totals.specs.Running.{counts_for, strength_in}
 use Rattle.hd_totals.specs.Totals.{Totals, row_at, sums_of, total_in}
@@ -47,3 +49,9 @@ pub record AreJoined (one other both : Totals) : Type 0 where
   pub second : (key : ℕ) → Contains other.keys key → Contains both.keys key
   pub few_keys : length both.keys ≤ length one.keys + length other.keys
   pub whole : length both.rows ≡ length both.keys
+
+-- the totals of the objects from one number on, before another, and these noted among the pages of all
+pub record IsShare (dump : Dump) (ks : List Reached) (start end : ℕ) (share : Share) : Type 0 where
+  pub counted : AreGroupsCounted dump ks start end share.counted
+  pub room : length share.pages.least ≡ length dump.objects / 1024 + 1
+  pub noted : AreNotedBetween dump start end share.pages

@@ -7,3 +7,4 @@ pub mod Running
 pub mod Counting
 pub mod Rows
 pub mod LastChanges
+pub mod GroupPages

@@ -1,14 +1,16 @@
 //! Counting objects by their groups and strengths, part by part, by several threads.
 ghost use denote.Param.Send.{IsSync};
-ghost use Rattle.std.specs.Prelude.{[], ◌≡◌, ◌+◌, ◌<◌, ◌≤◌, ◌^◌, length, IfOk, OnOk};
+ghost use Rattle.std.specs.Prelude.{[], ◌≡◌, ◌+◌, ◌<◌, ◌≤◌, ◌^◌, ℕ, length, IfOk, OnOk};
 ghost use Rattle.hd_terms.specs.declared.Group.{Group as OneGroup};
 ghost use Rattle.hd_terms.specs.declared.Strength.{Strength as OneStrength};
 ghost use Rattle.hd_terms.specs.Listed.{group_key};
+ghost use Rattle.hd_totals.specs.GroupPages.{IsNoted};
 ghost use Rattle.hd_totals.specs.Members.{InRange};
-ghost use Rattle.hd_totals.specs.Counting.{totals_of, AreGroupsCounted, AreJoined, AreWhole};
+ghost use Rattle.hd_totals.specs.Counting.{totals_of, AreGroupsCounted, AreJoined, AreWhole, IsShare};
 ghost use Rattle.hd_totals.specs.Running.{plus_one, IsPlaced, IsRowPut};
 ghost use Rattle.hd_totals.specs.Totals.{row_at, sums_of, total_for, total_in};
 
+use crate::group_pages::GroupPages;
 use crate::keys::{GroupKeys, key_of};
 use crate::total::StrengthTotals;
 use hd_graph::Graph;
@@ -25,6 +27,13 @@ const SHARES: u32 = 4;
 pub struct Counted {
     pub(crate) keys: GroupKeys,
     pub(crate) rows: Vec<StrengthTotals>,
+}
+
+/// The totals of some of the objects, and which pages have objects of a group among these.
+#[derive(Drop)]
+pub(crate) struct Share {
+    pub(crate) counted: Counted,
+    pub(crate) pages: GroupPages,
 }
 
 /// The place of a key, which may be new. The totals are in the order of the keys.
@@ -66,28 +75,32 @@ fn count_object(
     Ok(())
 }
 
-/// The totals of the objects from one number on, before another.
+/// The totals of the objects from one number on, before another, and their pages.
 fn count_part(
     alloc: Global,
     graph: &Graph,
     supports: &Supports,
     start: u32,
     end: u32,
-) -> Result<Counted, NoMemory>
+) -> Result<Share, NoMemory>
     requires count { length supports.now ≡ length graph.now.objects }
     requires order { start ≤ end }
     requires within { end ≤ length graph.now.objects }
-    ensures { IfOk result (AreGroupsCounted graph.now supports.now start end) }
+    ensures { IfOk result (IsShare graph.now supports.now start end) }
 {
     let mut keys = GroupKeys::new(alloc);
     let mut rows = Vec::new(alloc);
+    let mut pages = GroupPages::none(alloc, graph.objects())?;
     for o in start..end {
-        let key = key_of(graph.group_of(o));
+        let group = graph.group_of(o);
+        let key = key_of(group);
         let strength = supports.strength(o);
         let bytes = graph.bytes_of(o);
         count_object(&mut keys, &mut rows, key, strength, bytes)?;
+        pages.note(o, group, graph.id_of(o));
     }
-    Ok(Counted { keys, rows })
+    let counted = Counted { keys, rows };
+    Ok(Share { counted, pages })
 }
 
 /// Adds further totals of a group to those of its key, which may be new.
@@ -124,6 +137,23 @@ fn join_parts(one: Counted, other: Counted) -> Result<Counted, NoMemory>
         add_totals(&mut keys, &mut rows, key, other.rows[i])?;
     }
     Ok(Counted { keys, rows })
+}
+
+/// Two shares together.
+fn join_shares(one: Share, other: Share) -> Result<Share, NoMemory>
+    requires whole { AreWhole one.counted × AreWhole other.counted }
+    requires counts { (group : OneGroup) (s : OneStrength) → InRange group → (total_in (totals_of one.counted) group s).count + (total_in (totals_of other.counted) group s).count < 2 ^ 64 }
+    requires bytes { (group : OneGroup) (s : OneStrength) → InRange group → (total_in (totals_of one.counted) group s).bytes + (total_in (totals_of other.counted) group s).bytes < 2 ^ 64 }
+    requires pages { length one.pages.least ≡ length other.pages.least }
+    ensures joined { IfOk result (λ both. AreJoined (totals_of one.counted) (totals_of other.counted) (totals_of both.counted)) }
+    ensures pages { IfOk result (λ both. length both.pages.least ≡ length one.pages.least) }
+    ensures first { IfOk result (λ both. (o : ℕ) (group : OneGroup) (id : ℕ) → IsNoted one.pages o group id → IsNoted both.pages o group id) }
+    ensures second { IfOk result (λ both. (o : ℕ) (group : OneGroup) (id : ℕ) → IsNoted other.pages o group id → IsNoted both.pages o group id) }
+{
+    let counted = join_parts(one.counted, other.counted)?;
+    let mut pages = one.pages;
+    pages.join(other.pages);
+    Ok(Share { counted, pages })
 }
 
 impl Counted {
@@ -167,39 +197,39 @@ fn count_shares<R: Threads + Sync>(
     start: u32,
     end: u32,
     shares: u32,
-) -> Result<Counted, NoMemory>
+) -> Result<Share, NoMemory>
     requires count { length supports.now ≡ length graph.now.objects }
     requires order { start ≤ end }
     requires within { end ≤ length graph.now.objects }
-    ensures { IfOk result (AreGroupsCounted graph.now supports.now start end) }
+    ensures { IfOk result (IsShare graph.now supports.now start end) }
 {
     if shares <= 1 {
         return count_part(alloc, graph, supports, start, end);
     }
     let middle = start + (end - start) / shares;
     let shares_left = shares - 1;
-    let share = || -> Result<Counted, NoMemory>
+    let share = || -> Result<Share, NoMemory>
         requires { (length supports.now ≡ length graph.now.objects) × (start ≤ middle) × (middle ≤ length graph.now.objects) }
-        ensures { IfOk result (AreGroupsCounted graph.entry.now supports.entry.now start middle) }
+        ensures { IfOk result (IsShare graph.entry.now supports.entry.now start middle) }
     { count_part(alloc, graph, supports, start, middle) };
-    let others = || -> Result<Counted, NoMemory>
+    let others = || -> Result<Share, NoMemory>
         requires { IsSync R.row × (length supports.now ≡ length graph.now.objects) × (middle ≤ end) × (end ≤ length graph.now.objects) }
-        ensures { IfOk result (AreGroupsCounted graph.entry.now supports.entry.now middle end) }
+        ensures { IfOk result (IsShare graph.entry.now supports.entry.now middle end) }
     { count_shares(rt, alloc, graph, supports, middle, end, shares_left) };
     let (one, other) = join(rt, share, others);
-    let both = join_parts(one?, other?)?;
+    let both = join_shares(one?, other?)?;
     Ok(both)
 }
 
-/// The totals of all objects.
+/// The totals of all objects, and their pages.
 pub(crate) fn count_all<R: Threads + Sync>(
     rt: &R,
     alloc: Global,
     graph: &Graph,
     supports: &Supports,
-) -> Result<Counted, NoMemory>
+) -> Result<Share, NoMemory>
     requires { length supports.now ≡ length graph.now.objects }
-    ensures counted { IfOk result (AreGroupsCounted graph.now supports.now 0 (length graph.now.objects)) }
+    ensures counted { IfOk result (IsShare graph.now supports.now 0 (length graph.now.objects)) }
     ensures few { length graph.now.objects < 2 ^ 32 }
 {
     let end = graph.objects();

@@ -3,13 +3,15 @@ ghost use Rattle.std.specs.Prelude.{◌≡◌, ◌+◌, ◌<◌, ◌≤◌, ◌^
 ghost use Rattle.hd_terms.specs.Listed.{group_key};
 ghost use Rattle.hd_terms.specs.Settled.{Reached};
 ghost use Rattle.hd_totals.specs.Counting.{AreWhole, totals_of};
+ghost use Rattle.hd_totals.specs.GroupPages.{AreNoted};
 ghost use Rattle.hd_totals.specs.Keys.{AreKeys};
 ghost use Rattle.hd_totals.specs.Members.{InRange};
 ghost use Rattle.hd_totals.specs.Running.{plus_one, less_one, IsRowPut};
 ghost use Rattle.hd_totals.specs.Totals.{place_of, row_at, total_in, AreTotals, AreTotalsBefore, CanChange};
 
 use crate::ahead::Ahead;
-use crate::counting::{Counted, count_all};
+use crate::counting::{Counted, Share, count_all};
+use crate::group_pages::GroupPages;
 use crate::keys::{GroupKeys, key_of};
 use crate::total::{StrengthTotals, Total};
 use hd_graph::Graph;
@@ -62,7 +64,7 @@ impl Model for GroupTotals {
 }
 
 impl GroupTotals {
-    /// The totals of all objects, in one pass, which four threads share.
+    /// The totals of all objects, and which pages have objects of a group, in one pass, which four threads share.
     ///
     /// # Errors
     ///
@@ -72,13 +74,14 @@ impl GroupTotals {
         alloc: Global,
         graph: &Graph,
         supports: &Supports,
-    ) -> Result<GroupTotals, NoMemory>
+    ) -> Result<(GroupTotals, GroupPages), NoMemory>
         requires { length supports.now ≡ length graph.now.objects }
-        ensures { IfOk result (λ t. AreTotals graph.now supports.now t) }
+        ensures totals { IfOk result (λ r. AreTotals graph.now supports.now r.0) }
+        ensures pages { IfOk result (λ r. AreNoted graph.now r.1) }
     {
-        let counted = count_all(rt, alloc, graph, supports)?;
+        let Share { counted, pages } = count_all(rt, alloc, graph, supports)?;
         let totals = GroupTotals::of_counted(alloc, counted)?;
-        Ok(totals)
+        Ok((totals, pages))
     }
 
     /// These totals, with the keys of their groups.

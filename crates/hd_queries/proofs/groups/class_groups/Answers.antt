@@ -1,5 +1,4 @@
 use Rattle.std.proofs.Common.{◌∙◌, List, [], ◌∷◌, ◌++◌, map, sym, ap, arith}
-use Rattle.hd_terms.specs.Dump.{NamedClass}
 use Rattle.hd_terms.specs.declared.Group.{Group}
 use Rattle.hd_terms.specs.declared.Group.TheVariants as kinds
 use Rattle.hd_queries.specs.Groups.{class_group}

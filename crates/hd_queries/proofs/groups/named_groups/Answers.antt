@@ -1,6 +1,5 @@
-use Rattle.std.proofs.Common.{◌≡◌, ◌∙◌, ◌+◌, ◌≤◌, List, ◌++◌, map, sym, ap, subst, arith}
+use Rattle.std.proofs.Common.{◌∙◌, ◌+◌, ◌≤◌, List, ◌++◌, map, sym, ap, subst, arith}
 use Rattle.hd_terms.specs.declared.ClassRow.{ClassRow}
-use Rattle.hd_terms.specs.Ranks.{rank}
 use Rattle.hd_totals.specs.Rows.{row_group}
 use Rattle.hd_queries.specs.Groups.{AreGroupsAbove}
 use Rattle.hd_queries.proofs.GroupLemmas.{none-above, more-above, all-named}

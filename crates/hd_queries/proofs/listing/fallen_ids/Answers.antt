@@ -1,4 +1,4 @@
-use Rattle.std.proofs.Common.{subst}
+use Rattle.std.proofs.Common.{subst, arith}
 use Rattle.hd_terms.specs.Dump.{Dump}
 use Rattle.hd_terms.specs.EditedDump.{standing}
 use Rattle.hd_terms.specs.Fell.{Falls}
@@ -10,7 +10,10 @@ use Rattle.hd_queries.proofs.ListedLemmas.{all-ids}
 use Rattle.hd_queries.proofs.listing.fallen_ids.Goals as goal
 
 pub ids_of-requires-clause-quiet : goal.ids_of-requires-clause-quiet
-ids_of-requires-clause-quiet c o quiet = same-not-falls c.compare.result.earlier.strengths.now c.compare.result.later.strengths.now o (c.compare.ensures.same o quiet)
+ids_of-requires-clause-quiet c = record {
+  none = λ o lt quiet. same-not-falls c.compare.result.earlier.strengths.now c.compare.result.later.strengths.now o (c.compare.ensures.same o quiet);
+  above = λ o lt. omega arith;
+}
 
 pub returns : goal.returns
 returns c =
@@ -21,4 +24,5 @@ returns c =
     let ls = c.args.later.strengths.now in
     let settled : Settled (standing dump before) ks = subst (λ (d : Dump). Settled (standing d before) ks) c.requires.one_dump c.requires.kept_earlier.settled in
     let decides = decides-falls c.settled_supports_give_strengths.ensures.strengths c.one_strength.ensures dump before after ks ls settled c.requires.kept_later.settled in
-    all-ids dump (falls_from ks ls) (Falls dump before after) c.in_ok-ids.ids.items decides (rw (c.compare.ensures.earlier, c.compare.ensures.later) at c.in_ok-ids.ensures.ids) c.in_ok-ids.ensures.ascending
+    let found = c.in_ok-ids.ensures in
+    (found.0, all-ids dump (falls_from ks ls) (Falls dump before after) found.0 decides (rw (c.compare.ensures.earlier, c.compare.ensures.later) at found.1.0) found.1.1, found.2)

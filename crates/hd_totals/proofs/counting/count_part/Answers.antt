@@ -1,9 +1,12 @@
-use Rattle.std.proofs.Common.{◌≡◌, ◌∙◌, ◌≤◌, ℕ, ap, subst, arith}
+use Rattle.std.proofs.Common.{◌≡◌, ◌∙◌, ◌≤◌, inl, inr, ℕ, sym, ap, subst, arith}
+use Rattle.std.proofs.lemmas.Bool.{cases_lt}
+use Rattle.hd_terms.specs.declared.Group.{Group}
 use Rattle.hd_terms.specs.declared.Strength.{Strength}
 use Rattle.hd_terms.specs.Dump.{object_at}
 use Rattle.hd_terms.specs.Listed.{group_key}
 use Rattle.hd_terms.specs.Records.{largest_file}
 use Rattle.hd_totals.specs.Counting.{AreTotalsBetween}
+use Rattle.hd_totals.specs.GroupPages.{AreNotedBetween, IsNoted}
 use Rattle.hd_totals.specs.Members.{InRange}
 use Rattle.hd_totals.specs.Running.{strength_in, plus_one, IsRowPut}
 use Rattle.hd_totals.specs.Totals.{Totals, total_for, row_at}
@@ -14,7 +17,7 @@ pub count_object-requires-clause-count : goal.count_object-requires-clause-count
 count_object-requires-clause-count c =
     let t : Totals = record { keys = c.loop-o.keys; rows = c.loop-o.rows.items } in
     let s = c.strength-strength.result in
-    let few = c.loop-o.invariant.few c.group_of.result s c.key_of-key.ensures.range in
+    let few = c.loop-o.invariant.totals.few c.group_of-group.result s c.key_of-key.ensures.range in
     let same = ap (λ (k : ℕ). (total_for (row_at t k) s).count) c.key_of-key.ensures.key in
     omega (arith, few, same)
 
@@ -22,7 +25,7 @@ pub count_object-requires-clause-bytes : goal.count_object-requires-clause-bytes
 count_object-requires-clause-bytes c =
     let t : Totals = record { keys = c.loop-o.keys; rows = c.loop-o.rows.items } in
     let s = c.strength-strength.result in
-    let light = c.loop-o.invariant.light c.group_of.result s c.key_of-key.ensures.range in
+    let light = c.loop-o.invariant.totals.light c.group_of-group.result s c.key_of-key.ensures.range in
     let same = ap (λ (k : ℕ). (total_for (row_at t k) s).bytes) c.key_of-key.ensures.key in
     let small = c.bytes_of-bytes.ensures.small in
     omega (arith, light, same, small)
@@ -34,17 +37,33 @@ loop-o-preserved c =
     let o = c.loop-o.o in
     let t : Totals = record { keys = c.loop-o.keys; rows = c.loop-o.rows.items } in
     let t' : Totals = record { keys = c.count_object.new.keys; rows = c.count_object.new.rows.items } in
-    let key_is : c.key_of-key.result ≡ group_key (object_at dump o).group = c.key_of-key.ensures.key ∙ ap group_key c.group_of.ensures in
+    let key_is : c.key_of-key.result ≡ group_key (object_at dump o).group = c.key_of-key.ensures.key ∙ ap group_key c.group_of-group.ensures in
     let put : IsRowPut t t' (group_key (object_at dump o).group) (plus_one (row_at t (group_key (object_at dump o).group)) (st o) (object_at dump o).bytes) =
     subst (λ (k : ℕ). IsRowPut t t' k (plus_one (row_at t k) (st o) (object_at dump o).bytes)) key_is
     (subst (λ (s : Strength). IsRowPut t t' c.key_of-key.result (plus_one (row_at t c.key_of-key.result) s (object_at dump o).bytes)) c.strength-strength.ensures
     (subst (λ (n : ℕ). IsRowPut t t' c.key_of-key.result (plus_one (row_at t c.key_of-key.result) c.strength-strength.result n)) c.bytes_of-bytes.ensures.bytes c.in_ok-count_object.ensures)) in
-    let range = subst InRange c.group_of.ensures c.key_of-key.ensures.range in
+    let range = subst InRange c.group_of-group.ensures c.key_of-key.ensures.range in
     let small = subst (λ (n : ℕ). n ≤ largest_file) c.bytes_of-bytes.ensures.bytes c.bytes_of-bytes.ensures.small in
-    one-more-between dump st c.args.start o t t' c.loop-o.invariant (omega arith) range small put
+    record {
+      totals = one-more-between dump st c.args.start o t t' c.loop-o.invariant.totals (omega arith) range small put;
+      room = c.note.ensures.count ∙ c.loop-o.invariant.room;
+      noted = λ x le lt. elim (cases_lt x o) [
+        | inl earlier ↦ c.note.ensures.kept x (object_at dump x).group (object_at dump x).id (c.loop-o.invariant.noted x le earlier)
+        | inr last ↦
+            let same : x ≡ o = omega (arith, lt, last) in
+            let here : IsNoted c.note.new.self o (object_at dump o).group (object_at dump o).id =
+            subst (λ (g : Group). IsNoted c.note.new.self o g (object_at dump o).id) c.group_of-group.ensures
+            (subst (λ (id : ℕ). IsNoted c.note.new.self o c.group_of-group.result id) c.id_of.ensures c.note.ensures.noted) in
+            subst (λ (y : ℕ). IsNoted c.note.new.self y (object_at dump y).group (object_at dump y).id) (sym same) here
+      ];
+    }
 
 pub returns : goal.returns
 returns c =
-    let t : Totals = record { keys = c.loop-o.keys; rows = c.loop-o.rows.items } in
+    let dump = c.args.graph.now in
     let end : c.loop-o.o ≡ c.args.end = omega arith in
-    subst (λ (k : ℕ). AreTotalsBetween c.args.graph.now (strength_in c.args.supports.now) c.args.start k t) end c.loop-o.invariant
+    record {
+      counted = subst (λ (k : ℕ). AreTotalsBetween dump (strength_in c.args.supports.now) c.args.start k (record { keys = c.loop-o.keys; rows = c.loop-o.rows.items })) end c.loop-o.invariant.totals;
+      room = c.loop-o.invariant.room;
+      noted = subst (λ (k : ℕ). AreNotedBetween dump c.args.start k c.loop-o.pages) end c.loop-o.invariant.noted;
+    }

@@ -1,11 +1,9 @@
-use Rattle.std.proofs.Common.{◌≡◌, ◌∙◌, ◌≤◌, ℕ, List, length, map, get_or, Ok, Err, sym, ap, subst}
-use Rattle.std.specs.Prelude.{All, Contains, IfOk}
+use Rattle.std.proofs.Common.{◌≡◌, ◌∙◌, ◌≤◌, map, sym, subst}
 use Rattle.std.specs.List.Sorted.{IsStrictlyIncreasing}
 use Rattle.std.proofs.lemmas.List.Filters.{dedup_is}
 use Rattle.std.proofs.lemmas.List.Kept.{Contains-dedup_nat, Contains-from_dedup}
 use Rattle.std.proofs.lemmas.List.Sorted.{Contains-permutation, IsPermutation-sym}
 use Rattle.std.proofs.lemmas.Map.Keys.{IsStrictlyIncreasing-dedup}
-use Rattle.hd_terms.specs.declared.Group.{Group}
 use Rattle.hd_terms.specs.Listed.{group_key}
 use Rattle.hd_totals.proofs.GroupLemmas.{all-of, same-keys}
 use Rattle.hd_totals.proofs.groups.in_order.Goals as goal

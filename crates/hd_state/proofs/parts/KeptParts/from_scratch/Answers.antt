@@ -20,5 +20,6 @@ returns g c =
       kept = rw c.in_ok-new.ensures.ok record { count = c.in_ok-supports.ensures.count; settled = settled };
       stamps = rw (c.in_ok-new.ensures.ok, empty) (λ o. omega (arith, c.in_ok-supports.ensures.stamps o));
       changes = rw (c.in_ok-new.ensures.ok, c.in_ok-new-2.ensures.ok) changes;
-      totals = rw (c.in_ok-new.ensures.ok, c.in_ok-new-3.ensures.ok) c.in_ok-totals.ensures;
+      totals = rw (c.in_ok-new.ensures.ok, c.in_ok-new-3.ensures.ok) c.in_ok-totals.ensures.totals;
+      pages = rw c.in_ok-new-4.ensures.ok c.in_ok-totals.ensures.pages;
     }

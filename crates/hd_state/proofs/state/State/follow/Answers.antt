@@ -7,7 +7,7 @@ use Rattle.hd_terms.specs.Kept.{AreKept}
 use Rattle.hd_terms.specs.Lost.{InEventRegion}
 use Rattle.hd_terms.specs.Settled.{reached_at}
 use Rattle.hd_strength.specs.Removed.{IsRemovedBy}
-use Rattle.hd_reverse.specs.Reverse.{IsReverseOf}
+use Rattle.hd_totals.specs.GroupPages.{AreNoted}
 use Rattle.hd_totals.specs.LastChanges.{AreLastChanges}
 use Rattle.hd_totals.specs.Totals.{AreTotals}
 use Rattle.hd_view.specs.Added.{IsAddedBy}
@@ -34,6 +34,7 @@ invariant_of-state c =
       stamps = λ o. subst (λ (n : ℕ). (reached_at kept o).stamp ≤ n) (sym most) (c.in_ok-moved.ensures.stamps o);
       changes = subst (λ (d : Dump). AreLastChanges d next.front kept (arc_value moved.last_changes)) (sym graph) c.in_ok-moved.ensures.changes;
       totals = subst (λ (d : Dump). AreTotals d kept (arc_value moved.totals)) (sym graph) c.in_ok-moved.ensures.totals;
+      pages = subst (λ (d : Dump). AreNoted d (arc_value moved.pages)) (sym graph) c.in_ok-moved.ensures.pages;
     }
 
 pub returns-clause-outside : goal.returns-clause-outside

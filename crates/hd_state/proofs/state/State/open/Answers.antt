@@ -9,4 +9,5 @@ invariant_of-result g c = record {
   stamps = rw c.deref-2.ensures at c.in_ok-kept.ensures.kept.stamps;
   changes = rw c.deref-2.ensures at c.in_ok-kept.ensures.kept.changes;
   totals = rw c.deref-2.ensures at c.in_ok-kept.ensures.kept.totals;
+  pages = rw c.deref-2.ensures at c.in_ok-kept.ensures.kept.pages;
 }

@@ -1,0 +1,56 @@
+-- Of each page of objects, the groups of its objects by buckets, and an ID that none of its objects is below.
+-- Source: this project.
+use Rattle.std.specs.Prelude.{◌≡◌, ℕ, ◌+◌, ◌*◌, ◌/◌, ◌%◌, ◌<◌, ◌≤◌, ◌^◌, List, length, min, slice_index_or}
+use Rattle.std.specs.Int.{bit_at}
+use Rattle.std.specs.Int.RustNames.{bit_or}
+use Rattle.hd_terms.specs.declared.Group.{Group}
+use Rattle.hd_terms.specs.declared.Group.TheVariants as groups
+use Rattle.hd_terms.specs.Dump.{Dump, object_at}
+use Rattle.hd_totals.specs.LastChanges.{page_of}
+
+-- words of 64 bits, eight a page, and IDs, one a page
+pub record PageMarks : Type 0 where
+  pub marks : List ℕ
+  pub least : List ℕ
+
+abbrev pub AreWhole : PageMarks → Type 0
+AreWhole p = length p.marks ≡ length p.least * 8
+
+-- the bucket of a group, one of 512
+abbrev pub bucket_of : Group → ℕ
+bucket_of (groups.Class id) = id * 11400714819323198485 % 2 ^ 64 / 2 ^ 55
+bucket_of (groups.Prim element) = element
+bucket_of groups.Classes = 0
+
+-- the word of a page that has the bit of a bucket
+abbrev pub word_at : List ℕ → (page bucket : ℕ) → ℕ
+word_at marks page bucket = slice_index_or marks (page * 8 + bucket / 64) 0
+
+-- the bucket of a group is marked at a page
+abbrev pub IsMarked : PageMarks → ℕ → Group → Type 0
+IsMarked p page group = bit_at (word_at p.marks page (bucket_of group)) (bucket_of group % 64) ≡ 1
+
+-- the ID that no object of a page is below
+abbrev pub least_at : PageMarks → ℕ → ℕ
+least_at p page = slice_index_or p.least page 0
+
+-- the group and the ID of the object of a number are noted
+pub record IsNoted (p : PageMarks) (o : ℕ) (group : Group) (id : ℕ) : Type 0 where
+  pub marked : IsMarked p (page_of o) group
+  pub above : least_at p (page_of o) ≤ id
+
+-- the objects of a dump from one number on, before another, are noted
+abbrev pub AreNotedBetween : Dump → (start end : ℕ) → PageMarks → Type 0
+AreNotedBetween dump start end p = (o : ℕ) → start ≤ o → o < end → IsNoted p o (object_at dump o).group (object_at dump o).id
+
+-- all objects of a dump are noted
+abbrev pub AreNoted : Dump → PageMarks → Type 0
+AreNoted dump p = AreNotedBetween dump 0 (length dump.objects) p
+
+-- words have the bits that either of two words has
+abbrev pub IsUnited : (one other both : List ℕ) → Type 0
+IsUnited one other both = (i : ℕ) → slice_index_or both i 0 ≡ bit_or (slice_index_or one i 0) (slice_index_or other i 0)
+
+-- IDs are the lesser of two each
+abbrev pub IsLowered : (one other both : List ℕ) → Type 0
+IsLowered one other both = (i : ℕ) → slice_index_or both i 0 ≡ min (slice_index_or one i 0) (slice_index_or other i 0)
