@@ -9,7 +9,7 @@ run ends with the fault OutOfMemory, and nothing is written. The sweeps are:
 - smaller and smaller limits of the address space, from 4,000 KiB down in steps of one page, to the first limit under which
   the system's loader can't start the program;
 - the N-th allocation alone refused, for N = 1, 2, .. up to the first run in which nothing was left to refuse (`refuse.rs`);
-- the same over files: `stat` and a session over a dump with a weak reference and a finalizer, and `stat` with 1, 4 and 16
+- the same over files: `stat` and two sessions over a dump with a weak reference and a finalizer, and `stat` with 1, 4 and 16
   workers over three dumps with a count of 4,294,967,295, which have to be refused for their fault or end out of memory.
 
 A sweep fails where a run did anything else, or where no run met an outcome that it has to meet. Needed are Linux, rustc,
@@ -250,6 +250,62 @@ class Clears(Model):
         }
 
 
+class Names(Clears):
+    """A session over that dump that begins with names, in which references are cleared one by one and all at once."""
+
+    LINES = [
+        "slots 0x21", "chain 0x5", "into 0x5", "object 0x5", "find Weak", "top STRONG", "clear 0x21", "moved 0", "freed 0",
+        "find Finalizer", "chain 0x5", "private", "clearall final", "moved 0", "freed 0", "fell 0", "object 0x5", "head 1 into 0x5",
+        "chain 0x5", "back", "moved 0", "undo", "moved 0", "head 2 top STRONG", "members 0x16 STRONG", "quit",
+    ]
+    FIELD = "java/lang/ref/Reference.referent"
+    CLASSES = {"0x21": "java/lang/ref/WeakReference", "0x31": "java/lang/ref/Finalizer"}
+
+    def __init__(self) -> None:
+        super().__init__()
+        self.home: list[int | str] = []  # the log before the private part
+
+    def is_event(self, line: str) -> bool:
+        return line == "clearall final" or super().is_event(line)
+
+    def stands(self, reference: str) -> bool:
+        live = [self.log[number] for number in self.live()]
+        return f"clear {reference}" not in live and (reference == "0x21" or "clearall final" not in live)
+
+    def query(self, line: str) -> list[str]:
+        if line == "private":
+            self.home = list(self.log)
+            return [f"private {len(self.log)}"]
+        if line == "back":
+            count, self.log = len(self.log) - len(self.home), self.home
+            return [f"back {count}"]
+        if line == "fell 0":
+            return [] if self.is_up() else ["0x5 ?"]
+        return super().query(line)
+
+    def answers(self) -> dict[str, list[str]]:
+        way, after = self.way(), self.strength()
+        into = [f"{reference} f0 {kind} {'stands' if self.stands(reference) else 'cut'} {self.CLASSES[reference]} {self.FIELD}"
+                for _, _, reference, kind in self.WAYS]
+        top = ["0x0 1 8 ?", "0x13 1 4 java/lang/ref/WeakReference", "0x16 1 4 java/lang/ref/Finalizer", "c 4 0 classes"]
+        return {
+            "slots 0x21": [f"f0 weak 0x5 {'stands' if self.stands('0x21') else 'cut'} ? {self.FIELD}",
+                           "class strong 0x13 stands java/lang/ref/WeakReference.class -"],
+            "chain 0x5": ["root 0 unknown 0x1 ?", f"{way[1]} strong {way[2]} {self.CLASSES[way[2]]} -",
+                          f"f0 {way[3]} 0x5 ? {self.FIELD}"] if way else [],
+            "into 0x5": into,
+            "head 1 into 0x5": into[:1],
+            "object 0x5": [f"0x0 0 {after} ?"],
+            "find Weak": ["0x13 1 0 0 0 0 0 java/lang/ref/WeakReference"],
+            "find Finalizer": ["0x16 1 0 0 0 0 0 java/lang/ref/Finalizer"],
+            "top STRONG": top,
+            "head 2 top STRONG": top[:2],
+            "members 0x16 STRONG": ["0x31 java/lang/ref/Finalizer"],
+            "moved 0": [] if after == "WEAK" else [f"WEAK {after} 1 0"],
+            "freed 0": ["total 0 0"] if way else ["total 1 0", "0x0 1 0 ?"],
+        }
+
+
 # What a run did.
 
 Judge = Callable[[Ended], str]
@@ -376,6 +432,8 @@ def cases(room: str) -> Iterator[Case]:
     yield Case("stat of references", ["stat", str(references)], "", right, [OPENING, ALL])
     words = ["run", str(references)]
     yield Case("a session over references", words, text_of(Clears), judge_session(Clears), [OPENING, IN_PART, ALL])
+    words = ["run", str(references), "--names"]
+    yield Case("a session with names", words, text_of(Names), judge_session(Names), [OPENING, IN_PART, ALL])
     heads = {
         "array of too many elements": SPELLED.array_head(1, 0xFFFFFFFF),
         "instance of too many bytes": SPELLED.instance_head(1, 0, 0xFFFFFFFF),

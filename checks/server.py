@@ -8,6 +8,8 @@ A server of two analysts is started for each of six clients, over a dump of two 
 
 Beside each the other client is answered, each time within a second, and the server ends by itself and prints the log.
 
+Two clients over a dump of three pages are told what fell since their own marks, as one cuts and undoes.
+
 Then sixteen clients make 2,000 edits and undos over a larger dump, at once and at random. When all have stopped, each
 asks for the strength of every object. The log that is printed has each event that a client was told of, under its
 number. One analyst makes the same edits and undos with `hdesk run`: each does the same, and the strengths at the end
@@ -188,6 +190,37 @@ def check_odd_client(program: Program, dump: str, act: Callable[[Client, Client]
     want(log == ["0 1 cut 0x1 e0 live"], f"the log has {log!r}, and not the cut of analyst 1")
 
 
+# Two clients over a dump of several pages.
+
+
+def wide_array() -> bytes:
+    """0x1 holds 3,000 empty arrays, 0x2 to 0xbb9. A root is on 0x1."""
+    held = range(2, 3002)
+    return SPELLED.dump(SPELLED.segment(SPELLED.root(1), SPELLED.array(1, held), *(SPELLED.array(name) for name in held)))
+
+
+def check_marks(program: Program, dump: str) -> None:
+    """One client cuts the last element and takes that back; what fell since each client's marks is the last array, and then none."""
+    server = program.serve(dump, 2)
+    first, second = server.connect(), server.connect()
+    for client, line, right in (
+        (first, "cut 0x1 e2999", ["ok 1", "event 0 fell 1 back 0"]),
+        (first, "fell 0", ["ok 1", "0xbb9"]),
+        (second, "fell 0", ["ok 1", "0xbb9"]),
+        (second, "mark", ["ok 1", "mark 1"]),
+        (first, "undo", ["ok 1", "event 1 fell 0 back 1"]),
+        (first, "fell 0", ["ok 0"]),
+        (second, "fell 0", ["ok 0"]),
+        (second, "fell 1", ["ok 0"]),
+        (second, "strength 0xbb9", ["ok 1", "STRONG"]),
+    ):
+        heard = client.ask(line)
+        want(heard == right, f"{line} is answered {heard!r}, and not {right!r}")
+    first.quit()
+    second.quit()
+    want(server.log() == ["0 0 cut 0x1 e2999 undone", "1 0 undo 0"], "the log has other events")
+
+
 # Sixteen clients that edit.
 
 
@@ -295,6 +328,9 @@ def check_server(given: argparse.Namespace, report: Report) -> None:
                 report.note(True, f"{text}; the other is answered at once, and the log is printed")
             except (Wrong, OSError) as wrong:
                 report.note(False, f"{text}: {wrong}")
+        dump.write_bytes(wide_array())
+        check_marks(program, str(dump))
+        report.note(True, "two clients over shared pages: each is told what fell since its own marks")
         larger = LargerDump(random.Random(given.seed))
         dump.write_bytes(larger.bytes())
         check_editors(program, str(dump), larger, given.seed, report)

@@ -4,9 +4,8 @@ ghost use Rattle.hd_lines.specs.Names.{group_name};
 
 use hd_graph::Graph;
 use hd_terms::{ClassRow, Group};
-use hd_words::{LineFormat, array_text, put_group, put_name};
+use hd_words::{LineFormat, array_text, put_decimal, put_group, put_name};
 use std::alloc::AllocError;
-use std::fmt::Write;
 
 /// Groups as lines: `G COUNT BYTES NAME`. The names of classes are those of a graph.
 #[derive(Drop)]
@@ -25,9 +24,11 @@ impl LineFormat for ClassLines<'_> {
 
     fn put(&self, text: &mut String, row: &ClassRow) -> Result<(), AllocError> {
         put_group(text, row.group)?;
-        let count = row.count;
-        let bytes = row.bytes;
-        write!(text, " {count} {bytes} ")?;
+        text.push(' ')?;
+        put_decimal(text, row.count)?;
+        text.push(' ')?;
+        put_decimal(text, row.bytes)?;
+        text.push(' ')?;
         put_group_name(text, self.graph, row.group)
     }
 }

@@ -14,10 +14,9 @@ use crate::texts::Showing;
 use hd_graph::Graph;
 use hd_state::State;
 use hd_terms::{Group, NoMemory, Strength};
-use hd_words::{LineFormat, lines_text, put_group};
+use hd_words::{LineFormat, lines_text, put_decimal, put_group};
 use memchr::memmem;
 use std::alloc::{AllocError, Global};
-use std::fmt::Write;
 
 /// The strengths, the greatest first.
 const STRENGTHS: [Strength; 6] = [
@@ -52,13 +51,21 @@ impl LineFormat for FoundLines<'_> {
     }
 }
 
+/// Puts a count behind a text, behind a space.
+fn put_count(text: &mut String, count: u64) -> Result<(), AllocError>
+    ensures { OnOk result (string_bytes text.new ≡ string_bytes text.old ++ 32 ∷ decimal count) }
+{
+    text.push(' ')?;
+    put_decimal(text, count)
+}
+
 /// Puts how many objects of a group have each strength behind a text, each number behind a space.
 fn put_counts(text: &mut String, state: &State, group: Group) -> Result<(), AllocError>
     ensures { OnOk result (string_bytes text.new ≡ string_bytes text.old ++ flat_map (λ (s : OneStrength). 32 ∷ decimal (member_count state.now.dump state.now.kept group s)) falling_strengths) }
 {
     for strength in STRENGTHS {
         let (count, _bytes) = state.total(group, strength);
-        write!(text, " {count}")?;
+        put_count(text, count)?;
     }
     Ok(())
 }

@@ -7,7 +7,7 @@ use crate::naming::{put_object_name, put_place};
 use hd_graph::Graph;
 use hd_queries::{Chain, Link};
 use hd_terms::RootKind;
-use hd_words::{LineFormat, kind_text, put_slot, root_text};
+use hd_words::{LineFormat, kind_text, put_decimal, put_slot, root_text};
 use std::alloc::{AllocError, Global};
 use std::fmt::Write;
 
@@ -66,10 +66,11 @@ pub(crate) fn start_text(
     ensures { IfOk result (λ text. string_bytes text ≡ chain_start graph.now names (root_of chain.now)) }
 {
     let mut text = String::new(alloc);
-    let root = chain.root;
-    let kind = root_text(kind_of_root(graph, root));
+    let kind = root_text(kind_of_root(graph, chain.root));
     let id = graph.id_of(chain.start);
-    write!(text, "root {root} {kind} 0x{id:x}")?;
+    text.push_str("root ")?;
+    put_decimal(&mut text, chain.root)?;
+    write!(text, " {kind} 0x{id:x}")?;
     if names {
         text.push(' ')?;
         put_object_name(&mut text, graph, chain.start)?;

@@ -4,7 +4,7 @@ ghost use Rattle.std.specs.Prelude.{◌≡◌, ◌++◌, string_bytes, OnOk};
 use crate::naming::put_object_name;
 use hd_graph::Graph;
 use hd_terms::Strength;
-use hd_words::{LineFormat, put_group, strength_text};
+use hd_words::{LineFormat, put_decimal, put_group, strength_text};
 use std::alloc::AllocError;
 use std::fmt::Write;
 
@@ -35,9 +35,10 @@ impl LineFormat for ObjectLines<'_> {
     fn put(&self, text: &mut String, row: &ObjectRow) -> Result<(), AllocError> {
         let object = row.object;
         put_group(text, self.graph.group_of(object))?;
-        let bytes = self.graph.bytes_of(object);
         let strength = strength_text(row.strength);
-        write!(text, " {bytes} {strength} ")?;
+        text.push(' ')?;
+        put_decimal(text, self.graph.bytes_of(object))?;
+        write!(text, " {strength} ")?;
         put_object_name(text, self.graph, object)
     }
 }

@@ -21,9 +21,10 @@ use hd_log::Front;
 use hd_queries::Chain;
 use hd_state::{Mark, State};
 use hd_terms::{Group, NoMemory, Strength};
-use hd_words::{EventLines, EventRow, MovedLines, lines_text, lines_text_from, put_lines};
+use hd_words::{
+    EventLines, EventRow, MovedLines, lines_text, lines_text_from, put_decimal, put_lines,
+};
 use std::alloc::{AllocError, Global};
-use std::fmt::Write;
 
 /// How an answer is shown.
 #[derive(Clone, Copy)]
@@ -236,7 +237,10 @@ fn total_text(alloc: Global, count: u64, bytes: u64) -> Result<String, AllocErro
     ensures { IfOk result (λ text. string_bytes text ≡ total_line count bytes) }
 {
     let mut text = String::new(alloc);
-    write!(text, "total {count} {bytes}")?;
+    text.push_str("total ")?;
+    put_decimal(&mut text, count)?;
+    text.push(' ')?;
+    put_decimal(&mut text, bytes)?;
     Ok(text)
 }
 

@@ -103,7 +103,7 @@ fn print_looks(
     Ok(())
 }
 
-/// Cuts the supports of so many objects of a dump, one at a time, spread evenly over all.
+/// Cuts the supports of `count` objects of a dump, one at a time, spread evenly over all.
 pub(crate) fn measure_looks<R: Print + AllocGlobal + Threads + Sync>(
     rt: &R,
     graph: Arc<Graph>,

@@ -13,7 +13,7 @@ number_at first zero k d lt = absurd (omega arith)
 number_at first (suc count) zero d lt = omega arith
 number_at first (suc count) (suc k) d lt = omega (arith, number_at (suc first) count k d (omega arith))
 
--- they are not below the first, and so many
+-- they are not below the first, and `count` many
 pub number_within : (first count n : ℕ) → Contains (numbers_from first count) n → (first ≤ n) × (n < first + count)
 number_within first count n found =
     let lt : found.0 < count = omega (arith, found.1, length-numbers_from first count) in

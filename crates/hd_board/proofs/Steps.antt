@@ -73,7 +73,7 @@ sees_log old d log is = record {
 pub on_err : {T E P : Type 0} (r : Result T E) → IsErr r → P → OnErr r P
 on_err r e p = MatchResult-from_err r (λ _. Unit {0}) (λ _. _) e (λ _. p)
 
--- so many events of what was seen are to be reached, and the state has come to some
+-- the first `count` events of what was seen are to be reached, and the state has come to some
 pub record IsOnTheWay (old new : Replica) (count : ℕ) : Type 0 where
   pub at : IsAt old new old.seen new.front
   pub reached : begins_with new.front old.front

@@ -14,7 +14,7 @@ pub record IsFound (numbers : List ℕ) (who : ℕ) (seen log : List Event) : Ty
   pub member : Contains numbers who
   pub continues : Continues who seen log
 
--- over a dump of so many roots a log takes an event up: its analyst can find the log, which shows no refusal of the event
+-- over a dump of `roots` roots a log takes an event up: its analyst can find the log, which shows no refusal of the event
 pub record IsTaken (roots : ℕ) (numbers : List ℕ) (seen log : List Event) (event : Event) : Type 0 where
   pub found : IsFound numbers event.who seen log
   pub accepts : append_refusal roots log event ≡ None

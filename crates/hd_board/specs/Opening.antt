@@ -6,7 +6,7 @@ use Rattle.hd_terms.specs.Dump.{Dump}
 use Rattle.hd_terms.specs.Schedule.{Board, numbers_from}
 use Rattle.hd_board.specs.Replicas.{Replica}
 
--- a board of so many desks over a dump
+-- a board of `n` desks over a dump
 abbrev pub opened_board : Dump → ℕ → Board
 opened_board dump n = record { roots = length dump.roots; base = []; numbers = numbers_from 0 n }
 
@@ -18,7 +18,7 @@ desk_at dump log who = record { who = who; dump = dump; seen = log; front = log 
 abbrev pub opened_desk : Dump → ℕ → Replica
 opened_desk dump who = desk_at dump [] who
 
--- the desks of a board of so many
+-- the `n` desks of a board
 abbrev pub opened_desks : Dump → ℕ → List Replica
 opened_desks dump n = map (opened_desk dump) (numbers_from 0 n)
 

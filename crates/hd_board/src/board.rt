@@ -2,6 +2,7 @@
 ghost use Rattle.std.specs.Prelude.{◌≡◌, ◌≤◌, List, [], map, IfErr, IfOk};
 ghost use Rattle.std.specs.Arc.{arc_value};
 ghost use Rattle.hd_terms.specs.declared.Event.{Event as OneEvent};
+ghost use Rattle.hd_terms.specs.Log.{IsLawful};
 ghost use Rattle.hd_terms.specs.Schedule.{Closes};
 ghost use Rattle.hd_terms.specs.Appending.{with_event};
 ghost use Rattle.hd_board.specs.Appends.{IsFound, IsTaken, RefusesAppend, RefusesLook};
@@ -146,6 +147,7 @@ impl Board {
     /// The log is answered.
     pub fn close(self, desks: &[Desk]) -> Result<Front, CloseFault>
         ensures ok { IfOk result (λ log. Closes self log (map numbered desks.now)) }
+        ensures lawful { IfOk result (λ log. IsLawful log) }
         ensures err { IfErr result (RefusesClose self (map numbered desks.now)) }
     {
         let Self {

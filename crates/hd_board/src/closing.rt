@@ -2,6 +2,7 @@
 ghost use Rattle.std.specs.Prelude.{ℕ, ◌≤◌, ◌+◌, ◌↔◌, drop, All, Contains, IsTrue, MatchBool};
 ghost use Rattle.hd_terms.specs.declared.Event.{Event};
 ghost use Rattle.hd_terms.specs.Desks.{IsForeign};
+ghost use Rattle.hd_terms.specs.Log.{IsLawful};
 ghost use Rattle.hd_terms.specs.Schedule.{numbers_from};
 ghost use Rattle.hd_board.specs.Appends.{IsFound};
 ghost use Rattle.hd_board.specs.Closing.{HasDesk};
@@ -26,7 +27,8 @@ pub fn all_find(log: &Front, first: u8, count: u8, desks: &[Desk]) -> bool
 
 /// Whether all events from this number on are by the board's analysts.
 pub fn are_members(log: &Front, from: u32, first: u8, count: u8) -> bool
-    ensures { IsTrue result ↔ All (λ (e : Event). Contains (numbers_from first count) e.who) (drop from log.now) }
+    ensures members { IsTrue result ↔ All (λ (e : Event). Contains (numbers_from first count) e.who) (drop from log.now) }
+    ensures lawful { IsLawful log.now }
 {
     for i in from..log.len() {
         if !is_member(first, count, log.event(i).who) {

@@ -168,7 +168,7 @@ fn boards_stand_apart(rt: HostRuntime) {
     assert!(rt; apart == (true, 1, 1, Some(Strength::Unreachable)));
 }
 
-/// A board closed with so many of its two desks.
+/// A board closed with `n` of its two desks.
 fn closed_with_some<R: Abort + RandomSource + Threads + Sync>(
     rt: &R,
     alloc: Global,

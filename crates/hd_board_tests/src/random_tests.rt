@@ -58,7 +58,7 @@ fn hundred_calls<R: Wait>(
     }
 }
 
-/// Whether a desk, once refreshed, has seen so many events and answers these strengths.
+/// Whether a desk, once refreshed, has seen the events of a log and answers these strengths.
 fn agrees<R: Wait>(
     rt: &R,
     alloc: Global,

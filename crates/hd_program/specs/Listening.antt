@@ -2,6 +2,7 @@
 -- Source: this project.
 use Rattle.std.specs.Prelude.{ℕ, ◌++◌, List, Option, Result, Ok, Err, codes, decimal}
 use Rattle.std.specs.Io.KnownBytes.{Keeps, Appends}
+use Rattle.hd_terms.specs.declared.Event.{Event}
 use Rattle.hd_terms.specs.declared.Mode.{Mode}
 use Rattle.hd_terms.specs.Dump.{Dump}
 use Rattle.hd_terms.specs.Objects.{IsDumpOf}
@@ -16,12 +17,14 @@ use Rattle.hd_program.specs.declared.server.ServerFault.TheVariants as server_fa
 abbrev pub listening_text : ℕ → List ℕ
 listening_text port = with_newline (codes "listening " ++ decimal port)
 
--- a port is told, and at the end some log with which a board of `analysts` desks over a dump may close
+-- a port is told, and at the end the log with which a board of `analysts` desks over a dump closes, by what the desks have seen
 pub record PrintsServer (dump : Dump) (analysts : ℕ) (before after : Option (List ℕ)) : Type 0 where
   pub port : ℕ
   pub told : Option (List ℕ)
   pub tells : Appends before told (listening_text port)
-  pub prints : PrintsLog (opened_board dump analysts) told after
+  -- of each desk its number and what it has seen at the end
+  pub desks : List (ℕ × List Event)
+  pub prints : PrintsLog (opened_board dump analysts) desks told after
 
 -- the same, over a dump of the bytes
 pub record ServesAnalysts (mode : Mode) (bytes : List ℕ) (analysts : ℕ) (before after : Option (List ℕ)) : Type 0 where

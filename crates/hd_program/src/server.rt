@@ -8,6 +8,7 @@ ghost use Rattle.hd_arguments.specs.Tasks.{IsAnalysts};
 
 use crate::counts::{end_status, shown_counts};
 use hd_arguments::Serving;
+use hd_board::open;
 use hd_buffer::Buffer;
 use hd_graph::Graph;
 use hd_protocol::{RunFault, open_bytes};
@@ -78,11 +79,11 @@ fn tell_port<W: Write>(alloc: Global, port: u16, output: &mut W) -> Result<(), S
     Ok(())
 }
 
-/// Listens, tells the port, and serves the analysts over a dump's graph.
+/// Listens, tells the port, opens a board over a dump's graph with a desk for each analyst, and serves these.
 ///
 /// # Errors
 ///
-/// The port can't be listened on, or can't be told; or serving ended early.
+/// The port can't be listened on, or can't be told; memory ran out for the board; or serving ended early.
 fn serve_graph<T, W: Write>(
     rt: &T,
     graph: Arc<Graph>,
@@ -100,7 +101,10 @@ where
     };
     tell_port(rt.alloc(), port, output)?;
     let names = serving.opening.names;
-    match serve_on(rt, names, graph, listener, serving.analysts, output) {
+    let Ok((board, mut desks)) = open(rt, rt.alloc(), graph, serving.analysts) else {
+        return Err(ServerFault::Serve(ServeOnFault::OutOfMemory));
+    };
+    match serve_on(rt, names, listener, board, desks.as_mut_slice(), output) {
         Ok(()) => Ok(()),
         Err(fault) => Err(ServerFault::Serve(fault)),
     }

@@ -17,10 +17,9 @@ use hd_graph::Graph;
 use hd_queries::opening_totals;
 use hd_terms::{Counts, Mode, NoMemory, Strength};
 use hd_totals::{StrengthTotals, Total};
-use hd_words::strength_text;
+use hd_words::{put_decimal, strength_text};
 use std::alloc::{AllocError, Global};
 use std::convert::AsSlice;
-use std::fmt::Write as _;
 use std::io::Write;
 use std::random::RandomSource;
 use std::thread::{Threads, join};
@@ -42,10 +41,13 @@ fn put_counts(text: &mut String, counts: Counts) -> Result<(), AllocError>
 fn put_repeated(text: &mut String, counts: Counts) -> Result<(), AllocError>
     ensures { OnOk result (string_bytes text.new ≡ string_bytes text.old ++ with_newline (repeated_line counts)) }
 {
-    let objects = counts.repeated_objects;
-    let strings = counts.repeated_strings;
-    let loads = counts.repeated_loads;
-    writeln!(text, "repeated {objects} {strings} {loads}")?;
+    text.push_str("repeated ")?;
+    put_decimal(text, counts.repeated_objects)?;
+    text.push(' ')?;
+    put_decimal(text, counts.repeated_strings)?;
+    text.push(' ')?;
+    put_decimal(text, counts.repeated_loads)?;
+    text.push('\n')?;
     Ok(())
 }
 
@@ -53,7 +55,9 @@ fn put_repeated(text: &mut String, counts: Counts) -> Result<(), AllocError>
 fn put_count(text: &mut String, name: &str, count: u64) -> Result<(), AllocError>
     ensures { OnOk result (string_bytes text.new ≡ string_bytes text.old ++ with_newline (name.now ++ decimal count)) }
 {
-    writeln!(text, "{name}{count}")?;
+    text.push_str(name)?;
+    put_decimal(text, count)?;
+    text.push('\n')?;
     Ok(())
 }
 
@@ -61,10 +65,12 @@ fn put_count(text: &mut String, name: &str, count: u64) -> Result<(), AllocError
 fn put_total(text: &mut String, strength: Strength, total: Total) -> Result<(), AllocError>
     ensures { OnOk result (string_bytes text.new ≡ string_bytes text.old ++ with_newline (total_line strength (shown_total total))) }
 {
-    let name = strength_text(strength);
-    let count = total.count;
-    let bytes = total.bytes;
-    writeln!(text, "{name} {count} {bytes}")?;
+    text.push_str(strength_text(strength))?;
+    text.push(' ')?;
+    put_decimal(text, total.count)?;
+    text.push(' ')?;
+    put_decimal(text, total.bytes)?;
+    text.push('\n')?;
     Ok(())
 }
 

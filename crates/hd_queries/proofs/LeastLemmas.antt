@@ -7,7 +7,7 @@ use Rattle.std.specs.declared.cmp.Ordering.{Ordering}
 use Rattle.std.specs.declared.cmp.Ordering.TheVariants.{Less, Equal, Greater}
 use Rattle.hd_queries.specs.LeastIds.{with_id}
 
--- one that is below none of so many stands behind them
+-- an ID that is below none of a list stands behind them
 whole : (xs : List ℕ) → take (length xs) xs ≡ xs
 whole [] = refl
 whole (x ∷ xs) = ap (λ (ys : List ℕ). x ∷ ys) (whole xs)

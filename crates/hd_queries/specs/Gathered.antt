@@ -21,7 +21,7 @@ abbrev pub AreAll : Option ℕ → (all kept : List ℕ) → Type 0
 AreAll None all kept = kept ≡ all
 AreAll (Some n) all kept = ⊥
 
--- the least of all IDs that were put in are kept, since so many are wanted
+-- the least of all IDs that were put in are kept: the first `n`
 abbrev pub AreLeast : Option ℕ → List ℕ → Least → Type 0
 AreLeast None all kept = ⊥
 AreLeast (Some n) all kept = kept ≡ record { most = n; ids = take n (in_order all) }

@@ -4,7 +4,7 @@ use Rattle.std.specs.Prelude.{ℕ, List}
 use Rattle.std.specs.Ordering.{nat_cmp}
 use Rattle.std.specs.BTreeSet.{insert_key}
 
--- at most so many IDs, ascending
+-- at most `most` IDs, ascending
 pub record Least : Type 0 where
   pub most : ℕ
   pub ids : List ℕ

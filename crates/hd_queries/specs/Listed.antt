@@ -43,7 +43,7 @@ pub record AreIdsBefore (dump : Dump) (test : ℕ → Bool) (k : ℕ) (ids : Lis
   pub passes : (id : ℕ) → Contains ids id → (o : ℕ) × (o < k) × (test o ≡ true) × ((object_at dump o).id ≡ id)
   pub all : (o : ℕ) → o < k → test o ≡ true → Contains ids (object_at dump o).id
 
--- of the IDs of those among the first `k` objects that pass a test, so many are kept
+-- of the IDs of those among the first `k` objects that pass a test, the first `most` are kept, or all
 abbrev pub AreGatheredBefore : Dump → (ℕ → Bool) → Option ℕ → ℕ → Gathered → Type 0
 AreGatheredBefore dump test most k kept = (all : List ℕ) × AreIdsBefore dump test k all × AreGathered most all kept
 

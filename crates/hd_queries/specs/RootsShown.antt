@@ -11,7 +11,7 @@ use Rattle.hd_terms.specs.EditedDump.{dump_root}
 use Rattle.hd_terms.specs.Log.{live_edit}
 use Rattle.hd_terms.specs.RootRows.{root_row}
 
--- the rows of so many first roots of the dump
+-- the rows of the first `r` roots of the dump
 abbrev pub dump_rows : Dump → List Event → ℕ → List RootRow
 dump_rows dump log r = map (root_row dump log) (map dump_root (enumerate_from 0 (take r dump.roots)))
 
@@ -28,6 +28,6 @@ row_by dump log k (Some (edits.ClearAll references)) = None
 abbrev pub added_row : Dump → List Event → ℕ × Event → Option RootRow
 added_row dump log (k, event) = row_by dump log k (live_edit log (k, event))
 
--- the rows of all roots of the dump, and of those that so many first events add
+-- the rows of all roots of the dump, and of those that the first `k` events add
 abbrev pub rows_before : Dump → List Event → ℕ → List RootRow
 rows_before dump log k = dump_rows dump log (length dump.roots) ++ filter_map (added_row dump log) (enumerate_from 0 (take k log))

@@ -32,7 +32,7 @@ impl Model for LeastIds {
 }
 
 impl LeastIds {
-    /// None of so many yet.
+    /// No ID yet. At most `most` will be kept.
     pub(crate) fn new(alloc: Global, most: usize) -> LeastIds
         ensures { result ≡ record { most = most; ids = [] } }
     {

@@ -1,5 +1,5 @@
 //! Lists of objects by their IDs.
-ghost use Rattle.std.specs.Prelude.{◌≡◌, ◌<◌, ◌≤◌, ℕ, Option as Maybe, length, IfOk, IsTrue, OnOk};
+ghost use Rattle.std.specs.Prelude.{◌≡◌, ◌<◌, ◌≤◌, ◌↔◌, ℕ, Option as Maybe, length, IfOk, IsTrue, OnOk};
 ghost use Rattle.hd_terms.specs.Listed.{AreFallen, AreMembers};
 ghost use Rattle.hd_terms.specs.Kept.{AreKept};
 ghost use Rattle.hd_queries.specs.Gathered.{AreFirst};
@@ -67,14 +67,14 @@ impl Listed<'_> {
         }
     }
 
-    /// Whether no object of a page can be one of them: the page is unchanged from what both logs begin with, or it has no object of
-    /// the group.
+    /// Whether no object of a page can be one of them: the page is unchanged from what both logs begin with, or the group is not
+    /// marked at it.
     fn is_quiet(self, page: u32) -> bool
-        ensures { IsTrue result → IsQuiet self.entry page }
+        ensures { IsTrue result ↔ IsQuiet self.entry page }
     {
         match self {
             Listed::Fallen(compared) => compared.is_quiet(page),
-            Listed::Members(_, members) => members.pages.lacks(page, members.group),
+            Listed::Members(_, members) => !members.pages.may_have(page, members.group),
         }
     }
 

@@ -36,7 +36,7 @@ fn with_fault(
     Ok(text)
 }
 
-/// The answer to a question over a dump, opened in a mode with so many workers, at least 1 and at most 16.
+/// The answer to a question over a dump, opened in a mode with `workers` workers, at least 1 and at most 16.
 pub fn answer<R: AllocGlobal + RandomSource + Threads + Wait + Sync>(
     rt: &R,
     dump: &[u8],
@@ -80,7 +80,7 @@ pub fn answer_of_all<R: AllocGlobal + RandomSource + Threads + Wait + Sync>(
     Ok(first)
 }
 
-/// An answer, and behind it the other one that so many workers gave.
+/// An answer, and behind it the other one that `workers` workers gave.
 fn both(alloc: Global, first: Vec<u8>, workers: u32, other: &[u8]) -> Result<Vec<u8>, AllocError> {
     let mut text = first;
     let head = format!(in alloc; "with {workers} workers:\n")?;
@@ -102,7 +102,7 @@ fn first_line(alloc: Global, text: &[u8]) -> Result<Vec<u8>, AllocError> {
 }
 
 /// How a dump opens in mode Direct: the first line of its `stat`, with the newline, or its fault. Where the answer isn't
-/// the same with so many workers as with one, the line of these stands behind it.
+/// the same with `workers` workers as with one, the line of these stands behind it.
 pub fn opening<R: AllocGlobal + RandomSource + Threads + Wait + Sync>(
     rt: &R,
     dump: &[u8],
@@ -121,7 +121,7 @@ pub fn opening<R: AllocGlobal + RandomSource + Threads + Wait + Sync>(
     both(rt.alloc(), line, workers, other.as_slice())
 }
 
-/// The last lines of a text, so many of them.
+/// The last `count` lines of a text.
 pub fn last_lines(text: &[u8], count: u32) -> &[u8] {
     let mut left = count;
     for start in (0..text.len()).rev() {

@@ -28,7 +28,7 @@ fn cut_len(dump: &[u8], cut: Cut) -> usize {
     }
 }
 
-/// A dump whose file or body is cut to so many bytes.
+/// A dump whose file or body is cut to `len` bytes.
 fn cut_to(alloc: Global, dump: &[u8], cut: Cut, len: usize) -> Result<Vec<u8>, AllocError> {
     match cut {
         Cut::File => Vec::from_slice(alloc, dump.get(..len).unwrap_or(dump)),
@@ -86,7 +86,7 @@ fn next_run(
     })
 }
 
-/// How a dump opens that is cut to each length below its own, with one worker and with so many: a line for each run of
+/// How a dump opens that is cut to each length below its own, with one worker and with `workers`: a line for each run of
 /// lengths.
 pub fn openings_of_cuts<R: AllocGlobal + RandomSource + Threads + Wait + Sync>(
     rt: &R,

@@ -18,7 +18,7 @@ fn ends_by(mark: &str) -> Option<bool> {
     }
 }
 
-/// What a line of a case puts in, as `> strength 0x2`, `+ quit` (no newline) or `4096 > cut 0x1 e0` (so many times);
+/// What a line of a case puts in, as `> strength 0x2`, `+ quit` (no newline) or `4096 > cut 0x1 e0` (4,096 times);
 /// nothing where it is another line.
 pub fn read_input(line: &str) -> Option<InputLine<'_>> {
     let (first, rest) = line.split_once(' ').unwrap_or((line, ""));

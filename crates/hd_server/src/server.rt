@@ -1,46 +1,43 @@
-//! The server: a desk of one board for each connection, and the log at the end.
-ghost use Rattle.std.specs.Prelude.{◌≡◌, ◌≤◌, ◌≢◌, OnOk, IfErr};
-ghost use Rattle.std.specs.Arc.{arc_value};
+//! The server: a connection for each desk of a board, and the log at the end.
+ghost use Rattle.std.specs.Prelude.{◌≡◌, ◌≢◌, map, OnOk, IfErr};
 ghost use Rattle.std.specs.Io.KnownBytes.{Appends, Keeps};
-ghost use Rattle.hd_board.specs.Opening.{opened_board};
+ghost use Rattle.hd_board.specs.Closing.{numbered};
 ghost use Rattle.hd_server.specs.Logs.{PrintsLog};
 
 use crate::connection::attend;
 use crate::fault::ServeOnFault;
 use hd_analyst::log_text;
-use hd_board::{Board, Desk, open};
-use hd_graph::Graph;
+use hd_board::{Board, Desk};
 use std::alloc::Global;
 use std::io::Write;
 use std::net::TcpListener;
-use std::sync::{Arc, Wait};
+use std::sync::Wait;
 use std::thread;
 use std::thread::{Scope, Threads};
 
-/// Serves `n` analysts, 1 to 16, over a dump's graph. The i-th connection that is accepted is that of analyst i. Each is
-/// served in a thread of its own from the moment on that it is accepted, and what ends it ends no other. Nothing more is
-/// accepted then. Replies show names from the beginning where `names` says so. When all have ended, the log is written on `output`: the lines of the reply to `events`, without the `ok N`.
+/// Serves an analyst for each desk of a board. The i-th connection that is accepted is that of the i-th desk. Each is served in a
+/// thread of its own from the moment on that it is accepted, and what ends it ends no other. Nothing more is accepted then.
+/// Replies show names from the beginning where `names` says so. When all have ended, the log is written on `output`: the lines of
+/// the reply to `events`, without the `ok N`.
 ///
 /// # Errors
 ///
-/// The system gives no connection; or memory runs out, or no thread can be started: then the connections that have a thread
-/// are served to their ends, and no log is written. Or the log can't be written; or the board can't be closed with its desks.
+/// The system gives no connection, or no thread can be started: then the connections that have a thread are served to their ends,
+/// and no log is written. Or the board can't be closed with its desks, or memory runs out for the log's text: no log is written. Or
+/// the log can't be written.
 pub fn serve_on<R: AllocGlobal + Threads + Wait + Sync, W: Write>(
     rt: &R,
     names: bool,
-    graph: Arc<Graph>,
     listener: TcpListener,
-    n: u8,
+    board: Board,
+    desks: &mut [Desk],
     output: &mut W,
 ) -> Result<(), ServeOnFault>
-    requires least { 1 ≤ n }
-    requires most { n ≤ 16 }
-    ensures ok { OnOk result (PrintsLog (opened_board (arc_value graph) n) (W.contents output.old) (W.contents output.new)) }
+    ensures ok { OnOk result (PrintsLog board (map numbered desks.new) (W.contents output.old) (W.contents output.new)) }
     ensures err { IfErr result (λ fault. fault ≢ ServeOnFault.Write → Keeps (W.contents output.old) (W.contents output.new)) }
 {
-    let (board, mut desks) = open(rt, rt.alloc(), graph, n)?;
-    attend_all(rt, names, listener, &board, desks.as_mut_slice())?;
-    close_and_print(rt.alloc(), board, desks.as_slice(), output)
+    attend_all(rt, names, listener, &board, desks)?;
+    close_and_print(rt.alloc(), board, desks, output)
 }
 
 /// Accepts a connection for each desk, and serves each in a thread of its own. Returns when all have ended.
@@ -122,7 +119,7 @@ fn close_and_print<W: Write>(
     desks: &[Desk],
     output: &mut W,
 ) -> Result<(), ServeOnFault>
-    ensures ok { OnOk result (PrintsLog board (W.contents output.old) (W.contents output.new)) }
+    ensures ok { OnOk result (PrintsLog board (map numbered desks.now) (W.contents output.old) (W.contents output.new)) }
     ensures err { IfErr result (λ fault. fault ≢ ServeOnFault.Write → Keeps (W.contents output.old) (W.contents output.new)) }
 {
     let Ok(log) = board.close(desks) else {

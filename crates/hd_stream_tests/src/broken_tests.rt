@@ -31,10 +31,10 @@ const REPLIES: [&str; 8] = [
     "ok 0\n",
 ];
 
-/// How many events the log has after so many lines.
+/// How many events the log has after no line, one line, and so on.
 const EVENTS: [u32; 9] = [0, 0, 1, 1, 1, 2, 2, 2, 2];
 
-/// The first bytes of some, so many.
+/// The first `count` of some bytes.
 fn first(bytes: &[u8], count: usize) -> &[u8] {
     if count < bytes.len() {
         &bytes[..count]
@@ -43,7 +43,7 @@ fn first(bytes: &[u8], count: usize) -> &[u8] {
     }
 }
 
-/// How many of some texts, one after another, end within so many bytes.
+/// How many of some texts, one after another, end within `bytes` bytes.
 fn whole_within(texts: &[&str], bytes: usize) -> usize {
     let mut count = 0usize;
     let mut len = 0usize;
@@ -56,7 +56,7 @@ fn whole_within(texts: &[&str], bytes: usize) -> usize {
     count
 }
 
-/// How many bytes the first of some texts have, so many.
+/// How many bytes the first `count` of some texts have.
 fn len_of_first(texts: &[&str], count: usize) -> usize {
     let mut len = 0usize;
     let mut left = count;
@@ -82,7 +82,7 @@ fn read_some<R: Abort + AllocGlobal + RandomSource + Threads + Wait + Sync>(
     (Served { written, ended }, desk.seen().len())
 }
 
-/// The same over a writer that fails after so many bytes.
+/// The same over a writer that fails after `room` bytes.
 fn write_some<R: Abort + AllocGlobal + RandomSource + Threads + Wait + Sync>(
     rt: &R,
     input: &[u8],

@@ -1,4 +1,5 @@
 //! A server over the two arrays, and clients that ask it.
+use hd_board::open;
 use hd_decode::NoGate;
 use hd_graph::open_dump;
 use hd_protocol::SAMPLE;
@@ -22,16 +23,26 @@ pub fn listen<R: Abort + Net<Listener = TcpListener, Stream = TcpStream>>(
     (listener, address)
 }
 
-/// Serves two analysts over the two arrays, and answers what is printed.
-pub fn serve_two<R: Abort + AllocGlobal + RandomSource + Threads + Wait + Sync>(
+/// Serves the analysts of the first `count` desks of a board of two over the two arrays, and answers what is printed.
+pub fn serve_first<R: Abort + AllocGlobal + RandomSource + Threads + Wait + Sync>(
     rt: &R,
     alloc: Global,
     listener: TcpListener,
+    count: usize,
 ) -> Result<Vec<u8>, ServeOnFault> {
     let opened = open_dump(rt, alloc, &SAMPLE, 1, Mode::Direct, &NoGate);
     let graph = opened.expect(rt, "the dump opens");
+    let (board, mut desks) = open(rt, alloc, graph, 2).expect(rt, "the board opens");
+    desks.truncate(count);
     let mut output = Vec::new(alloc);
-    match serve_on(rt, false, graph, listener, 2, &mut output) {
+    match serve_on(
+        rt,
+        false,
+        listener,
+        board,
+        desks.as_mut_slice(),
+        &mut output,
+    ) {
         Ok(()) => Ok(output),
         Err(fault) => Err(fault),
     }
@@ -47,7 +58,7 @@ pub fn connect<R: Abort + Net<Listener = TcpListener, Stream = TcpStream>>(
     BufReader::new(alloc, stream).expect(rt, "the reader is made")
 }
 
-/// Sends a text, and puts so many lines of the reply behind what was heard.
+/// Sends a text, and puts `lines` lines of the reply behind what was heard.
 pub fn ask<R: Abort>(
     rt: &R,
     client: &mut BufReader<TcpStream>,

@@ -1,5 +1,6 @@
 //! Two analysts' connections over one log, and one that breaks off.
-use crate::clients::{ask, connect, listen, serve_two};
+use crate::clients::{ask, connect, listen, serve_first};
+use hd_server::ServeOnFault;
 use std::alloc::Global;
 use std::net::{Net, SocketAddr, TcpListener, TcpStream};
 use std::process::Abort;
@@ -27,7 +28,7 @@ fn server_on_loopback(rt: HostRuntime) {
     let alloc = rt.alloc();
     let (served, heard) = thread::join(
         &rt,
-        || serve_two(&rt, alloc, listener),
+        || serve_first(&rt, alloc, listener, 2),
         || cut_and_look(&rt, alloc, address),
     );
     assert_eq!(rt;
@@ -59,7 +60,7 @@ fn client_breaks_off(rt: HostRuntime) {
     let alloc = rt.alloc();
     let (served, heard) = thread::join(
         &rt,
-        || serve_two(&rt, alloc, listener),
+        || serve_first(&rt, alloc, listener, 2),
         || break_off_and_look(&rt, alloc, address),
     );
     assert_eq!(rt;
@@ -68,4 +69,28 @@ fn client_breaks_off(rt: HostRuntime) {
     );
     let printed = served.ok();
     assert!(rt; printed.is_some_and(|text| text.as_slice() == b"0 0 cut 0x1 e0 live\n".as_slice()));
+}
+
+/// A board can't be closed without one of its desks. No connection is accepted, and nothing is printed.
+#[test]
+fn board_without_its_desks(rt: HostRuntime) {
+    let (listener, _address) = listen(&rt);
+    let ended = serve_first(&rt, rt.alloc(), listener, 0).err();
+    assert!(rt; ended == Some(ServeOnFault::Close));
+}
+
+#[test]
+fn texts_of_server_faults(rt: HostRuntime) {
+    let rows = [
+        (ServeOnFault::Accept, "cannot accept"),
+        (ServeOnFault::OutOfMemory, "OutOfMemory"),
+        (ServeOnFault::Write, "cannot write"),
+        (ServeOnFault::Close, "cannot close"),
+    ];
+    for (fault, text) in rows {
+        let said = fault
+            .to_string(rt.alloc())
+            .expect(&rt, "the fault has a text");
+        assert_eq!(rt; said.as_str(), text);
+    }
 }

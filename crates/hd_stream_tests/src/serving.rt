@@ -15,7 +15,7 @@ pub struct Served {
     pub ended: Result<(), ServeFault>,
 }
 
-/// A board of so many desks over the two arrays, 1 to 16.
+/// A board of `n` desks over the two arrays, 1 to 16.
 pub fn board_of<R: Abort + AllocGlobal + RandomSource + Threads + Sync>(
     rt: &R,
     n: u8,

@@ -92,7 +92,7 @@ fn stat_that_cannot_be_written(rt: HostRuntime) {
     assert_eq!(rt; output.taken.as_slice(), b"objects 2\nroot".as_slice());
 }
 
-/// A writer that hands on what it has taken when it is flushed, and can be flushed so many times.
+/// A writer that hands on what it has taken when it is flushed, and can be flushed `flushes` times.
 #[derive(Drop)]
 struct HoldingWriter {
     taken: Vec<u8>,

@@ -27,7 +27,7 @@ impl BufRead for FailingReader<'_> {
     }
 }
 
-/// A writer that takes so many bytes and then fails, or then takes none.
+/// A writer that takes `room` bytes and then fails, or then takes none.
 #[derive(Drop)]
 pub struct FailingWriter {
     pub taken: Vec<u8>,

@@ -40,7 +40,7 @@ cells = 32768
 abbrev pub is_handed : Part → ℕ → Bool
 is_handed p o = slice_index_or p.handed.items (o % cells) (o + 1) == o
 
--- a part of so many objects from the first on, of which nothing is found yet
+-- a part of `len` objects from the first on, of which nothing is found yet
 pub record IsNew (first len : ℕ) (whole : Bool) (p : Part) : Type 0 where
   pub same_first : p.first ≡ first
   pub found : p.found ≡ record { whole = whole; list = replicate len unreached }
@@ -118,7 +118,7 @@ pub record IsFit (dump : Dump) (s : Strength) (p : Part) : Type 0 where
   pub room : p.count + unreached_of p ≤ length dump.objects
   pub offered : (t : Strength) (x : Offer) → Contains (bucket p.buckets t) x → IsOwn p x.source
 
--- a part among others, of which so many objects are unreached: it finds what is kept of its own, or the strengths alone; it
+-- a part among others, of which `unreached` objects are unreached: it finds what is kept of its own, or the strengths alone; it
 -- gave no lesser stamps; what it handed over is reached or offered the strength that is being spread
 pub record IsPartOf (dump : Dump) (at : ℕ → ℕ → Option Edge) (ks : List Reached) (whole : Bool) (s : Strength) (unreached : ℕ) (offers : Strength → Offer → Type 0) (p : Part) : Type 0 where
   pub fit : IsFit dump s p

@@ -64,7 +64,7 @@ impl Found {
         }
     }
 
-    /// What is found of so many objects that nothing reaches yet. The flag says whether all will be kept, or strengths alone.
+    /// What is found of `objects` objects that nothing reaches yet. The flag says whether all will be kept, or strengths alone.
     pub(crate) fn none(alloc: Global, objects: u32, whole: bool) -> Result<Found, NoMemory>
         ensures { IfOk result (λ f. f ≡ record { whole = whole; list = replicate objects unreached }) }
     {

@@ -10,7 +10,7 @@ use hd_terms::NoMemory;
 use std::alloc::Global;
 
 /// How many objects of other parts a part remembers at most. Classes, to which most references to other parts lead, mostly stand
-/// one behind the other, so up to so many of them are remembered side by side.
+/// one behind the other, so up to this many of them are remembered side by side.
 const CELLS: usize = 32_768;
 
 /// A part of the objects, and how far a search among them has come. One thread at a time works on it.
@@ -71,7 +71,7 @@ impl Part {
         }
     }
 
-    /// Gives a new part so many objects, and notes whether memory ran out. Nothing reaches any of them.
+    /// Gives a new part `len` objects, and notes whether memory ran out. Nothing reaches any of them.
     /// The flag says whether all will be kept of them, or their strengths alone.
     pub(crate) fn fill(&mut self, len: u32, whole: bool)
         requires { IsNew self.old.first 0 whole self.old }
@@ -112,7 +112,7 @@ impl Part {
         }
     }
 
-    /// Makes room for objects that are handed over, where there are other parts, since there are so many objects, and no room yet.
+    /// Makes room for objects that are handed over, where there are other parts, since the dump has more objects, and no room yet.
     pub(crate) fn make_cells(&mut self, objects: u32) -> Result<(), NoMemory>
         ensures { OnOk result (IsSameBut self.old self.new × (self.new.queue ≡ self.old.queue)) }
     {
@@ -126,7 +126,7 @@ impl Part {
         Ok(())
     }
 
-    /// Remembers that an object of another part is handed over to that, in place of another one. Where there is no room nothing is
+    /// Remembers that an object of another part is handed over to that, instead of another one. Where there is no room nothing is
     /// remembered.
     #[inline(always)]
     pub(crate) fn note_handed(&mut self, o: u32)

@@ -76,7 +76,7 @@ impl Queue {
     }
 
     /// How many objects are taken in a round: those that wait now where the one that came first is taken next, and else at most
-    /// so many. It is at least one, though none may wait.
+    /// `most`. It is at least one, though none may wait.
     pub(crate) fn round_len(&self, most: usize) -> usize
         requires { 0 < most }
         ensures { 0 < result }

@@ -168,7 +168,7 @@ fn relax_next(edited: Edited<'_>, part: &mut Part, strength: Strength) -> Result
     Ok(true)
 }
 
-/// Passes on the strength of at most so many objects that are queued. The answer is how many there were.
+/// Passes on the strength of at most `most` objects that are queued. The answer is how many there were.
 fn relax_objects(
     edited: Edited<'_>,
     part: &mut Part,
@@ -189,7 +189,7 @@ fn relax_objects(
 }
 
 /// A part's round: objects that are queued pass their strength on. Where all is kept of the objects, these are the ones that are
-/// queued now, so that supports make short chains. Where strengths alone are kept, they are at most so many, and can be ones that
+/// queued now, so that supports make short chains. Where strengths alone are kept, they are at most `most`, and can be ones that
 /// others reach in the round. The part notes how many there were, and whether memory ran out.
 pub(crate) fn relax_round(edited: Edited<'_>, part: &mut Part, strength: Strength, most: usize)
     requires removed { IsRemovedBy edited.graph.now edited.front.now edited.removed.now }

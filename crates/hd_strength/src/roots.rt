@@ -18,7 +18,7 @@ use std::thread::Threads;
 /// longer to begin than they save.
 const LEAST: u32 = 65_536;
 
-/// How many of so many objects each part has, but for the last one. The flag says whether all will be kept of them. Then parts
+/// How many of `objects` objects each part has, but for the last one. The flag says whether all will be kept of them. Then parts
 /// end where a group of pages ends, so that pages are put one behind the other with no copy.
 fn part_len(objects: u32, whole: bool) -> u32
     ensures { 0 < result }
@@ -31,7 +31,7 @@ fn part_len(objects: u32, whole: bool) -> u32
     }
 }
 
-/// Parts for so many objects, one behind the other, that have no room for these yet. Each will have `len` of them, and the last
+/// Parts for `objects` objects, one behind the other, that have no room for these yet. Each will have `len` of them, and the last
 /// one those that are left. The flag says whether all will be kept of the objects, or their strengths alone.
 fn blank_parts(alloc: Global, objects: u32, len: u32, whole: bool) -> Result<Vec<Part>, NoMemory>
     requires { 0 < len }
@@ -147,8 +147,8 @@ fn queue_reached(part: &mut Part) -> Result<(), NoMemory>
     Ok(())
 }
 
-/// Makes the room that a part needs where there are other parts, and queues its objects that are reached. The dump has so many
-/// objects.
+/// Makes the room that a part needs where there are other parts, and queues its objects that are reached. The dump has
+/// `objects` objects.
 fn prepare(part: &mut Part, objects: u32) -> Result<(), NoMemory>
     requires { IsReady part.old }
     ensures { OnOk result (HasQueued part.old part.new) }
@@ -169,7 +169,7 @@ fn begin_part(part: &mut Part, objects: u32)
     }
 }
 
-/// Begins each part, in a thread for each. The dump has so many objects.
+/// Begins each part, in a thread for each. The dump has `objects` objects.
 fn begin_parts<R: Threads + Sync>(rt: &R, parts: &mut [Part], objects: u32)
     requires ready { AreReady parts.old }
     ensures count { length parts.new ≡ length parts.old }

@@ -204,7 +204,7 @@ pub(crate) fn has_failed(parts: &[Part]) -> bool
     false
 }
 
-/// Runs a round of each part, in at most so many threads.
+/// Runs a round of each part, in at most `threads` threads.
 fn relax_parts<R: Threads + Sync>(
     rt: &R,
     edited: Edited<'_>,

@@ -47,8 +47,8 @@ fn join_kept(alloc: Global, parts: Vec<Part>) -> Result<Vec<PackedReached>, NoMe
     Ok(kept)
 }
 
-/// The strengths that all parts found, in the order of their objects' numbers. There is room for those of so many objects at once,
-/// so that nothing is copied twice.
+/// The strengths that all parts found, in the order of their objects' numbers. There is room for `objects` of them at
+/// once, so that nothing is copied twice.
 fn join_strengths(alloc: Global, parts: Vec<Part>, objects: u32) -> Result<Vec<Strength>, NoMemory>
     ensures { IfOk result (λ strengths. strengths.items ≡ map strength_of (found_in parts.items)) }
 {

@@ -6,6 +6,7 @@ use Rattle.std.proofs.Math.ListN.{set}
 use Rattle.std.proofs.lemmas.Bool.{cases_eq, cases_lt}
 use Rattle.std.proofs.lemmas.List.{length-set, get_or_past, get_or-set_same, get_or-set_other}
 use Rattle.std.proofs.lemmas.Nat.{or_comm, or_shr, or_mod, mod_below, shl-shr}
+use Rattle.hd_totals.specs.GroupPages.{word_at, HasBucket, IsUnited}
 
 -- a bit of either of two words is a bit of both together
 or-one : (y : ℕ) → y < 2 → bit_or 1 y ≡ 1
@@ -30,6 +31,14 @@ own-bit k =
 
 pub sets-bit : (a k : ℕ) → bit_at (bit_or a (2 ^ k)) k ≡ 1
 sets-bit a k = takes-bit a (2 ^ k) k (own-bit k)
+
+-- a bucket that is marked in either of two lists of words is marked in both together
+module _ (one other both : List ℕ) (united : IsUnited one other both) (page b : ℕ) where
+  pub united-keeps : HasBucket one page b → HasBucket both page b
+  united-keeps has = ap (λ (n : ℕ). bit_at n (b % 64)) (united (page * 64 + b / 64)) ∙ keeps-bit (word_at one page b) (word_at other page b) (b % 64) has
+
+  pub united-takes : HasBucket other page b → HasBucket both page b
+  united-takes has = ap (λ (n : ℕ). bit_at n (b % 64)) (united (page * 64 + b / 64)) ∙ takes-bit (word_at one page b) (word_at other page b) (b % 64) has
 
 -- one word takes more bits
 module _ (words : List ℕ) (i m : ℕ) (within : i < length words) where

@@ -195,6 +195,14 @@ is-placed keys rows whole key keys' rows' i keys_are is new old =
     let wide : length rows' ≡ length keys' = p.0.whole in
     record { put = p.0; place_is = is ∙ sym at; within = omega arith }
 
+-- the place of a key that stands there
+pub is-placed-at : (keys : List ℕ) (rows : List StrengthTotals) → length rows ≡ length keys → IsDistinct nat_eq keys → (key i : ℕ) → i < length keys → get_or keys i 0 ≡ key
+    → IsPlaced (record { keys = keys; rows = rows }) (record { keys = keys; rows = rows }) key i
+is-placed-at keys rows whole distinct key i lt is =
+    let within : i < length rows = omega (arith, lt, whole) in
+    let at : place key keys ≡ i = ap (λ (k : ℕ). place k keys) (sym is) ∙ place-of-key (record { keys = keys; rows = rows }) i distinct whole within in
+    record { put = place-kept keys rows whole key (omega (arith, at, lt)); place_is = sym at; within = within }
+
 -- the totals of a key are put in a place that was added
 pub put-after : (t t' : Totals) (key : ℕ) (row row' : StrengthTotals) → IsRowPut t t' key row → IsRowPut t (record { keys = t'.keys; rows = set t'.rows (place_of t' key) row' }) key row'
 put-after t t' key row row' p =

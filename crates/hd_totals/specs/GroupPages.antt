@@ -1,6 +1,6 @@
 -- Of each page of objects, the groups of its objects by buckets, and an ID that none of its objects is below.
 -- Source: this project.
-use Rattle.std.specs.Prelude.{◌≡◌, ℕ, ◌+◌, ◌*◌, ◌/◌, ◌%◌, ◌<◌, ◌≤◌, ◌^◌, List, length, min, slice_index_or}
+use Rattle.std.specs.Prelude.{◌≡◌, ℕ, ◌+◌, ◌-◌, ◌*◌, ◌/◌, ◌%◌, ◌<◌, ◌≤◌, ◌^◌, List, length, min, replicate, slice_index_or}
 use Rattle.std.specs.Int.{bit_at}
 use Rattle.std.specs.Int.RustNames.{bit_or}
 use Rattle.hd_terms.specs.declared.Group.{Group}
@@ -8,27 +8,42 @@ use Rattle.hd_terms.specs.declared.Group.TheVariants as groups
 use Rattle.hd_terms.specs.Dump.{Dump, object_at}
 use Rattle.hd_totals.specs.LastChanges.{page_of}
 
--- words of 64 bits, eight a page, and IDs, one a page
+-- words of 64 bits, 64 a page, and IDs, one a page
 pub record PageMarks : Type 0 where
   pub marks : List ℕ
   pub least : List ℕ
 
 abbrev pub AreWhole : PageMarks → Type 0
-AreWhole p = length p.marks ≡ length p.least * 8
+AreWhole p = length p.marks ≡ length p.least * 64
 
--- the bucket of a group, one of 512
-abbrev pub bucket_of : Group → ℕ
-bucket_of (groups.Class id) = id * 11400714819323198485 % 2 ^ 64 / 2 ^ 55
-bucket_of (groups.Prim element) = element
-bucket_of groups.Classes = 0
+-- the marks of `pages` pages, of which no object is noted
+abbrev pub no_marks : ℕ → PageMarks
+no_marks pages = record { marks = replicate (pages * 64) 0; least = replicate pages (2 ^ 64 - 1) }
+
+-- the number of a group, spread over 64 bits
+abbrev pub spread : Group → ℕ
+spread (groups.Class id) = id * 11400714819323198485 % 2 ^ 64
+spread (groups.Prim element) = element * 11400714819323198485 % 2 ^ 64
+spread groups.Classes = 0
+
+-- the two buckets of a group, each one of 4,096
+abbrev pub first_bucket : Group → ℕ
+first_bucket group = spread group / 2 ^ 52
+
+abbrev pub second_bucket : Group → ℕ
+second_bucket group = spread group / 2 ^ 40 % 4096
 
 -- the word of a page that has the bit of a bucket
 abbrev pub word_at : List ℕ → (page bucket : ℕ) → ℕ
-word_at marks page bucket = slice_index_or marks (page * 8 + bucket / 64) 0
+word_at marks page bucket = slice_index_or marks (page * 64 + bucket / 64) 0
 
--- the bucket of a group is marked at a page
+-- a bucket is marked at a page
+abbrev pub HasBucket : List ℕ → (page bucket : ℕ) → Type 0
+HasBucket marks page bucket = bit_at (word_at marks page bucket) (bucket % 64) ≡ 1
+
+-- both buckets of a group are marked at a page
 abbrev pub IsMarked : PageMarks → ℕ → Group → Type 0
-IsMarked p page group = bit_at (word_at p.marks page (bucket_of group)) (bucket_of group % 64) ≡ 1
+IsMarked p page group = HasBucket p.marks page (first_bucket group) × HasBucket p.marks page (second_bucket group)
 
 -- the ID that no object of a page is below
 abbrev pub least_at : PageMarks → ℕ → ℕ

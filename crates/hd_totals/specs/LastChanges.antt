@@ -12,7 +12,7 @@ use Rattle.hd_terms.specs.Strengths.{HasStrength}
 abbrev pub page_of : ℕ → ℕ
 page_of o = o / 1024
 
--- no object of a page has changed its strength since a log had so many events
+-- no object of a page has changed its strength since a log had `n` events
 abbrev pub IsUnchanged : List ℕ → (page n : ℕ) → Type 0
 IsUnchanged last page n = (page < length last) × (slice_index_or last page 0 ≤ n)
 
@@ -20,7 +20,7 @@ IsUnchanged last page n = (page < length last) × (slice_index_or last page 0 �
 abbrev pub HasChangeOn : ℕ → List StrengthChange → Type 0
 HasChangeOn page changes = (d : StrengthChange) × Contains changes d × (page_of d.object ≡ page)
 
--- after changes by the last of so many events: their pages last changed then, and the others as before
+-- after changes by the last of `n` events: their pages last changed then, and the others as before
 pub record AreChangedBy (before : List ℕ) (changes : List StrengthChange) (n : ℕ) (after : List ℕ) : Type 0 where
   pub count : length after ≡ length before
   pub changed : (page : ℕ) → page < length before → HasChangeOn page changes → slice_index_or after page 0 ≡ n

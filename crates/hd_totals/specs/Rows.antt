@@ -27,7 +27,7 @@ pub record IsRowOf (t : Totals) (s : Strength) (row : ClassRow) : Type 0 where
   pub bytes_is : row.bytes ≡ (total_in t row.group s).bytes
   pub some : 1 ≤ row.count
 
--- the rows of those among so many first groups that have objects of a strength, each once
+-- the rows of those among the first `k` groups that have objects of a strength, each once
 pub record AreRowsBefore (t : Totals) (s : Strength) (k : ℕ) (rows : List ClassRow) : Type 0 where
   pub distinct : IsDistinct nat_eq (map row_key rows)
   pub each : All (IsRowOf t s) rows

@@ -17,7 +17,7 @@ use Rattle.hd_totals.specs.declared.total.StrengthTotals.{StrengthTotals}
 abbrev pub counts_for : Dump → (ℕ → Strength) → Group → Strength → ℕ → Bool
 counts_for dump strength group s o = (rank (strength o) == rank s) && same_group (object_at dump o).group group
 
--- the totals of so many first objects, where objects have these strengths
+-- the totals of the first `k` objects, where objects have these strengths
 pub record AreTotalsOf (dump : Dump) (strength : ℕ → Strength) (k : ℕ) (t : Totals) : Type 0 where
   pub counts : (group : Group) (s : Strength) → InRange group → (total_in t group s).count ≡ count_by (counts_for dump strength group s) (range_with_len 0 k)
   pub bytes : (group : Group) (s : Strength) → InRange group → (total_in t group s).bytes ≡ sum_by (bytes_if dump (counts_for dump strength group s)) (range_with_len 0 k)
@@ -45,10 +45,10 @@ pub record IsPlaced (old new : Totals) (key place : ℕ) : Type 0 where
   pub place_is : place ≡ place_of new key
   pub within : place < length new.rows
 
--- the totals with one more object of a strength and of so many bytes
+-- the totals with one more object of a strength, of `bytes` bytes
 abbrev pub plus_one : StrengthTotals → Strength → ℕ → StrengthTotals
 plus_one row s bytes = with_total row s (plus_object (total_for row s) bytes)
 
--- the totals with one object of a strength and of so many bytes fewer
+-- the totals with one object of a strength, of `bytes` bytes, fewer
 abbrev pub less_one : StrengthTotals → Strength → ℕ → StrengthTotals
 less_one row s bytes = with_total row s (less_object (total_for row s) bytes)

@@ -40,11 +40,11 @@ with_total totals strengths.Final total = record totals { finalizable = total }
 with_total totals strengths.Phantom total = record totals { phantom = total }
 with_total totals strengths.Unreachable total = record totals { unreachable = total }
 
--- one more object of so many bytes
+-- one more object of `bytes` bytes
 abbrev pub plus_object : Total → ℕ → Total
 plus_object total bytes = record { count = total.count + 1; bytes = total.bytes + bytes }
 
--- one object of so many bytes fewer
+-- one object of `bytes` bytes fewer
 abbrev pub less_object : Total → ℕ → Total
 less_object total bytes = record { count = total.count - 1; bytes = total.bytes - bytes }
 

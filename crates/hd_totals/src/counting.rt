@@ -10,7 +10,7 @@ ghost use Rattle.hd_totals.specs.Counting.{totals_of, AreGroupsCounted, AreJoine
 ghost use Rattle.hd_totals.specs.Running.{plus_one, IsPlaced, IsRowPut};
 ghost use Rattle.hd_totals.specs.Totals.{row_at, sums_of, total_for, total_in};
 
-use crate::group_pages::GroupPages;
+use crate::group_pages::{GroupPages, buckets_of};
 use crate::keys::{GroupKeys, key_of};
 use crate::total::StrengthTotals;
 use hd_graph::Graph;
@@ -22,11 +22,16 @@ use std::thread::{Threads, join};
 /// In how many shares the objects are counted.
 const SHARES: u32 = 4;
 
+/// How many places of totals a share remembers: one for each number of this many that buckets of groups leave when divided by it.
+const PLACES: usize = 256;
+
 /// The totals of some of the objects: the keys of their groups, and the totals of each, in the same order.
 #[derive(Drop)]
 pub struct Counted {
     pub(crate) keys: GroupKeys,
     pub(crate) rows: Vec<StrengthTotals>,
+    /// Where the totals of the object's group are that was counted last. Objects often come group by group.
+    pub(crate) last: usize,
 }
 
 /// The totals of some of the objects, and which pages have objects of a group among these.
@@ -53,14 +58,34 @@ fn place_for(
     Ok(index)
 }
 
-/// Counts an object in the totals of its group's key, which may be new.
-fn count_object(
+/// The same as `place_for`. Nothing is looked up where the place is `guess`.
+#[inline(always)]
+fn place_by_guess(
     keys: &mut GroupKeys,
     rows: &mut Vec<StrengthTotals>,
     key: u128,
+    guess: usize,
+) -> Result<usize, NoMemory>
+    requires whole { length rows.old.items ≡ length keys.old }
+    requires small { key ≤ 18446744073709551872 }
+    ensures { IfOk result (λ i. IsPlaced (record { keys = keys.old; rows = rows.old.items }) (record { keys = keys.new; rows = rows.new.items }) key i) }
+{
+    if guess < keys.len() && keys.get(guess) == key {
+        return Ok(guess);
+    }
+    place_for(keys, rows, key)
+}
+
+/// Counts an object in the totals of its group's key, which may be new, and gives their place. It is looked for at `guess` first.
+#[inline(always)]
+fn count_object(
+    keys: &mut GroupKeys,
+    rows: &mut Vec<StrengthTotals>,
+    guess: usize,
+    key: u128,
     strength: Strength,
     bytes: u64,
-) -> Result<(), NoMemory>
+) -> Result<usize, NoMemory>
     requires whole { length rows.old.items ≡ length keys.old }
     requires small { key ≤ 18446744073709551872 }
     requires count { (total_for (row_at (record { keys = keys.old; rows = rows.old.items }) key) strength).count + 1 < 2 ^ 64 }
@@ -70,9 +95,9 @@ fn count_object(
         (plus_one (row_at (record { keys = keys.old; rows = rows.old.items }) key) strength bytes)
         ) }
 {
-    let place = place_for(keys, rows, key)?;
+    let place = place_by_guess(keys, rows, key, guess)?;
     rows[place].add(strength, bytes);
-    Ok(())
+    Ok(place)
 }
 
 /// The totals of the objects from one number on, before another, and their pages.
@@ -91,15 +116,21 @@ fn count_part(
     let mut keys = GroupKeys::new(alloc);
     let mut rows = Vec::new(alloc);
     let mut pages = GroupPages::none(alloc, graph.objects())?;
+    let mut places = vec![in alloc; 0; PLACES]?;
     for o in start..end {
         let group = graph.group_of(o);
         let key = key_of(group);
         let strength = supports.strength(o);
         let bytes = graph.bytes_of(o);
-        count_object(&mut keys, &mut rows, key, strength, bytes)?;
+        let near = buckets_of(group).0 % PLACES;
+        places[near] = count_object(&mut keys, &mut rows, places[near], key, strength, bytes)?;
         pages.note(o, group, graph.id_of(o));
     }
-    let counted = Counted { keys, rows };
+    let counted = Counted {
+        keys,
+        rows,
+        last: 0,
+    };
     Ok(Share { counted, pages })
 }
 
@@ -131,12 +162,16 @@ fn join_parts(one: Counted, other: Counted) -> Result<Counted, NoMemory>
     requires bytes { (group : OneGroup) (s : OneStrength) → InRange group → (total_in (totals_of one) group s).bytes + (total_in (totals_of other) group s).bytes < 2 ^ 64 }
     ensures { IfOk result (λ both. AreJoined (totals_of one) (totals_of other) (totals_of both)) }
 {
-    let Counted { mut keys, mut rows } = one;
+    let Counted {
+        mut keys,
+        mut rows,
+        last,
+    } = one;
     for i in 0..other.rows.len() {
         let key = other.keys.get(i);
         add_totals(&mut keys, &mut rows, key, other.rows[i])?;
     }
-    Ok(Counted { keys, rows })
+    Ok(Counted { keys, rows, last })
 }
 
 /// Two shares together.
@@ -163,7 +198,11 @@ impl Counted {
     {
         let keys = GroupKeys::new(alloc);
         let rows = Vec::new(alloc);
-        Counted { keys, rows }
+        Counted {
+            keys,
+            rows,
+            last: 0,
+        }
     }
 
     /// Counts one more object of a group and a strength, which has `bytes` bytes.
@@ -182,7 +221,15 @@ impl Counted {
         ensures range { InRange group }
     {
         let key = key_of(group);
-        count_object(&mut self.keys, &mut self.rows, key, strength, bytes)
+        self.last = count_object(
+            &mut self.keys,
+            &mut self.rows,
+            self.last,
+            key,
+            strength,
+            bytes,
+        )?;
+        Ok(())
     }
 }
 

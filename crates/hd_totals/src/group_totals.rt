@@ -94,7 +94,11 @@ impl GroupTotals {
         requires few { length (totals_of counted).keys < 2 ^ 32 }
         ensures { IfOk result (λ t. t ≡ totals_of counted) }
     {
-        let Counted { keys, rows } = counted;
+        let Counted {
+            keys,
+            rows,
+            last: _,
+        } = counted;
         let rows = Pages::of_vec(alloc, rows)?;
         let keys = Arc::new(alloc, keys)?;
         Ok(GroupTotals {
@@ -156,7 +160,7 @@ impl GroupTotals {
         }
     }
 
-    /// Moves an object of a group, and of so many bytes, from the total of one strength to that of another.
+    /// Moves an object of a group, which has `bytes` bytes, from the total of one strength to that of another.
     fn move_object(
         &mut self,
         group: Group,

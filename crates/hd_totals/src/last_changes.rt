@@ -27,7 +27,7 @@ impl Model for LastChanges {
 }
 
 impl LastChanges {
-    /// None of so many objects has changed.
+    /// None of `objects` objects has changed.
     ///
     /// # Errors
     ///
@@ -52,7 +52,7 @@ impl LastChanges {
         Ok(LastChanges { events })
     }
 
-    /// Whether the strengths of a page's objects are what they were when the log had so many events. Nothing is known of a
+    /// Whether the strengths of a page's objects are what they were when the log had `events` events. Nothing is known of a
     /// page past the last.
     pub fn is_unchanged(&self, page: u32, events: u32) -> bool
         ensures { IsTrue result ↔ IsUnchanged self.now page events }
@@ -60,7 +60,7 @@ impl LastChanges {
         page < self.events.len() && self.events.get(page) <= events
     }
 
-    /// Says that a page has changed by the last of so many events. Nothing is kept of a page past the last.
+    /// Says that a page has changed by the last of `events` events. Nothing is kept of a page past the last.
     fn touch(&mut self, page: u32, events: u32) -> Result<(), NoMemory>
         ensures { OnOk result (self.new ≡ slice_set self.old page events) }
     {
@@ -70,7 +70,7 @@ impl LastChanges {
         Ok(())
     }
 
-    /// Says of the pages of changed objects that they have changed by the last of so many events.
+    /// Says of the pages of changed objects that they have changed by the last of `events` events.
     ///
     /// # Errors
     ///

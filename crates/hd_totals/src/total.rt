@@ -32,7 +32,7 @@ impl Total {
         Total { count: 0, bytes: 0 }
     }
 
-    /// The total with one more object of so many bytes.
+    /// The total with one more object, of `bytes` bytes.
     pub fn plus(self, bytes: u64) -> Total
         requires count { self.count + 1 < 2 ^ 64 }
         requires bytes { self.bytes + bytes < 2 ^ 64 }
@@ -44,7 +44,7 @@ impl Total {
         }
     }
 
-    /// The total with one object fewer, which has so many bytes.
+    /// The total with one object fewer, which has `bytes` bytes.
     pub fn less(self, bytes: u64) -> Total
         requires count { 1 ≤ self.count }
         requires bytes { bytes ≤ self.bytes }
@@ -128,7 +128,7 @@ impl StrengthTotals {
         }
     }
 
-    /// Adds an object of a strength and of so many bytes.
+    /// Adds an object of a strength, of `bytes` bytes.
     #[inline(always)]
     pub fn add(&mut self, strength: Strength, bytes: u64)
         requires count { (total_for self.old strength).count + 1 < 2 ^ 64 }
@@ -139,7 +139,7 @@ impl StrengthTotals {
         self.put(strength, total);
     }
 
-    /// Takes away an object of a strength and of so many bytes.
+    /// Takes away an object of a strength, of `bytes` bytes.
     pub fn take(&mut self, strength: Strength, bytes: u64)
         requires count { 1 ≤ (total_for self.old strength).count }
         requires bytes { bytes ≤ (total_for self.old strength).bytes }

@@ -9,7 +9,7 @@ use Rattle.hd_reverse.specs.declared.numbers.NumberOn.{NumberOn}
 use Rattle.hd_reverse.specs.Numbers.{numbers_on}
 use Rattle.hd_reverse.specs.Reverse.{Reverse, roots_in}
 
--- the numbers of the roots on an object: those of the dump, and then those that events add to a dump of so many roots
+-- the numbers of the roots on an object: those of the dump, and then those that events add to a dump of `roots` roots
 abbrev pub numbers_of_roots : (roots : ℕ) → Reverse → List NumberOn → ℕ → List ℕ
 numbers_of_roots roots reverse added o = roots_in reverse o ++ map (λ (k : ℕ). roots + k) (numbers_on added o)
 

@@ -1,11 +1,11 @@
 //! How events are written as lines.
 ghost use Rattle.hd_words.specs.EventLines.{event_line};
 
+use crate::decimal::put_decimal;
 use crate::event_words::put_what;
 use crate::lines::LineFormat;
 use hd_terms::Event;
 use std::alloc::AllocError;
-use std::fmt::Write;
 
 /// An event with its number, and whether it is live.
 #[derive(Clone, Copy)]
@@ -26,9 +26,10 @@ impl LineFormat for EventLines {
     ghost line = { λ _ row. event_line row };
 
     fn put(&self, text: &mut String, row: &EventRow) -> Result<(), AllocError> {
-        let number = row.number;
-        let who = row.event.who;
-        write!(text, "{number} {who} ")?;
+        put_decimal(text, u64::from(row.number))?;
+        text.push_str(" ")?;
+        put_decimal(text, u64::from(row.event.who))?;
+        text.push_str(" ")?;
         put_what(text, row.event.what, row.live)
     }
 }

@@ -2,6 +2,7 @@
 ghost use Rattle.std.specs.Prelude.{◌≡◌, ◌++◌, string_bytes, OnOk};
 ghost use Rattle.hd_lines.specs.Replies.{edit_text, live_name, what_text};
 
+use crate::decimal::put_decimal;
 use crate::kind_words::kind_text;
 use crate::slot_words::put_slot;
 use hd_terms::{Edit, What};
@@ -18,7 +19,10 @@ pub fn put_what(text: &mut String, what: What, live: bool) -> Result<(), AllocEr
             let name = live_text(live);
             write!(text, " {name}")?;
         }
-        What::Undo(k) => write!(text, "undo {k}")?,
+        What::Undo(k) => {
+            text.push_str("undo ")?;
+            put_decimal(text, u64::from(k))?;
+        }
     }
     Ok(())
 }
@@ -33,7 +37,10 @@ fn put_edit(text: &mut String, edit: Edit) -> Result<(), AllocError>
             put_slot(text, slot)?;
         }
         Edit::Clear(id) => write!(text, "clear 0x{id:x}")?,
-        Edit::Drop(root) => write!(text, "drop {root}")?,
+        Edit::Drop(root) => {
+            text.push_str("drop ")?;
+            put_decimal(text, root)?;
+        }
         Edit::Add(id) => write!(text, "add 0x{id:x}")?,
         Edit::ClearAll(kind) => {
             let name = kind_text(kind.edge_kind());

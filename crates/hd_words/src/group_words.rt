@@ -4,6 +4,7 @@ ghost use Rattle.hd_lines.specs.Lines.{array_group_of_word, group_of_word};
 ghost use Rattle.hd_lines.specs.Names.{array_name, group_text};
 
 use crate::arguments::read_id;
+use crate::decimal::put_decimal;
 use hd_terms::Group;
 use std::alloc::AllocError;
 use std::fmt::Write;
@@ -14,8 +15,11 @@ pub fn put_group(text: &mut String, group: Group) -> Result<(), AllocError>
 {
     match group {
         Group::Class(id) => write!(text, "0x{id:x}")?,
-        Group::Prim(element) => write!(text, "t{element}")?,
-        Group::Classes => write!(text, "c")?,
+        Group::Prim(element) => {
+            text.push_str("t")?;
+            put_decimal(text, u64::from(element))?;
+        }
+        Group::Classes => text.push_str("c")?,
     }
     Ok(())
 }

@@ -1,7 +1,8 @@
 //! The words of lines: which command a line spells, and how replies are spelled.
 //!
 //! `read_command` (`command.rt`) gives the command of a line, or its first fault. `words.rt` splits the line,
-//! `arguments.rt` reads single words, and `numbers.rt` reads digits.
+//! `arguments.rt` reads single words, and `numbers.rt` reads digits. `decimal.rt` writes the numbers of all lines, and
+//! of `stat`.
 //!
 //! How things are spelled stands in one file for each, mostly both ways: `slot_words.rt`, `kind_words.rt`,
 //! `strength_words.rt`, `group_words.rt`, `root_words.rt` and `event_words.rt`. `row_words.rt` spells rows of slots,
@@ -17,6 +18,7 @@
 
 mod arguments;
 mod command;
+mod decimal;
 mod event_lines;
 mod event_words;
 mod group_words;
@@ -33,6 +35,7 @@ mod strength_words;
 mod words;
 
 pub use command::read_command;
+pub use decimal::put_decimal;
 pub use event_lines::{EventLines, EventRow};
 pub use group_words::{array_text, put_group};
 pub use hints::hint_to;

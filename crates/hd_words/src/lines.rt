@@ -1,11 +1,11 @@
 //! Replies of many lines: `ok N`, and a line for each of N rows.
-ghost use Rattle.std.specs.Prelude.{◌≡◌, ◌∷◌, ◌++◌, ℕ, List, All, map, string_bytes, IfOk, OnOk};
+ghost use Rattle.std.specs.Prelude.{◌≡◌, ◌∷◌, ◌++◌, ℕ, List, All, codes, decimal, map, string_bytes, IfOk, OnOk};
 ghost use Rattle.std.specs.List.{flat_map};
 ghost use Rattle.hd_lines.specs.Replies.{answered, first_lines, with_newline};
 ghost use Rattle.hd_words.specs.FirstLines.{first_count};
 
+use crate::decimal::put_decimal;
 use std::alloc::{AllocError, Global};
-use std::fmt::Write;
 
 /// How rows are written as lines.
 pub trait LineFormat {
@@ -60,6 +60,16 @@ fn count_of(len: usize, most: Option<u32>) -> usize
     }
 }
 
+/// Puts `ok N` and its newline behind a text.
+fn put_count(text: &mut String, count: usize) -> Result<(), AllocError>
+    ensures { OnOk result (string_bytes text.new ≡ string_bytes text.old ++ with_newline (codes "ok " ++ decimal count)) }
+{
+    text.push_str("ok ")?;
+    put_decimal(text, count as u64)?;
+    text.push('\n')?;
+    Ok(())
+}
+
 /// `ok N`, and the line of each of N rows: the first ones where at most `most` are wanted.
 pub fn lines_text<F: LineFormat>(
     alloc: Global,
@@ -72,7 +82,7 @@ pub fn lines_text<F: LineFormat>(
 {
     let mut text = String::new(alloc);
     let count = count_of(rows.len(), most);
-    writeln!(text, "ok {count}")?;
+    put_count(&mut text, count)?;
     put_lines(&mut text, format, &rows[..count])?;
     Ok(text)
 }
@@ -93,7 +103,7 @@ pub fn lines_text_from<F: LineFormat>(
         return Err(AllocError);
     };
     let count = count_of(all, most);
-    writeln!(text, "ok {count}")?;
+    put_count(&mut text, count)?;
     if count > 0 {
         text.push_str(start)?;
         text.push('\n')?;

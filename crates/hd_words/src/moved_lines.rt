@@ -1,6 +1,7 @@
 //! How what moved between strengths is written as lines.
 ghost use Rattle.std.specs.Prelude.{◌≡◌, ◌++◌, string_bytes, OnOk};
 
+use crate::decimal::put_decimal;
 use crate::lines::LineFormat;
 use crate::strength_words::strength_text;
 use hd_terms::MovedRow;
@@ -22,9 +23,9 @@ impl LineFormat for MovedLines {
     fn put(&self, text: &mut String, row: &MovedRow) -> Result<(), AllocError> {
         let before = strength_text(row.before);
         let after = strength_text(row.after);
-        let count = row.count;
-        let bytes = row.bytes;
-        write!(text, "{before} {after} {count} {bytes}")?;
-        Ok(())
+        write!(text, "{before} {after} ")?;
+        put_decimal(text, row.count)?;
+        text.push_str(" ")?;
+        put_decimal(text, row.bytes)
     }
 }

@@ -3,6 +3,7 @@ ghost use Rattle.std.specs.Prelude.{◌≡◌, ◌++◌, string_bytes, OnOk};
 ghost use Rattle.hd_lines.specs.Names.{id_text};
 ghost use Rattle.hd_lines.specs.Replies.{mode_name, plain_into_line, plain_root_line, plain_slot_line};
 
+use crate::decimal::put_decimal;
 use crate::kind_words::kind_text;
 use crate::root_words::{root_mode_text, root_text};
 use crate::slot_words::put_slot;
@@ -47,11 +48,11 @@ pub fn put_into_row(text: &mut String, row: &IntoRow) -> Result<(), AllocError>
 pub fn put_root_row(text: &mut String, row: &RootRow) -> Result<(), AllocError>
     ensures { OnOk result (string_bytes text.new ≡ string_bytes text.old ++ plain_root_line row.now) }
 {
-    let number = row.number;
     let kind = root_text(row.kind);
     let id = row.id;
     let mode = root_mode_text(row.mode);
-    write!(text, "{number} {kind} 0x{id:x} {mode}")?;
+    put_decimal(text, row.number)?;
+    write!(text, " {kind} 0x{id:x} {mode}")?;
     Ok(())
 }
 

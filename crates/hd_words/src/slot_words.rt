@@ -6,10 +6,10 @@ ghost use Rattle.hd_lines.specs.Lines.{slot_of_word, numbered_slot, lettered_slo
 ghost use Rattle.hd_lines.specs.Replies.{slot_name};
 ghost use Rattle.hd_words.specs.SlotWords.{kind_word, has_number};
 
+use crate::decimal::put_decimal;
 use crate::numbers::read_small;
 use hd_terms::{Slot, SlotKind};
 use std::alloc::AllocError;
-use std::fmt::Write;
 
 /// The word of a kind of slot, before the number where it has one.
 fn word_of(kind: SlotKind) -> &'static str
@@ -45,7 +45,7 @@ pub fn put_slot(text: &mut String, slot: Slot) -> Result<(), AllocError>
     let (kind, number) = slot.parts();
     text.push_str(word_of(kind))?;
     if is_numbered(kind) {
-        write!(text, "{number}")?;
+        put_decimal(text, u64::from(number))?;
     }
     Ok(())
 }

@@ -14,7 +14,7 @@ loop-strength-preserved c =
     let text : Strength → List ℕ = λ s. 32 ∷ decimal (member_count state.dump state.kept c.args.group s) in
     let i = c.loop-strength.strength-index in
     let lt : i < length falling_strengths = omega (arith, c.loop-strength-test.true) in
-    c.in_ok-write.ensures.bytes
+    c.in_ok-put_count.ensures
     ∙ ap (λ (bytes : List ℕ). bytes ++ 32 ∷ decimal c.total-count.result.0) c.loop-strength.invariant
     ∙ ap (λ (n : ℕ). (string_bytes c.args.text.now ++ flat_map text (take i falling_strengths)) ++ 32 ∷ decimal n) c.total-count.ensures.count
     ∙ flat_push text (string_bytes c.args.text.now) falling_strengths i _ lt

@@ -30,7 +30,7 @@ loop-first-preserved c =
             w.leaves_out.ensures w.if-not-leaves_out.false most all (object_at dump o).id least h)
             c.loop-first.invariant.ids
         | else-not-is_quiet-via-else-not-is_quiet w ↦
-            let quiet : IsQuiet listed (first / 1024) = c.is_quiet.ensures w.if-not-is_quiet.false in
+            let quiet : IsQuiet listed (first / 1024) = c.is_quiet.ensures.0 w.if-not-is_quiet.false in
             left_out
             (λ o after before passes.
             let here : IsQuiet listed (o / 1024) = subst (IsQuiet listed) (sym (same-page first end o up_to after before)) quiet in

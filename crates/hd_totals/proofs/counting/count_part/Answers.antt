@@ -1,16 +1,17 @@
-use Rattle.std.proofs.Common.{◌≡◌, ◌∙◌, ◌≤◌, inl, inr, ℕ, sym, ap, subst, arith}
+use Rattle.std.proofs.Common.{◌≡◌, ◌∙◌, ◌+◌, ◌-◌, ◌/◌, ◌%◌, ◌≤◌, ◌^◌, inl, inr, ℕ, length, sym, ap, subst, arith}
 use Rattle.std.proofs.lemmas.Bool.{cases_lt}
+use Rattle.std.proofs.lemmas.List.{length-replicate, length-set}
 use Rattle.hd_terms.specs.declared.Group.{Group}
 use Rattle.hd_terms.specs.declared.Strength.{Strength}
 use Rattle.hd_terms.specs.Dump.{object_at}
 use Rattle.hd_terms.specs.Listed.{group_key}
 use Rattle.hd_terms.specs.Records.{largest_file}
 use Rattle.hd_totals.specs.Counting.{AreTotalsBetween}
-use Rattle.hd_totals.specs.GroupPages.{AreNotedBetween, IsNoted}
+use Rattle.hd_totals.specs.GroupPages.{PageMarks, AreNotedBetween, IsNoted}
 use Rattle.hd_totals.specs.Members.{InRange}
 use Rattle.hd_totals.specs.Running.{strength_in, plus_one, IsRowPut}
 use Rattle.hd_totals.specs.Totals.{Totals, total_for, row_at}
-use Rattle.hd_totals.proofs.CountingLemmas.{one-more-between}
+use Rattle.hd_totals.proofs.CountingLemmas.{none-between, one-more-between}
 use Rattle.hd_totals.proofs.counting.count_part.Goals as goal
 
 pub count_object-requires-clause-count : goal.count_object-requires-clause-count
@@ -30,6 +31,14 @@ count_object-requires-clause-bytes c =
     let small = c.bytes_of-bytes.ensures.small in
     omega (arith, light, same, small)
 
+pub loop-o-init : goal.loop-o-init
+loop-o-init c = record {
+  totals = rw (c.new-keys.ensures, c.new-rows.ensures.items) (none-between c.args.graph.now (strength_in c.args.supports.now) c.args.start);
+  room = omega (arith, ap (λ (p : PageMarks). length p.least) c.in_ok-pages.ensures, length-replicate (c.objects.result / 1024 + 1) (2 ^ 64 - 1), c.objects.ensures);
+  noted = λ x le lt. absurd (omega (arith, le, lt));
+  places = omega (arith, c.in_ok-places.ensures.len, c.in_ok-places.places.ok);
+}
+
 pub loop-o-preserved : goal.loop-o-preserved
 loop-o-preserved c =
     let dump = c.args.graph.now in
@@ -41,12 +50,13 @@ loop-o-preserved c =
     let put : IsRowPut t t' (group_key (object_at dump o).group) (plus_one (row_at t (group_key (object_at dump o).group)) (st o) (object_at dump o).bytes) =
     subst (λ (k : ℕ). IsRowPut t t' k (plus_one (row_at t k) (st o) (object_at dump o).bytes)) key_is
     (subst (λ (s : Strength). IsRowPut t t' c.key_of-key.result (plus_one (row_at t c.key_of-key.result) s (object_at dump o).bytes)) c.strength-strength.ensures
-    (subst (λ (n : ℕ). IsRowPut t t' c.key_of-key.result (plus_one (row_at t c.key_of-key.result) c.strength-strength.result n)) c.bytes_of-bytes.ensures.bytes c.in_ok-count_object.ensures)) in
+    (subst (λ (n : ℕ). IsRowPut t t' c.key_of-key.result (plus_one (row_at t c.key_of-key.result) c.strength-strength.result n)) c.bytes_of-bytes.ensures.bytes c.in_ok-places-2.ensures)) in
     let range = subst InRange c.group_of-group.ensures c.key_of-key.ensures.range in
     let small = subst (λ (n : ℕ). n ≤ largest_file) c.bytes_of-bytes.ensures.bytes c.bytes_of-bytes.ensures.small in
     record {
       totals = one-more-between dump st c.args.start o t t' c.loop-o.invariant.totals (omega arith) range small put;
       room = c.note.ensures.count ∙ c.loop-o.invariant.room;
+      places = length-set c.loop-o.places.items (c.buckets_of.result.0 % 256) c.in_ok-places-2.field-0 ∙ c.loop-o.invariant.places;
       noted = λ x le lt. elim (cases_lt x o) [
         | inl earlier ↦ c.note.ensures.kept x (object_at dump x).group (object_at dump x).id (c.loop-o.invariant.noted x le earlier)
         | inr last ↦

@@ -10,4 +10,5 @@ invariant-loop-o l = record {
   totals : AreTotalsBetween l.graph (strength_in l.supports) l.start l.o (record { keys = l.keys; rows = l.rows.items });
   room : length l.pages.least ≡ length l.graph.objects / 1024 + 1;
   noted : AreNotedBetween l.graph l.start l.o l.pages;
+  places : length l.places.items ≡ 256;
 }

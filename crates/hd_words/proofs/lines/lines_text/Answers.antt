@@ -1,4 +1,4 @@
-use Rattle.std.proofs.Common.{◌∙◌, ℕ, List, ◌++◌, length, map, take, string_bytes, ap}
+use Rattle.std.proofs.Common.{◌∙◌, ℕ, List, ◌++◌, length, map, take, ap}
 use Rattle.std.specs.Prelude.{codes, decimal}
 use Rattle.std.specs.List.{flat_map}
 use Rattle.hd_lines.specs.Replies.{first_lines, with_newline}
@@ -12,7 +12,7 @@ returns g c =
     let rows = c.args.rows.now in
     let most = c.args.most in
     c.in_ok-put_lines.ensures
-    ∙ ap (λ (text : List ℕ). text ++ flat_map with_newline (map line (take c.count_of-count.result rows))) c.in_ok-writeln.ensures.bytes
+    ∙ ap (λ (text : List ℕ). text ++ flat_map with_newline (map line (take c.count_of-count.result rows))) c.in_ok-put_count.ensures
     ∙ ap (λ (text : List ℕ). (text ++ with_newline (codes "ok " ++ decimal c.count_of-count.result)) ++ flat_map with_newline (map line (take c.count_of-count.result rows))) c.new-text.ensures.bytes
     ∙ ap (λ (n : ℕ). with_newline (codes "ok " ++ decimal n) ++ flat_map with_newline (map line (take n rows))) c.count_of-count.ensures
     ∙ ap (λ (n : ℕ). with_newline (codes "ok " ++ decimal n) ++ flat_map with_newline (map line (take (first_count (length rows) most) rows))) (count-of-first line most rows)

@@ -14,8 +14,8 @@ returns g c =
     let start = c.args.start.now in
     let count = c.count_of-count.result in
     let counted : count ≡ first_count (length rows + 1) most = c.count_of-count.ensures ∙ ap (λ (n : ℕ). first_count n most) c.in-Some.ensures.1 in
-    let begun : string_bytes c.writeln.new.self ≡ head count =
-    c.in_ok-writeln.ensures.bytes ∙ ap (λ (text : List ℕ). text ++ head count) c.new-text.ensures.bytes in
+    let begun : string_bytes c.put_count.new.text ≡ head count =
+    c.in_ok-put_count.ensures ∙ ap (λ (text : List ℕ). text ++ head count) c.new-text.ensures.bytes in
     elim c.if-count-gt0.branch [
       | then-count-gt0+in_ok-push_str+in_ok-push+in_ok-put_lines w ↦
           written-with-start line start rows most count counted (string_bytes c.if-count-gt0.text) w.if-count-gt0.true
