@@ -118,3 +118,8 @@ class ReferenceClasses:
     def instance(self, object_id: int, class_id: int, referent: int) -> bytes:
         """An instance of one of these classes, or of a class below them without fields of its own."""
         return self.spelled.instance(object_id, class_id, self.spelled.ids(referent))
+
+
+def two_arrays(spelled: Format) -> bytes:
+    """0x1 holds 0x2, null and an ID that no object has; 0x2 is empty. A root is on 0x1."""
+    return spelled.dump(spelled.segment(spelled.root(1), spelled.array(1, [2, 0, 9]), spelled.array(2)))

@@ -12,18 +12,14 @@ Each call that takes memory has to be refused in a run. Needed are rustc and the
 from __future__ import annotations
 
 import argparse
-import collections
 import sys
-import tempfile
 from typing import Iterator, NamedTuple
 
 sys.dont_write_bytecode = True  # the checkout stays as it is
 
-from refused import build_library, sweeps
+from refused import ALL_RIGHT, check_calls
 from report import Report, perform, words_of
-from session import TOP, Ended, Program
-
-ALL_RIGHT = "all right"
+from session import TOP
 
 
 class Sample(NamedTuple):
@@ -114,39 +110,8 @@ class Calls:
         return ", ".join(self.refused) or ALL_RIGHT
 
 
-def outcome_of(ended: Ended) -> str:
-    """What was refused in a run. Raises ValueError where it did anything else."""
-    if ended.status != 0 or ended.faults:
-        raise ValueError(f"status {ended.status}: {ended.faults.strip()}")
-    if not ended.output.endswith("\n"):
-        raise ValueError("the last line has no end")
-    rest = iter(ended.output.splitlines())
-    outcome = Calls(rest).follow()
-    if next(rest, None) is not None:
-        raise ValueError("a line too many")
-    return outcome
-
-
 def refuse(given: argparse.Namespace, report: Report) -> None:
-    outcomes: collections.Counter[str] = collections.Counter()
-
-    def missing() -> list[str]:
-        return [wanted for wanted in MET if not outcomes[wanted]]
-
-    with Program(given.program) as program, tempfile.TemporaryDirectory() as room:
-        last = "nothing"
-        for number, ended in sweeps(program, build_library(room), [given.program], "", lambda: not missing()):
-            try:
-                last = outcome_of(ended)
-                outcomes[last] += 1
-            except ValueError as error:
-                last = "anything else"
-                report.note(False, f"without allocation {number}: {error}, in {ended.output!r}")
-    for outcome, count in sorted(outcomes.items()):
-        report.note(True, f"{count:4} {outcome}")
-    report.note(last == ALL_RIGHT, "a run to which nothing is refused is all right")
-    for wanted in missing():
-        report.note(False, f"no run met {wanted}")
+    check_calls(given.program, report, lambda lines: Calls(lines).follow(), MET)
 
 
 if __name__ == "__main__":

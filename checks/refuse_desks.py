@@ -16,18 +16,16 @@ Each outcome that can be met has to be met in a run. Needed are rustc and the GN
 from __future__ import annotations
 
 import argparse
-import collections
+import itertools
 import sys
-import tempfile
 from typing import Iterator
 
 sys.dont_write_bytecode = True  # the checkout stays as it is
 
-from refused import build_library, sweeps
+from refused import ALL_RIGHT, check_calls
 from report import Report, perform, words_of
-from session import TOP, Ended, Program
+from session import TOP
 
-ALL_RIGHT = "all right"
 # A look and a private board only get further owners of what is there, which takes no memory.
 MET = [ALL_RIGHT, "open OutOfMemory", "cut OutOfMemory", "cut Accepted", "refresh Behind", "undo OutOfMemory", "undo Accepted"]
 
@@ -106,42 +104,16 @@ class Calls:
         return ", ".join(self.faults) or ALL_RIGHT
 
 
-def outcome_of(ended: Ended) -> str:
-    """What was refused in a run. Raises ValueError where it did anything else."""
-    if ended.status != 0 or ended.faults:
-        raise ValueError(f"status {ended.status}: {ended.faults.strip()}")
-    if not ended.output.endswith("\n"):
-        raise ValueError("the last line has no end")
-    lines = ended.output.splitlines()
-    if lines == ["open: OutOfMemory"]:
+def follow(lines: Iterator[str]) -> str:
+    """What was refused in a run. Raises ValueError where a line is wrong."""
+    first = next(lines, "")
+    if first == "open: OutOfMemory":
         return "open OutOfMemory"
-    rest = iter(lines)
-    outcome = Calls(rest).follow()
-    if next(rest, None) is not None:
-        raise ValueError("a line too many")
-    return outcome
+    return Calls(itertools.chain([first], lines)).follow()
 
 
 def refuse(given: argparse.Namespace, report: Report) -> None:
-    outcomes: collections.Counter[str] = collections.Counter()
-
-    def missing() -> list[str]:
-        return [wanted for wanted in MET if not any(wanted in outcome for outcome in outcomes)]
-
-    with Program(given.program) as program, tempfile.TemporaryDirectory() as room:
-        last = "nothing"
-        for number, ended in sweeps(program, build_library(room), [given.program], "", lambda: not missing()):
-            try:
-                last = outcome_of(ended)
-                outcomes[last] += 1
-            except ValueError as error:
-                last = "anything else"
-                report.note(False, f"without allocation {number}: {error}, in {ended.output!r}")
-    for outcome, count in sorted(outcomes.items()):
-        report.note(True, f"{count:4} {outcome}")
-    report.note(last == ALL_RIGHT, "a run to which nothing is refused is all right")
-    for wanted in missing():
-        report.note(False, f"no run met {wanted}")
+    check_calls(given.program, report, follow, MET)
 
 
 if __name__ == "__main__":

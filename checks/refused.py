@@ -1,12 +1,15 @@
 """Runs a program with one allocation refused, for each in turn: by the library of `refuse.rs`."""
 from __future__ import annotations
 
+import collections
 import os
 import shutil
 import subprocess
+import tempfile
 from pathlib import Path
 from typing import Callable, Iterator, Sequence
 
+from report import Report
 from session import Ended, Program, Wrong
 
 MOST_ALLOCATIONS = 4000
@@ -75,3 +78,48 @@ def sweeps(
         yield from sweep(program, library, words, text)
         if is_enough():
             return
+
+
+# Programs that print a line for each call.
+
+ALL_RIGHT = "all right"
+
+# Follows the lines of a run, each of which has to be right or say that memory ran out. What was refused, or `ALL_RIGHT`. Raises
+# ValueError where a line is wrong.
+Follow = Callable[[Iterator[str]], str]
+
+
+def outcome_of(ended: Ended, follow: Follow) -> str:
+    """What was refused in a run. Raises ValueError where it did anything else."""
+    if ended.status != 0 or ended.faults:
+        raise ValueError(f"status {ended.status}: {ended.faults.strip()}")
+    if not ended.output.endswith("\n"):
+        raise ValueError("the last line has no end")
+    lines = iter(ended.output.splitlines())
+    outcome = follow(lines)
+    if next(lines, None) is not None:
+        raise ValueError("a line too many")
+    return outcome
+
+
+def check_calls(path: str, report: Report, follow: Follow, met: Sequence[str]) -> None:
+    """Runs a program without each of its allocations. All runs have to be right, and each of these has to be refused in one."""
+    outcomes: collections.Counter[str] = collections.Counter()
+
+    def missing() -> list[str]:
+        return [wanted for wanted in met if not any(wanted in outcome for outcome in outcomes)]
+
+    with Program(path) as program, tempfile.TemporaryDirectory() as room:
+        last = "nothing"
+        for number, ended in sweeps(program, build_library(room), [path], "", lambda: not missing()):
+            try:
+                last = outcome_of(ended, follow)
+                outcomes[last] += 1
+            except ValueError as error:
+                last = "anything else"
+                report.note(False, f"without allocation {number}: {error}, in {ended.output!r}")
+    for outcome, count in sorted(outcomes.items()):
+        report.note(True, f"{count:4} {outcome}")
+    report.note(last == ALL_RIGHT, "a run to which nothing is refused is all right")
+    for wanted in missing():
+        report.note(False, f"no run met {wanted}")

@@ -30,23 +30,13 @@ from typing import Callable, Iterator
 
 sys.dont_write_bytecode = True  # the checkout stays as it is
 
-from dumps import REFERENCE_KINDS, Format, ReferenceClasses
+from dumps import REFERENCE_KINDS, Format, ReferenceClasses, two_arrays
 from report import Report, perform, words_of
-from session import Client, Program, Talk, Wrong
+from session import Client, Program, Talk, Wrong, want
 
 EDITORS = 16
 EDITS_OF_EACH = 125
 SPELLED = Format()
-
-
-def want(holds: bool, text: str) -> None:
-    if not holds:
-        raise Wrong(text)
-
-
-def two_arrays() -> bytes:
-    """0x1 holds 0x2, null and an ID that no object has; 0x2 is empty. A root is on 0x1."""
-    return SPELLED.dump(SPELLED.segment(SPELLED.root(1), SPELLED.array(1, [2, 0, 9]), SPELLED.array(2)))
 
 
 class LargerDump:
@@ -321,7 +311,7 @@ def check_editors(program: Program, dump: str, larger: LargerDump, seed: str, re
 def check_server(given: argparse.Namespace, report: Report) -> None:
     with Program(given.program, given.seconds) as program, tempfile.TemporaryDirectory() as room:
         dump = Path(room) / "dump.hprof"
-        dump.write_bytes(two_arrays())
+        dump.write_bytes(two_arrays(SPELLED))
         for act, text in ODD_CLIENTS:
             try:
                 check_odd_client(program, str(dump), act)

@@ -26,10 +26,10 @@ from typing import Iterator, NamedTuple
 
 sys.dont_write_bytecode = True  # the checkout stays as it is
 
-from dumps import Format
+from dumps import Format, two_arrays
 from refused import MOST_ALLOCATIONS, build_library
 from report import Report, perform, words_of
-from session import Ended, Program, Server, Wrong, native
+from session import Ended, Program, Server, Wrong, native, want
 
 SPELLED = Format()
 CUT = "ok 1\nevent 0 fell 1 back 0\n"
@@ -41,16 +41,6 @@ LOG = "0 0 cut 0x1 e0 live\n"
 ALL, IN_PART, ALONE = "all answered", "refused at a command", "a connection ended alone"
 NEVER_OPEN, NO_SERVER, BEGUN = "refused at the opening", "ended before a connection", "ended after a connection had begun"
 MET = [ALL, IN_PART, ALONE, NEVER_OPEN, NO_SERVER, BEGUN]
-
-
-def want(holds: bool, text: str) -> None:
-    if not holds:
-        raise Wrong(text)
-
-
-def two_arrays() -> bytes:
-    """0x1 holds 0x2, null and an ID that no object has; 0x2 is empty. A root is on 0x1."""
-    return SPELLED.dump(SPELLED.segment(SPELLED.root(1), SPELLED.array(1, [2, 0, 9]), SPELLED.array(2)))
 
 
 class Port:
@@ -264,7 +254,7 @@ def check_outputs(program: Program, dump: str, report: Report) -> None:
 
 def check_order(program: Program, room: str, dump: str, report: Report) -> None:
     cut = Path(room) / "cut.hprof"
-    cut.write_bytes(two_arrays()[:-1])
+    cut.write_bytes(two_arrays(SPELLED)[:-1])
     with socket.create_server(("127.0.0.1", 0)) as taken:
         port = str(taken.getsockname()[1])
         for file, right in (str(cut), Ended(2, "", "hdesk: Truncated at 31\n")), (dump, Ended(1, "", "hdesk: cannot listen\n")):
@@ -275,7 +265,7 @@ def check_order(program: Program, room: str, dump: str, report: Report) -> None:
 def check_faults(given: argparse.Namespace, report: Report) -> None:
     with Program(native(given.program, given.seconds), 20) as program, tempfile.TemporaryDirectory() as room:
         file = Path(room) / "arrays.hprof"
-        file.write_bytes(two_arrays())
+        file.write_bytes(two_arrays(SPELLED))
         dump, library = str(file), build_library(room)
         check_order(program, room, dump, report)
         check_outputs(program, dump, report)

@@ -16,7 +16,6 @@ import subprocess
 import tempfile
 import threading
 import time
-import time
 from concurrent.futures import ThreadPoolExecutor
 from pathlib import Path
 from typing import IO, Callable, Iterable, NamedTuple, Sequence, TypeVar
@@ -31,6 +30,12 @@ Item, Result = TypeVar("Item"), TypeVar("Result")
 
 class Wrong(Exception):
     """What isn't as it has to be; its text says what."""
+
+
+def want(holds: bool, text: str) -> None:
+    """Raises `Wrong` where something doesn't hold."""
+    if not holds:
+        raise Wrong(text)
 
 
 class Ended(NamedTuple):
