@@ -33,7 +33,8 @@ class Sample(NamedTuple):
     since: dict[str, int]
 
 
-# Six classes come first: Reference, and those of soft, weak, final and phantom references and finalizers. Two have no instances.
+# Six classes come first: Reference, and those of soft, weak, final and phantom references and finalizers. Nothing reaches those of
+# soft and phantom references.
 CLASSES = "Strong Unreachable Strong Strong Unreachable Strong"
 SAMPLES = [
     Sample(
