@@ -12,8 +12,8 @@ Of each dump and program it writes a row of a comma-separated table:
 `threads` is what the program is told: threads of the plain ones, workers of hdesk. `seconds` and `processor` are the least seconds
 of all runs, by the clock and of all processors; those of the processors go to the end of `run`. `peak` is the most memory in bytes
 that a run had, and `held` the memory of `run` at its first reply. The programs run by turns. The dump is in the page cache. As with
-`./hdesk`, programs get large pages if it has 64 MiB or more. A peak that isn't above this script's own can't be told, and is left
-out. Needed are Linux and `rustc`.
+`./hdesk`, programs get large pages if it has 64 MiB or more, and give back what large lists took. A peak that isn't above this
+script's own can't be told, and is left out. Needed are Linux and `rustc`.
 """
 from __future__ import annotations
 
@@ -37,6 +37,7 @@ from session import add_program, native  # noqa: E402
 
 COLUMNS = ["dump", "bytes", "objects", "program", "threads", "runs", "seconds", "processor", "peak", "held"]
 LARGE = 64 << 20
+TUNABLES = "glibc.malloc.hugetlb=1:glibc.malloc.mmap_threshold=2097152"  # those of the script `hdesk` for large dumps
 
 
 class Subject(NamedTuple):
@@ -110,7 +111,7 @@ def run(subject: Subject, dump: str, env: dict[str, str]) -> Took:
 def measure(subjects: list[Subject], dump: str, runs: int) -> dict[Subject, list[Took]]:
     """What each program took, by turns, each turn beginning one program further."""
     size = os.stat(dump).st_size
-    env = {**os.environ, "GLIBC_TUNABLES": "glibc.malloc.hugetlb=1"} if size >= LARGE else dict(os.environ)
+    env = {**os.environ, "GLIBC_TUNABLES": TUNABLES} if size >= LARGE else dict(os.environ)
     took: dict[Subject, list[Took]] = {subject: [] for subject in subjects}
     for turn in range(runs):
         at = turn % len(subjects)

@@ -3,12 +3,12 @@
 
     bench/regions.py [--program PATH] FILE [PAIRS [SEED]]
 
-FILE is a dump of tools/real_dump.sh. It takes objects of classes at random, asks `hdesk run` for their chains, cuts the
-last link of each chain, or for every tenth a random one while that has taken less than 20 seconds, and takes that back. It
-prints the seconds of the opening; for each size of what fell the median of the milliseconds of a cut, of its undo, and of
-both, and the 95th percentile and the greatest of both; and the memory of the program: after the opening, after all pairs,
-and with 15 further marks, each of another log. PAIRS is how many cuts and undos there are, 500 where nothing is said, 2,000
-at most. The program is the script `hdesk` where nothing is said. Needed are Linux and Python 3.8 or later.
+FILE is any dump. It takes objects of classes at random, asks `hdesk run` for their chains, cuts the last link of each
+chain (for every tenth a random link, until 20 seconds have gone), and undoes that. It prints the seconds of the
+opening; for each size of what fell the median of the milliseconds of a cut, of its undo, and of both, and the 95th
+percentile and the greatest of both; and the memory of the program: after the opening, after all pairs, and with 15
+further marks, each of another log. PAIRS is how many cuts and undos there are, 500 where nothing is said, 2,000 at
+most. The program is the script `hdesk` where nothing is said. Needed are Linux and Python 3.8 or later.
 """
 import argparse
 import random

@@ -7,6 +7,9 @@ kind may not grow from each size to the next by more than half again as much as 
 second: a pass that isn't linear shows there. A line has the dump's bytes, the least seconds of three runs, the most memory (no
 less than this script's own), nanoseconds and bytes of memory for each byte of the dump, and by what the time has grown since
 the size before.
+
+Then the slots of an object whose class has thousands of super classes are asked for, and the references to what they hold. With
+names this may take ten times as long as without.
 """
 from __future__ import annotations
 
@@ -21,7 +24,7 @@ from typing import Callable, Iterable, Iterator, NamedTuple
 
 sys.dont_write_bytecode = True  # the checkout stays as it is
 
-from dumps import INT, Format
+from dumps import INT, OBJECT, Format
 from report import Report, perform, positive, words_of
 from session import Measured, Program, Wrong, native
 
@@ -34,6 +37,8 @@ LONGEST = 10.0  # seconds of a run
 MOST_MEMORY = 24  # bytes for each byte of a dump
 MOST_GROWTH = 1.5  # of the time, beside that of the bytes
 NOTICED = 0.5  # seconds
+MOST_FOR_NAMES = 10.0  # of the time without names
+NAMED = {"slots": "byte[]", "into": "?"}  # the further name of each line: that of the array, and that of the instance
 
 
 class Made(NamedTuple):
@@ -122,6 +127,15 @@ def chain_with_instances(size: int) -> Made:
         subs.append(SPELLED.class_dump(i + 1, i, [(0x77, INT)] if i == 0 else ()))
         subs.append(SPELLED.instance((1 << 40) + i * 16, i + 1, b"\0\0\0\1"))
     return in_segment(subs, 2 * count)
+
+
+def fields_of_a_chain(size: int) -> tuple[bytes, int]:
+    """Classes, each the super class of the next and with a field of its own, and an instance of the last, each field of which
+    holds the array 0x8; and how many classes there are."""
+    count = size // 100
+    classes = [SPELLED.class_dump(16 + i, 15 + i if i else 0, [(1, OBJECT)]) for i in range(count)]
+    instance = SPELLED.instance(1 << 40, 15 + count, SPELLED.ids(*[8] * count))
+    return SPELLED.dump(SPELLED.text(1, "held"), SPELLED.segment(SPELLED.byte_array(8), *classes, instance), SPELLED.end()), count
 
 
 def many_fields(size: int) -> Made:
@@ -236,6 +250,24 @@ def check_kind(program: Program, report: Report, name: str, dumps: list[Dump]) -
         report.note(not is_steep, f"{name}: the time grows {shown} times as much as the bytes")
 
 
+def check_names(program: Program, report: Report, size: int, room: str) -> None:
+    """Asks for the fields of a long chain, without names and with them."""
+    data, count = fields_of_a_chain(size)
+    path = Path(room) / f"fields_of_a_chain-{size}"
+    path.write_bytes(data)
+    session = program.run(str(path))
+    session.ask("strength 0x8")  # the dump is open
+    queries = [f"slots {1 << 40:#x}", "into 0x8"]
+    plain = [session.timed(query) for query in queries]
+    session.ask("names on")
+    named = [session.timed(query) for query in queries]
+    session.quit()
+    for query, (lines, seconds), (more, longer) in zip(queries, plain, named):
+        is_whole = len(lines) == len(more) > count and more[count] == f"{lines[count]} {NAMED[query.split()[0]]} ?.held"
+        is_quick = longer <= MOST_FOR_NAMES * max(seconds, 0.01)
+        report.note(is_whole and is_quick, f"{query.split()[0]} of {count} classes: {seconds:.3f} s, with names {longer:.3f} s")
+
+
 def check_kinds(given: argparse.Namespace, report: Report) -> None:
     """Makes the dumps of a kind in other processes, side by side: a run is charged with the memory of what starts it."""
     path = native(given.program, given.seconds)
@@ -245,6 +277,9 @@ def check_kinds(given: argparse.Namespace, report: Report) -> None:
                 sizes = sorted(given.sizes)
                 dumps = list(pool.map(write, [make] * len(sizes), sizes, [room] * len(sizes)))
                 check_kind(program, report, make.__name__, dumps)
+        for size in sorted(given.sizes):
+            with tempfile.TemporaryDirectory() as room:
+                check_names(program, report, size, room)
 
 
 if __name__ == "__main__":

@@ -4,8 +4,8 @@
 #
 #   tools/real_dump.sh FILE [MEGABYTES]
 #
-# FILE must not be there yet. Without MEGABYTES the dump has a few MB; with it, 1 to 2000, about so many MB of small
-# objects, tens of millions of them at 1000. Unreachable objects are dumped too, and no collection comes before the dump.
+# FILE must not be there yet. Without MEGABYTES the dump has a few MB; with it, 1 to 2000, about that many MB of
+# small objects, tens of millions of them at 1000. Unreachable objects are dumped too, and no collection comes before the dump.
 #
 # Nothing is written but FILE, which appears when it is whole, and a temporary folder, which is removed at the end.
 # Needed are bash, coreutils and a JDK of version 17: java, javac, jcmd.

@@ -9,7 +9,8 @@ use Rattle.hd_terms.specs.declared.Strength.TheVariants as strengths
 use Rattle.hd_terms.specs.Paths.{Edge}
 use Rattle.hd_terms.specs.Dump.{Dump}
 use Rattle.hd_terms.specs.Settled.{Reached}
-use Rattle.hd_lines.specs.Replies.{AnswersChain, answer_text, chain_start, chain_lines, first_lines}
+use Rattle.hd_lines.specs.Replies.{AnswersChain, answer_text, chain_start, chain_lines}
+use Rattle.hd_terms.specs.Listed.{first_items}
 use Rattle.hd_queries.specs.declared.chain.Chain.{Chain}
 use Rattle.hd_queries.specs.ChainFound.{IsChainFound, IsFoundChain, link_of, root_of}
 use Rattle.hd_analyst.specs.ChainLines.{lines_of, link_text}

@@ -13,9 +13,9 @@ use Rattle.hd_lines.specs.declared.commands.Query.TheVariants as queries
 use Rattle.hd_terms.specs.Dump.{Dump}
 use Rattle.hd_lines.specs.Lines.{command_of, last_word}
 use Rattle.hd_lines.specs.Memory.{Memory}
-use Rattle.hd_lines.specs.Replies.{Answer, IsUnserved, RepliesTo, first_lines, no_such_mark, no_such_object, refused, refusal_name, refreshes}
+use Rattle.hd_lines.specs.Replies.{Answer, IsUnserved, RepliesTo, no_such_mark, no_such_object, refused, refusal_name, refreshes}
+use Rattle.hd_terms.specs.Listed.{first_items}
 use Rattle.hd_lines.specs.Sessions.{IsTurn, answered, unserved}
-use Rattle.hd_queries.specs.Gathered.{first_of}
 use Rattle.hd_state.specs.Situation.{Situation}
 use Rattle.hd_state.specs.Solution.{Solution}
 use Rattle.hd_analyst.specs.declared.texts.Showing.{Showing}
@@ -43,12 +43,12 @@ take_of_taken zero line xs = refl
 take_of_taken (suc n) line [] = refl
 take_of_taken (suc n) line (x ∷ xs) = ap (λ (lines : List (List ℕ)). line x ∷ lines) (take_of_taken n line xs)
 
-pub first_of_first : (most : Option ℕ) (line : ℕ → List ℕ) (xs : List ℕ) → first_lines most (map line (first_of most xs)) ≡ first_lines most (map line xs)
+pub first_of_first : (most : Option ℕ) (line : ℕ → List ℕ) (xs : List ℕ) → first_items most (map line (first_items most xs)) ≡ first_items most (map line xs)
 first_of_first None line xs = refl
 first_of_first (Some n) line xs = take_of_taken n line xs
 
 -- of one line the first ones are that line, unless none is wanted
-pub first_of_one : (most : Option ℕ) (line : List ℕ) → (most ≡ Some 0 → ⊥) → first_lines most (line ∷ []) ≡ line ∷ []
+pub first_of_one : (most : Option ℕ) (line : List ℕ) → (most ≡ Some 0 → ⊥) → first_items most (line ∷ []) ≡ line ∷ []
 first_of_one None line some = refl
 first_of_one (Some zero) line some = absurd (some refl)
 first_of_one (Some (suc zero)) line some = refl

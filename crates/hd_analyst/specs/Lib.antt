@@ -7,3 +7,4 @@ pub mod Answering
 pub mod EventRows
 pub mod ChainLines
 pub mod Found
+pub mod PlacesInside

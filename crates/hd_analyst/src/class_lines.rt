@@ -22,7 +22,7 @@ impl LineFormat for ClassLines<'_> {
 
     ghost line = { λ lines row. class_line lines.graph.now row };
 
-    fn put(&self, text: &mut String, row: &ClassRow) -> Result<(), AllocError> {
+    fn put(&mut self, text: &mut String, row: &ClassRow) -> Result<(), AllocError> {
         put_group(text, row.group)?;
         text.push(' ')?;
         put_decimal(text, row.count)?;

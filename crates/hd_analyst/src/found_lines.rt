@@ -43,7 +43,7 @@ impl LineFormat for FoundLines<'_> {
 
     ghost line = { λ lines group. found_text lines.state.now group };
 
-    fn put(&self, text: &mut String, group: &Group) -> Result<(), AllocError> {
+    fn put(&mut self, text: &mut String, group: &Group) -> Result<(), AllocError> {
         put_group(text, *group)?;
         put_counts(text, self.state, *group)?;
         text.push(' ')?;
@@ -108,6 +108,11 @@ pub(crate) fn find_text(
 {
     let groups = state.groups(alloc)?;
     let named = named_groups(alloc, state.graph(), groups.as_slice(), text)?;
-    let reply = lines_text(alloc, &FoundLines { state }, named.as_slice(), showing.most)?;
+    let reply = lines_text(
+        alloc,
+        &mut FoundLines { state },
+        named.as_slice(),
+        showing.most,
+    )?;
     Ok(reply)
 }

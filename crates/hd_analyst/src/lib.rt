@@ -13,7 +13,7 @@
 //!   whether lines show names, and how many are written at most.
 //! - `found_lines.rt`: the answer to `find`. Each group's name is printed and searched for the text.
 //! - `row_lines.rt`, `link_lines.rt`, `class_lines.rt`, `object_lines.rt`: the line formats that need the graph, for names and
-//!   IDs. `naming.rt` puts the name of an object and the place of a slot.
+//!   IDs. `naming.rt` puts the name of an object, `places.rt` the place of a slot.
 #![tactic(auto)]
 
 mod analyst;
@@ -25,6 +25,7 @@ mod found_lines;
 mod link_lines;
 mod naming;
 mod object_lines;
+mod places;
 mod query;
 mod reply;
 mod row_lines;

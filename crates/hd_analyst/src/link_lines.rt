@@ -3,7 +3,8 @@ ghost use Rattle.std.specs.Prelude.{◌≡◌, ◌<◌, length, string_bytes, If
 ghost use Rattle.hd_lines.specs.Replies.{chain_start, root_kind};
 ghost use Rattle.hd_queries.specs.ChainFound.{root_of};
 
-use crate::naming::{put_object_name, put_place};
+use crate::naming::put_object_name;
+use crate::places::Places;
 use hd_graph::Graph;
 use hd_queries::{Chain, Link};
 use hd_terms::RootKind;
@@ -14,7 +15,7 @@ use std::fmt::Write;
 /// Links as lines: `SLOT KIND ID`, and with names `NAME PLACE`. The IDs are those of a graph.
 #[derive(Drop)]
 pub(crate) struct LinkLines<'a> {
-    pub(crate) graph: &'a Graph,
+    pub(crate) places: Places<'a>,
     pub(crate) names: bool,
 }
 
@@ -24,22 +25,23 @@ impl LineFormat for LinkLines<'_> {
     ghost use Rattle.std.specs.Prelude.{length};
     ghost use Rattle.hd_queries.specs.ChainFound.{IsWithin};
 
-    ghost can_write = { λ lines link. IsWithin (length lines.graph.now.objects) link };
+    ghost can_write = { λ lines link. IsWithin (length lines.places.objects) link };
 
     ghost use Rattle.hd_analyst.specs.ChainLines.{link_text};
 
-    ghost line = { λ lines link. link_text lines.graph.now lines.names link };
+    ghost line = { λ lines link. link_text lines.places lines.names link };
 
-    fn put(&self, text: &mut String, row: &Link) -> Result<(), AllocError> {
+    fn put(&mut self, text: &mut String, row: &Link) -> Result<(), AllocError> {
         put_slot(text, row.slot)?;
         let kind = kind_text(row.kind);
-        let id = self.graph.id_of(row.target);
+        let graph = self.places.graph();
+        let id = graph.id_of(row.target);
         write!(text, " {kind} 0x{id:x}")?;
         if self.names {
             text.push(' ')?;
-            put_object_name(text, self.graph, row.target)?;
+            put_object_name(text, graph, row.target)?;
             text.push(' ')?;
-            put_place(text, self.graph, row.source, row.slot)?;
+            self.places.put(text, row.source, row.slot)?;
         }
         Ok(())
     }

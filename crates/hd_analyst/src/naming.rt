@@ -1,10 +1,10 @@
-//! Names of objects and places of slots, as further columns of lines.
+//! Names of objects, and of what classes declare, as further columns of lines.
 ghost use Rattle.std.specs.Prelude.{◌≡◌, ◌<◌, ◌++◌, length, string_bytes, OnOk};
 ghost use Rattle.std.specs.Option.{option_copied};
-ghost use Rattle.hd_lines.specs.Names.{name_at, name_of_id, place_of_field, place_of_slot, place_text, slot_place};
+ghost use Rattle.hd_lines.specs.Names.{name_at, name_of_id, place_text};
 
 use hd_graph::Graph;
-use hd_terms::{Group, Slot};
+use hd_terms::Group;
 use hd_words::{array_text, put_name};
 use std::alloc::AllocError;
 
@@ -37,61 +37,8 @@ pub(crate) fn put_name_of_id(text: &mut String, graph: &Graph, id: u64) -> Resul
     }
 }
 
-/// Puts the place of a slot of the object of a number behind a text.
-pub(crate) fn put_place(
-    text: &mut String,
-    graph: &Graph,
-    object: u32,
-    slot: Slot,
-) -> Result<(), AllocError>
-    requires { object < length graph.now.objects }
-    ensures { OnOk result (string_bytes text.new ≡ string_bytes text.old ++ slot_place graph.now object slot) }
-{
-    match slot {
-        Slot::Field(i) => put_place_of_field(text, graph, graph.group_of(object), i),
-        Slot::Static(i) => {
-            let class = graph.id_of(object);
-            put_place_text(text, graph, class, graph.static_name(class, i))
-        }
-        _ => text.push('-'),
-    }
-}
-
-/// Puts the place of a slot of the object of an ID behind a text, `-` where there is no such object.
-pub(crate) fn put_place_of_slot(
-    text: &mut String,
-    graph: &Graph,
-    id: u64,
-    slot: Slot,
-) -> Result<(), AllocError>
-    ensures { OnOk result (string_bytes text.new ≡ string_bytes text.old ++ place_of_slot graph.now id slot) }
-{
-    match graph.index_of(id) {
-        Some(object) => put_place(text, graph, object, slot),
-        None => text.push('-'),
-    }
-}
-
-/// Puts the place of the field of a number of an object of a group behind a text.
-fn put_place_of_field(
-    text: &mut String,
-    graph: &Graph,
-    group: Group,
-    i: u32,
-) -> Result<(), AllocError>
-    ensures { OnOk result (string_bytes text.new ≡ string_bytes text.old ++ place_of_field graph.now group i) }
-{
-    let Group::Class(class) = group else {
-        return text.push('-');
-    };
-    match graph.named_field(class, i) {
-        Some(field) => put_place_text(text, graph, field.owner, field.name),
-        None => text.push('-'),
-    }
-}
-
 /// Puts `CLASS.FIELD` behind a text: the name of a class, and a name that it declares.
-fn put_place_text(
+pub(crate) fn put_place_text(
     text: &mut String,
     graph: &Graph,
     class: u64,

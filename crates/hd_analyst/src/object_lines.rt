@@ -32,7 +32,7 @@ impl LineFormat for ObjectLines<'_> {
 
     ghost line = { λ lines row. object_line lines.graph.now row.object row.strength };
 
-    fn put(&self, text: &mut String, row: &ObjectRow) -> Result<(), AllocError> {
+    fn put(&mut self, text: &mut String, row: &ObjectRow) -> Result<(), AllocError> {
         let object = row.object;
         put_group(text, self.graph.group_of(object))?;
         let strength = strength_text(row.strength);

@@ -1,7 +1,8 @@
 //! Slots, references, roots and IDs as lines, with names or without.
 ghost use Rattle.std.specs.Prelude.{◌≡◌, ◌++◌, string_bytes, OnOk};
 
-use crate::naming::{put_name_of_id, put_place, put_place_of_slot};
+use crate::naming::put_name_of_id;
+use crate::places::Places;
 use hd_graph::Graph;
 use hd_terms::{IntoRow, RootRow, SlotRow};
 use hd_words::{LineFormat, put_id, put_into_row, put_root_row, put_slot_row};
@@ -10,7 +11,7 @@ use std::alloc::AllocError;
 /// Slots of an object as lines: `SLOT KIND ID MODE`, and with names `NAME PLACE`.
 #[derive(Drop)]
 pub(crate) struct SlotLines<'a> {
-    pub(crate) graph: &'a Graph,
+    pub(crate) places: Places<'a>,
     pub(crate) names: bool,
     /// The number of the object that has the slots.
     pub(crate) object: u32,
@@ -21,19 +22,19 @@ impl LineFormat for SlotLines<'_> {
 
     ghost use Rattle.std.specs.Prelude.{◌<◌, length};
 
-    ghost can_write = { λ lines _. lines.object < length lines.graph.now.objects };
+    ghost can_write = { λ lines _. lines.object < length lines.places.objects };
 
     ghost use Rattle.hd_lines.specs.Replies.{slot_line};
 
-    ghost line = { λ lines row. slot_line lines.graph.now lines.names lines.object row };
+    ghost line = { λ lines row. slot_line lines.places lines.names lines.object row };
 
-    fn put(&self, text: &mut String, row: &SlotRow) -> Result<(), AllocError> {
+    fn put(&mut self, text: &mut String, row: &SlotRow) -> Result<(), AllocError> {
         put_slot_row(text, row)?;
         if self.names {
             text.push(' ')?;
-            put_name_of_id(text, self.graph, row.id)?;
+            put_name_of_id(text, self.places.graph(), row.id)?;
             text.push(' ')?;
-            put_place(text, self.graph, self.object, row.slot)?;
+            self.places.put(text, self.object, row.slot)?;
         }
         Ok(())
     }
@@ -42,7 +43,7 @@ impl LineFormat for SlotLines<'_> {
 /// References to an object as lines: `SOURCE SLOT KIND MODE`, and with names `NAME PLACE`.
 #[derive(Drop)]
 pub(crate) struct IntoLines<'a> {
-    pub(crate) graph: &'a Graph,
+    pub(crate) places: Places<'a>,
     pub(crate) names: bool,
 }
 
@@ -53,15 +54,15 @@ impl LineFormat for IntoLines<'_> {
 
     ghost use Rattle.hd_lines.specs.Replies.{into_line};
 
-    ghost line = { λ lines row. into_line lines.graph.now lines.names row };
+    ghost line = { λ lines row. into_line lines.places lines.names row };
 
-    fn put(&self, text: &mut String, row: &IntoRow) -> Result<(), AllocError> {
+    fn put(&mut self, text: &mut String, row: &IntoRow) -> Result<(), AllocError> {
         put_into_row(text, row)?;
         if self.names {
             text.push(' ')?;
-            put_name_of_id(text, self.graph, row.source)?;
+            put_name_of_id(text, self.places.graph(), row.source)?;
             text.push(' ')?;
-            put_place_of_slot(text, self.graph, row.source, row.slot)?;
+            self.places.put_by_id(text, row.source, row.slot)?;
         }
         Ok(())
     }
@@ -83,7 +84,7 @@ impl LineFormat for RootLines<'_> {
 
     ghost line = { λ lines row. root_line lines.graph.now lines.names row };
 
-    fn put(&self, text: &mut String, row: &RootRow) -> Result<(), AllocError> {
+    fn put(&mut self, text: &mut String, row: &RootRow) -> Result<(), AllocError> {
         put_root_row(text, row)?;
         if self.names {
             text.push(' ')?;
@@ -109,7 +110,7 @@ impl LineFormat for IdLines<'_> {
 
     ghost line = { λ lines id. id_line lines.graph.now lines.names id };
 
-    fn put(&self, text: &mut String, row: &u64) -> Result<(), AllocError> {
+    fn put(&mut self, text: &mut String, row: &u64) -> Result<(), AllocError> {
         put_id(text, *row)?;
         if self.names {
             text.push(' ')?;

@@ -3,10 +3,10 @@ ghost use Rattle.std.specs.Prelude.{◌≡◌, ◌<◌, Some, All, length, map, 
 ghost use Rattle.std.specs.List.{flat_map};
 ghost use Rattle.hd_terms.specs.Dump.{object_at};
 ghost use Rattle.hd_terms.specs.IntoRows.{into_rows};
-ghost use Rattle.hd_terms.specs.Listed.{AreFallen, AreMembers};
+ghost use Rattle.hd_terms.specs.Listed.{first_items, AreFallen, AreMembers};
 ghost use Rattle.hd_terms.specs.RootRows.{root_rows};
 ghost use Rattle.hd_terms.specs.SlotRows.{slot_rows};
-ghost use Rattle.hd_lines.specs.Replies.{AnswersChain, AnswersClasses, AnswersIds, AnswersMoved, AnswersObject, AnswersTop, IsFreed, total_line, answered, first_lines, into_line, log_lines, root_line, slot_line, with_newline};
+ghost use Rattle.hd_lines.specs.Replies.{AnswersChain, AnswersClasses, AnswersIds, AnswersMoved, AnswersObject, AnswersTop, IsFreed, total_line, answered, into_line, log_lines, root_line, slot_line, with_newline};
 ghost use Rattle.hd_queries.specs.ChainFound.{IsWithin};
 ghost use Rattle.hd_analyst.specs.ChainLines.{lines_of};
 ghost use Rattle.hd_analyst.specs.EventRows.{event_rows};
@@ -15,6 +15,7 @@ ghost use Rattle.hd_analyst.specs.Replying.{IsWritten};
 use crate::class_lines::ClassLines;
 use crate::link_lines::{LinkLines, start_text};
 use crate::object_lines::{ObjectLines, ObjectRow};
+use crate::places::Places;
 use crate::row_lines::{IdLines, IntoLines, RootLines, SlotLines};
 use hd_graph::Graph;
 use hd_log::Front;
@@ -43,15 +44,15 @@ pub(crate) fn slots_text(
     showing: Showing,
 ) -> Result<String, NoMemory>
     requires { object < length state.now.dump.objects }
-    ensures { IfOk result (λ text. string_bytes text ≡ answered (first_lines showing.most (map (slot_line state.now.dump showing.names object) (slot_rows state.now.dump state.now.log (object_at state.now.dump object))))) }
+    ensures { IfOk result (λ text. string_bytes text ≡ answered (first_items showing.most (map (slot_line state.now.dump showing.names object) (slot_rows state.now.dump state.now.log (object_at state.now.dump object))))) }
 {
     let rows = state.slots(alloc, object)?;
-    let format = SlotLines {
-        graph: state.graph(),
+    let mut format = SlotLines {
+        places: Places::new(state.graph()),
         names: showing.names,
         object,
     };
-    let text = lines_text(alloc, &format, rows.as_slice(), showing.most)?;
+    let text = lines_text(alloc, &mut format, rows.as_slice(), showing.most)?;
     Ok(text)
 }
 
@@ -63,27 +64,27 @@ pub(crate) fn into_text(
     showing: Showing,
 ) -> Result<String, NoMemory>
     requires { object < length state.now.dump.objects }
-    ensures { IfOk result (λ text. string_bytes text ≡ answered (first_lines showing.most (map (into_line state.now.dump showing.names) (into_rows state.now.dump state.now.log object)))) }
+    ensures { IfOk result (λ text. string_bytes text ≡ answered (first_items showing.most (map (into_line state.now.dump showing.names) (into_rows state.now.dump state.now.log object)))) }
 {
     let rows = state.into(alloc, object)?;
-    let format = IntoLines {
-        graph: state.graph(),
+    let mut format = IntoLines {
+        places: Places::new(state.graph()),
         names: showing.names,
     };
-    let text = lines_text(alloc, &format, rows.as_slice(), showing.most)?;
+    let text = lines_text(alloc, &mut format, rows.as_slice(), showing.most)?;
     Ok(text)
 }
 
 /// The answer to `roots`: `ok N`, and a line for each root of the dump and each that a live edit adds.
 pub(crate) fn roots_text(alloc: Global, state: &State, showing: Showing) -> Result<String, NoMemory>
-    ensures { IfOk result (λ text. string_bytes text ≡ answered (first_lines showing.most (map (root_line state.now.dump showing.names) (root_rows state.now.dump state.now.log)))) }
+    ensures { IfOk result (λ text. string_bytes text ≡ answered (first_items showing.most (map (root_line state.now.dump showing.names) (root_rows state.now.dump state.now.log)))) }
 {
     let rows = state.roots(alloc)?;
-    let format = RootLines {
+    let mut format = RootLines {
         graph: state.graph(),
         names: showing.names,
     };
-    let text = lines_text(alloc, &format, rows.as_slice(), showing.most)?;
+    let text = lines_text(alloc, &mut format, rows.as_slice(), showing.most)?;
     Ok(text)
 }
 
@@ -104,11 +105,11 @@ pub(crate) fn chain_text(
             Ok(text)
         }
         None => {
-            let format = LinkLines {
-                graph: state.graph(),
+            let mut format = LinkLines {
+                places: Places::new(state.graph()),
                 names: showing.names,
             };
-            let text = lines_text(alloc, &format, &[], showing.most)?;
+            let text = lines_text(alloc, &mut format, &[], showing.most)?;
             Ok(text)
         }
     }
@@ -123,17 +124,17 @@ fn found_text(
 ) -> Result<String, AllocError>
     requires start { chain.now.start < length graph.now.objects }
     requires within { All (IsWithin (length graph.now.objects)) chain.now.links.items }
-    ensures { IfOk result (λ text. string_bytes text ≡ answered (first_lines showing.most (lines_of graph.now showing.names chain.now))) }
+    ensures { IfOk result (λ text. string_bytes text ≡ answered (first_items showing.most (lines_of graph.now showing.names chain.now))) }
 {
     let start = start_text(alloc, graph, showing.names, chain)?;
-    let format = LinkLines {
-        graph,
+    let mut format = LinkLines {
+        places: Places::new(graph),
         names: showing.names,
     };
     lines_text_from(
         alloc,
         start.as_str(),
-        &format,
+        &mut format,
         chain.links.as_slice(),
         showing.most,
     )
@@ -149,10 +150,10 @@ pub(crate) fn classes_text(
     ensures { IfOk result (λ text. IsWritten (AnswersClasses state.now.dump state.now.log strength) showing.most (string_bytes text)) }
 {
     let rows = state.classes(alloc, strength)?;
-    let format = ClassLines {
+    let mut format = ClassLines {
         graph: state.graph(),
     };
-    let text = lines_text(alloc, &format, rows.as_slice(), showing.most)?;
+    let text = lines_text(alloc, &mut format, rows.as_slice(), showing.most)?;
     Ok(text)
 }
 
@@ -167,11 +168,11 @@ pub(crate) fn members_text(
     ensures { IfOk result (λ text. IsWritten (AnswersIds state.now.dump showing.names (AreMembers state.now.dump state.now.log group strength)) showing.most (string_bytes text)) }
 {
     let ids = state.members(alloc, group, strength, showing.most)?;
-    let format = IdLines {
+    let mut format = IdLines {
         graph: state.graph(),
         names: showing.names,
     };
-    let text = lines_text(alloc, &format, ids.as_slice(), showing.most)?;
+    let text = lines_text(alloc, &mut format, ids.as_slice(), showing.most)?;
     Ok(text)
 }
 
@@ -186,11 +187,11 @@ pub(crate) fn fell_text(
     ensures { IfOk result (λ text. IsWritten (AnswersIds state.now.dump showing.names (AreFallen state.now.dump mark.now.log state.now.log)) showing.most (string_bytes text)) }
 {
     let ids = state.fell(alloc, mark, showing.most)?;
-    let format = IdLines {
+    let mut format = IdLines {
         graph: state.graph(),
         names: showing.names,
     };
-    let text = lines_text(alloc, &format, ids.as_slice(), showing.most)?;
+    let text = lines_text(alloc, &mut format, ids.as_slice(), showing.most)?;
     Ok(text)
 }
 
@@ -208,10 +209,10 @@ pub(crate) fn object_text(
         object,
         strength: state.strength(object),
     };
-    let format = ObjectLines {
+    let mut format = ObjectLines {
         graph: state.graph(),
     };
-    let text = lines_text(alloc, &format, &[row], showing.most)?;
+    let text = lines_text(alloc, &mut format, &[row], showing.most)?;
     Ok(text)
 }
 
@@ -225,10 +226,10 @@ pub(crate) fn top_text(
     ensures { IfOk result (λ text. IsWritten (AnswersTop state.now.dump state.now.log strength) showing.most (string_bytes text)) }
 {
     let rows = state.top(alloc, strength)?;
-    let format = ClassLines {
+    let mut format = ClassLines {
         graph: state.graph(),
     };
-    let text = lines_text(alloc, &format, rows.as_slice(), showing.most)?;
+    let text = lines_text(alloc, &mut format, rows.as_slice(), showing.most)?;
     Ok(text)
 }
 
@@ -257,13 +258,13 @@ pub(crate) fn freed_text(
 {
     let freed = state.freed(alloc, mark)?;
     let start = total_text(alloc, freed.total.count, freed.total.bytes)?;
-    let format = ClassLines {
+    let mut format = ClassLines {
         graph: state.graph(),
     };
     let text = lines_text_from(
         alloc,
         start.as_str(),
-        &format,
+        &mut format,
         freed.rows.as_slice(),
         showing.most,
     )?;
@@ -281,7 +282,7 @@ pub(crate) fn moved_text(
     ensures { IfOk result (λ text. IsWritten (AnswersMoved state.now.dump state.now.log (Some mark.now.log)) showing.most (string_bytes text)) }
 {
     let rows = state.moved(alloc, mark)?;
-    let text = lines_text(alloc, &MovedLines, rows.as_slice(), showing.most)?;
+    let text = lines_text(alloc, &mut MovedLines, rows.as_slice(), showing.most)?;
     Ok(text)
 }
 
@@ -307,10 +308,10 @@ pub(crate) fn events_text(
     state: &State,
     showing: Showing,
 ) -> Result<String, NoMemory>
-    ensures { IfOk result (λ text. string_bytes text ≡ answered (first_lines showing.most (log_lines state.now.log))) }
+    ensures { IfOk result (λ text. string_bytes text ≡ answered (first_items showing.most (log_lines state.now.log))) }
 {
     let rows = event_rows(alloc, state.front())?;
-    let text = lines_text(alloc, &EventLines, rows.as_slice(), showing.most)?;
+    let text = lines_text(alloc, &mut EventLines, rows.as_slice(), showing.most)?;
     Ok(text)
 }
 
@@ -324,6 +325,6 @@ pub fn log_text(alloc: Global, front: &Front) -> Result<String, NoMemory>
 {
     let rows = event_rows(alloc, front)?;
     let mut text = String::new(alloc);
-    put_lines(&mut text, &EventLines, rows.as_slice())?;
+    put_lines(&mut text, &mut EventLines, rows.as_slice())?;
     Ok(text)
 }

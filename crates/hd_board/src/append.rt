@@ -24,7 +24,8 @@ pub fn is_found(first: u8, count: u8, who: u8, seen: &Front, log: &Front) -> boo
     is_member(first, count, who) && log.continues(seen, who)
 }
 
-/// Appends an event to a log, on a board of `count` desks numbered from `first` on, over a dump of `roots` roots. The analyst has seen an earlier log. The answer is the log with the event; a refusal leaves the log.
+/// Appends an event to a log, on a board of `count` desks numbered from `first` on, over a dump of `roots` roots. The analyst has
+/// seen an earlier log. The answer is the log with the event; a refusal leaves the log.
 ///
 /// # Errors
 ///

@@ -178,7 +178,7 @@ fn closed_with_some<R: Abort + RandomSource + Threads + Sync>(
     let some = desks
         .as_slice()
         .get(..n)
-        .expect(rt, "there are so many desks");
+        .expect(rt, "the board has these desks");
     closed(board, some)
 }
 

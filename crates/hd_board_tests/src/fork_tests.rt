@@ -72,7 +72,7 @@ fn closed_from<R: Abort + RandomSource + Threads + Wait + Sync>(
     let some = desks
         .as_slice()
         .get(first..)
-        .expect(rt, "there are so many desks");
+        .expect(rt, "the board has these desks");
     closed(private, some)
 }
 

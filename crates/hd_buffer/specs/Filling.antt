@@ -16,9 +16,9 @@ module _ {F : Type 0} (g : Shared F (ℕ × (MutBor (List ℕ) × Unit {0})) (Un
     no_run : FilledFrom start []
     one_more : (xs ys : List ℕ) → FilledFrom start xs → ChangesAt g f (start + length xs) (replicate (length ys) 0) ys → FilledFrom start (xs ++ ys)
 
-  -- so many bytes more, directly after those that were there, each run of them filled by a call of f
+  -- `count` bytes more, directly after those that were there, each run of them filled by a call of f
   pub record FillsNext (count : ℕ) (before after : List ℕ) : Type 0 where
     pub added : List ℕ
     pub are_added : after ≡ before ++ added
-    pub so_many : length added ≡ count
+    pub counted : length added ≡ count
     pub by_calls : FilledFrom (length before) added

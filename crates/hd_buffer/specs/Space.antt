@@ -18,6 +18,6 @@ pub record Extent : Type 0 where
 abbrev pub extent_code : Coded Extent
 extent_code = code_by (Ptr × ℕ) (coded× coded_ptr coded_ℕ) (λ e. (e.ptr, e.capacity)) (λ p. record { ptr = p.0; capacity = p.1 }) (λ _. refl)
 
--- xs lie at p, and directly after them is room for what is left of so many bytes
+-- xs lie at p, and directly after them is room for what is left of `capacity` bytes
 abbrev pub space_owns : Ptr → ℕ → List ℕ → Fml
 space_owns p capacity xs = fsep (lies_at (Array u8 (length xs)) full_share p xs) (room_for (ty_array (ty_int w8) (capacity - length xs)) (p +ₚ length xs))

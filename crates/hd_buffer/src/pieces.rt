@@ -13,7 +13,7 @@ pub(crate) fn split(mut piece: Piece, mid: usize) -> (Piece, Piece)
 {
     let capacity = piece.capacity();
     let ptr = piece.as_mut_ptr();
-    // SAFETY: the piece has at least so many bytes.
+    // SAFETY: the piece has at least `mid` bytes.
     let next = unsafe { ptr.byte_add(mid) };
     let (first, second) = vacate(piece).split(mid);
     (

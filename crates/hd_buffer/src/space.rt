@@ -12,7 +12,7 @@ use std_alloc::vec::{Lodged, lodge};
 /// A `Vec` over memory that another value owns. It neither grows nor frees it.
 pub(crate) type Piece = Vec<u8, Lodged>;
 
-/// The right to so many bytes of memory, the first of which have values.
+/// The right to `capacity` bytes of memory at `ptr`, the first of which have the values `items`.
 pub(crate) struct Space {
     ghost ptr: { Ptr },
     ghost capacity: { ℕ },

@@ -110,7 +110,7 @@ keep-bytes size k sums i n h is = record {
 pub class-by-number : (size : IdSize) (k : Known) (i : ℕ) (x : ResolvedClass) → known_by_number k i ≡ Some x → layout_len size x.layout ≡ length_by_number size k i
 class-by-number size k i x is = ap (λ (o : Option ResolvedClass). option_map_or (λ (y : ResolvedClass). layout_len size y.layout) o 0) (sym is)
 
--- values of so many bytes, where the class of an ID has a number
+-- values of `n` bytes, where the class of an ID has a number
 pub fits-class : (size : IdSize) (k : Known) (id i len n : ℕ) → number_of k id ≡ Some i → n ≡ length_by_number size k i → n ≡ len → FitsClass size len (known_at k id) (known_by_number k i)
 fits-class size k id i len n number bytes same =
     let is = at-number k i (number-within k id i number) in

@@ -28,14 +28,14 @@ pub record IsMisfit (size : IdSize) (len : ℕ) (known : Option ResolvedClass) :
   pub is : known ≡ Some k
   pub other : len ≢ length_of size k
 
--- a class of an ID is known by a number, and its instances have values of so many bytes
+-- a class of an ID is known by a number, and its instances have values of `len` bytes
 pub record FitsClass (size : IdSize) (len : ℕ) (known by_number : Option ResolvedClass) : Type 0 where
   pub k : ResolvedClass
   pub is : known ≡ Some k
   pub numbered : by_number ≡ Some k
   pub same : len ≡ length_of size k
 
--- so many bytes of values fit the class of an ID so
+-- how `len` bytes of values fit the class of an ID
 abbrev pub IsFit : IdSize → ℕ → Known → ℕ → Fit → Type 0
 IsFit size len classes id fits.Unknown = known_at classes id ≡ None
 IsFit size len classes id fits.Misfit = IsMisfit size len (known_at classes id)

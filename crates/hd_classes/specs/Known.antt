@@ -75,6 +75,6 @@ pub record AreClassesOf (t : ClassTable) (k : Known) : Type 0 where
 abbrev pub IsClassFaultOrMemory : ClassTable → List Sub → ReadFault → Type 0
 IsClassFaultOrMemory t list f = (f ≡ fault causes.OutOfMemory 0) ⊎ (slice_get (class_faults t list) 0 ≡ Some f)
 
--- a text lies in a file of so many bytes
+-- a text lies in a file of `n` bytes
 abbrev pub IsTextWithin : ℕ → Text → Type 0
 IsTextWithin n x = x.text.start + x.text.len ≤ n

@@ -31,12 +31,12 @@ is_on_side odd id = if odd then id / 8 % 2 == 1 else not (id / 8 % 2 == 1)
 abbrev pub texts_of_side : Bool → List Text → List Text
 texts_of_side odd strings = filter (λ (x : Text). is_on_side odd x.id) strings
 
--- these are the first texts of a side, and so many of this side have the ID of an earlier one
+-- these are the first texts of a side, and `repeated` of this side have the ID of an earlier one
 pub record AreFirstOfSide (odd : Bool) (strings : List Text) (entries : List (ℕ × Span)) (repeated : ℕ) : Type 0 where
   pub texts : HasFirstTexts (texts_of_side odd strings) entries
   pub count : repeated ≡ repeats (λ (x : Text). x.id) (texts_of_side odd strings)
 
--- these are the first texts, and so many have the ID of an earlier one
+-- these are the first texts, and `repeated` of them all have the ID of an earlier one
 pub record AreFirstTexts (strings : List Text) (first : FirstTexts) : Type 0 where
   pub texts : HasFirstTexts strings first.texts
   pub repeated : first.repeated ≡ repeats (λ (x : Text). x.id) strings

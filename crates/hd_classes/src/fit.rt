@@ -159,7 +159,7 @@ impl<'a> LayoutBytes<'a> {
         Some(bytes)
     }
 
-    /// How so many bytes of values fit the layout of the class of an ID.
+    /// How `len` bytes of values fit the layout of the class of an ID.
     #[inline(always)]
     pub fn fit(&mut self, class: u64, len: u64) -> Fit
         ensures fit { IsFit self.old.size len self.old.classes class result }

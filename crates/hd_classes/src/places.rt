@@ -9,7 +9,7 @@ use crate::layout::Layout;
 use hd_terms::{IdSize, is_id_type, value_len};
 use std::alloc::{AllocError, Global};
 
-/// Of each of so many classes that no places were noted.
+/// Of each of `classes` classes that no places were noted.
 pub(crate) fn no_places(alloc: Global, classes: usize) -> Result<Vec<Option<Vec<u32>>>, AllocError>
     ensures { IfOk result (λ places. places.items ≡ replicate classes None) }
 {

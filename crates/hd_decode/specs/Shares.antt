@@ -27,13 +27,13 @@ pub record AreShares (spans : List Span) (workers : ℕ) (shares : List (Bor (Li
   pub many : length shares ≡ workers
   pub all : shared shares ≡ spans
 
--- the longest front of segments whose middles lie within so many bytes
+-- the longest front of segments whose middles lie within `bytes` bytes
 pub record IsLongestFront (spans : List Span) (bytes : ℕ) (front : List Span) : Type 0 where
   pub is : front ≡ take (length front) spans
   pub within : (i : ℕ) → i < length front → middle spans i ≤ bytes
   pub longest : length front < length spans → bytes < middle spans (length front)
 
--- the share of a worker with so many others behind it: the last has all segments; one before others has the longest front
+-- the share of a worker with others behind it, by how many these are: the last has all segments; one before others has the longest front
 -- whose middles lie within its part of the bytes, which is as large as each of theirs
 abbrev pub IsFirstShare : List Span → ℕ → List Span → Type 0
 IsFirstShare spans zero share = share ≡ spans

@@ -18,7 +18,7 @@ fn bytes_of(spans: &[Span]) -> u64
     bytes
 }
 
-/// How many segments at the front make a share of about so many bytes: those whose middles lie within it.
+/// How many segments at the front make a share of about `bytes` bytes: those whose middles lie within it.
 fn share_len(spans: &[Span], bytes: u64) -> usize
     requires { span_total spans.now ≤ 2147483647 }
     ensures within { result ≤ length spans.now }

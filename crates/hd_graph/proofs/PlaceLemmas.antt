@@ -21,7 +21,7 @@ use Rattle.hd_graph.proofs.LayoutLemmas.{placed-few}
 abbrev ids_at : List ℕ → IdSize → ℕ → List ℕ → List ℕ
 ids_at bytes size start places = map (λ (place : ℕ). id_at bytes size (start + place)) places
 
--- a place behind an offset has an ID that lies in a file of so many bytes
+-- a place behind an offset has an ID that lies in a file of `n` bytes
 abbrev IsPlaceWithin : IdSize → ℕ → ℕ → ℕ → Type 0
 IsPlaceWithin size n start place = IsIdWithin size n (start + place)
 

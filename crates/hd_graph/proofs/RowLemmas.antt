@@ -231,7 +231,7 @@ pub weight-at : (list : List Sub) (i : ℕ) (s : Sub) → slice_get list i ≡ S
 weight-at list i s is =
     omega (arith, sum_by-append (λ (x : Sub). item_weight x.item) (take (i + 1) list) (drop (i + 1) list), ap weight (take-append-drop (i + 1) list), ap weight (take-next list i s is), weight-push (take i list) s)
 
--- of so many IDs that stand one after another the first were added, and those that are left lie from an offset on
+-- of `count` IDs that stand one after another the first were added, and those that are left lie from an offset on
 pub record AreIdsPushed (first : Table) (start count i : ℕ) (now : Table) (offset : ℕ) : Type 0 where
   pub table : now ≡ record first { filling = now.filling; count = first.count + i }
   pub ids : now.filling ++ ids_in (id_len first.size) (count - i) (drop offset first.bytes) ≡ first.filling ++ ids_in (id_len first.size) count (drop start first.bytes)

@@ -21,7 +21,7 @@ use Rattle.hd_classes.specs.Firsts.{firsts}
 use Rattle.hd_classes.specs.Known.{Known, known_by_number}
 use Rattle.hd_slots.specs.Table.{id_at, HasIdAt}
 
--- so many IDs that stand one after another
+-- `count` IDs of `n` bytes that stand one after another
 abbrev pub ids_in : ℕ → ℕ → List ℕ → List ℕ
 ids_in n zero bytes = []
 ids_in n (suc count) bytes = big_number n bytes ∷ ids_in n count (drop n bytes)
@@ -97,7 +97,7 @@ layout_shape size k = Instance (layout_len size k.layout) (layout_names k.layout
 abbrev pub ObjectEntry : Type 0
 ObjectEntry = ℕ × List ℕ × ObjectShape
 
--- the class by whose layout so many bytes of values are read
+-- the class by whose layout `len` bytes of values are read
 abbrev pub fitting : IdSize → ℕ → Option ResolvedClass → Option ResolvedClass
 fitting size len k = option_and_then (λ (x : ResolvedClass). if len == layout_len size x.layout then Some x else None) k
 
@@ -157,7 +157,7 @@ item_weight (PrimArray id element count) = 1 + count * element_len element
 abbrev pub weight : List Sub → ℕ
 weight list = sum_by (λ (s : Sub). item_weight s.item) list
 
--- a value lies in a file of so many bytes, and has those of its type
+-- a value lies in a file of `n` bytes, and has those of its type
 pub record IsValueWithin (size : IdSize) (n : ℕ) (v : ℕ × Span) : Type 0 where
   pub within : v.1.start + v.1.len ≤ n
   pub typed : v.1.len ≡ value_len size v.0

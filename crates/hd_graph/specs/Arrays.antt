@@ -11,7 +11,7 @@ row_slots i [] = []
 row_slots i (id ∷ []) = strong_slot slots.OfClass id ∷ []
 row_slots i (id ∷ next ∷ rest) = strong_slot (slots.Element i) id ∷ row_slots (i + 1) (next ∷ rest)
 
--- the index of a slot in a row of so many IDs: an element's is its number, the class stands last, and no row has another
+-- the index of a slot in a row of `n` IDs: an element's is its number, the class stands last, and no row has another
 abbrev pub row_index : ℕ → Slot → Option ℕ
 row_index n (slots.Field i) = None
 row_index n (slots.Element i) = if nat_lt i (n - 1) then Some i else None

@@ -78,7 +78,7 @@ pub record HasAllRows (known : KnownClasses) (bytes : List ℕ) (size : IdSize) 
   pub filled : t.filling ≡ []
   pub few : t.count ≤ weight list
 
--- so many of a list, from an index on
+-- `count` items of a list, from the index `first` on
 abbrev pub stretch : {X : Type 0} → ℕ → ℕ → List X → List X
 stretch first count list = take count (drop first list)
 

@@ -67,7 +67,7 @@ pub record AreKindsBetween (objects : List Object) (start end : ℕ) (lists : Ki
   pub edges : (k : RefKind) → AreKept objects (kept_of lists k) (of_kind k (edges_between objects start end))
   pub few : (k : RefKind) → length (kept_of lists k) + start ≤ end
 
--- the number of the first object of a part, where so many objects are cut into four; of part 4 it is their count
+-- the number of the first object of a part, where `n` objects are cut into four; of part 4 it is their count
 abbrev pub part_start : ℕ → ℕ → ℕ
 part_start n part = n * part / 4
 

@@ -42,7 +42,7 @@ shape_slots (PrimitiveArray element bytes) row = row_slots 0 row
 shape_slots (ClassObject bytes names) row = named_slots names row
 shape_slots (Instance bytes names referent kind) row = map (with_kind referent kind) (named_slots names row)
 
--- the name of the slot at an index of an object with so many: the last of an array is its class
+-- the name of the slot at the index `i` of an object with `n` slots: the last of an array is its class
 abbrev pub slot_name : ObjectShape → ℕ → ℕ → Slot
 slot_name (ObjectArray bytes) n i = if i == n - 1 then slots.OfClass else slots.Element i
 slot_name (PrimitiveArray element bytes) n i = if i == n - 1 then slots.OfClass else slots.Element i
@@ -70,7 +70,7 @@ HasFewNames (PrimitiveArray element bytes) = Unit {0}
 HasFewNames (ClassObject bytes names) = length names < 2 ^ 32
 HasFewNames (Instance bytes names referent kind) = length names < 2 ^ 32
 
--- the index of a slot in an object with so many
+-- the index of a slot in an object with `n` slots
 abbrev pub shape_index : ObjectShape → ℕ → Slot → Option ℕ
 shape_index (ObjectArray bytes) n slot = row_index n slot
 shape_index (PrimitiveArray element bytes) n slot = row_index n slot

@@ -9,7 +9,7 @@ use hd_slots::UnresolvedSlots;
 use hd_terms::{Span, element_len};
 use std::alloc::AllocError;
 
-/// Adds so many IDs that stand one after another from a file offset on to the row that is being filled.
+/// Adds `count` IDs that stand one after another from a file offset on to the row that is being filled.
 fn push_ids(slot_table: &mut UnresolvedSlots<'_>, start: u64, count: u32) -> Result<(), AllocError>
     requires within { start + id_len slot_table.old.size * count ≤ length slot_table.old.bytes }
     requires room { length slot_table.old.ids + slot_table.old.count + count < 2 ^ 32 - 1 }
@@ -49,7 +49,7 @@ pub(crate) fn push_array(
     Ok(())
 }
 
-/// The recorded bytes of a primitive array of so many elements of a type.
+/// The recorded bytes of a primitive array of `count` elements of a type.
 pub(crate) fn bytes_of_elements(element: u8, count: u32) -> u32
     requires { count * element_len element < 2 ^ 32 }
     ensures { result ≡ count * element_len element }

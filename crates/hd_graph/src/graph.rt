@@ -97,7 +97,7 @@ pub struct RootRead {
     pub object: Option<u32>,
 }
 
-/// The index of a slot in a row of so many IDs, if the row has it: elements first, then the class.
+/// The index of a slot in a row of `len` IDs, if the row has it: elements first, then the class.
 fn index_in_row(len: u32, slot: Slot) -> Option<u32>
     ensures { result ≡ row_index len slot }
 {
@@ -122,7 +122,7 @@ fn index_among(names: &[Slot], slot: Slot) -> Option<u32>
     None
 }
 
-/// The name of the slot at an index of an object with so many.
+/// The name of the slot at the index `i` of an object with `len` slots.
 fn slot_at(shape: Shape<'_>, len: u32, i: u32) -> Slot
     requires index { i < len }
     requires named { IsNamedAt (shape_view shape) i }
@@ -136,7 +136,7 @@ fn slot_at(shape: Shape<'_>, len: u32, i: u32) -> Slot
     }
 }
 
-/// The index of a slot among those of an object with so many, if it has the slot.
+/// The index of a slot among the `len` slots of an object, if it has the slot.
 pub(crate) fn index_in(shape: Shape<'_>, len: u32, slot: Slot) -> Option<u32>
     requires { HasFewNames (shape_view shape) }
     ensures { result ≡ shape_index (shape_view shape.entry) len slot }

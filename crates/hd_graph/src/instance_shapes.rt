@@ -11,7 +11,7 @@ use hd_shapes::Shapes;
 use hd_terms::Span;
 use std::alloc::{AllocError, Global};
 
-/// Adds the shape of an instance of the class of a number, whose values have so many bytes. The shape that the instances of a
+/// Adds the shape of an instance of the class of a number, whose values have `bytes` bytes. The shape that the instances of a
 /// class share is made with the first.
 #[inline(always)]
 fn push_shape(

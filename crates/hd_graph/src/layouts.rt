@@ -42,7 +42,7 @@ fn names_of_layout(alloc: Global, layout: Layout<'_>) -> Result<Vec<Slot>, Alloc
     Ok(names)
 }
 
-/// The shape of the instances of the class of a number, whose values have so many bytes.
+/// The shape of the instances of the class of a number, whose values have `bytes` bytes.
 pub(crate) fn shape_of_class(
     alloc: Global,
     layouts: &LayoutBytes<'_>,

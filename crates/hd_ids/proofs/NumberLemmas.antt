@@ -53,7 +53,7 @@ by-row scattered b place e = rw e refl
 pub read-block : (blocks : List Block) (i : ℕ) (b : Block) → i < length blocks → b ≡ get_or blocks i b → b ≡ block_at blocks i
 read-block blocks i b lt e = e ∙ get_or_default blocks i b no_numbers lt
 
--- a block in which a number is written stands in place of another
+-- a block in which a number is written stands instead of another
 module _ (blocks : List Block) (scattered : List ℕ) (slot n : ℕ) (b : Block) (lt : slot < length blocks * 32) (is : IsBlockWith (block_at blocks (slot / 32)) (slot % 32) n b) where
   abbrev i : ℕ
   i = slot / 32

@@ -84,7 +84,7 @@ impl<'a> Model for Guesser<'a> {
 }
 
 impl<'a> Guesser<'a> {
-    /// Finds the IDs of these parts, which have so many up to the end of each, by these guesses.
+    /// Finds the IDs of these parts by these guesses. The ends say how many IDs there are up to the end of each part.
     pub(crate) fn new(
         directory: &'a Directory,
         first: IdsByRow<'a>,

@@ -41,7 +41,7 @@ impl Model for ObjectIds {
 }
 
 impl ObjectIds {
-    /// No IDs yet, with room for so many. The secret is a random number that who makes a dump can't know: without it,
+    /// No IDs yet, with room for `room` of them. The secret is a random number that who makes a dump can't know: without it,
     /// IDs can be made that are slow to find. No answer depends on it.
     pub fn with_capacity(alloc: Global, room: usize, secret: u64) -> Result<ObjectIds, AllocError>
         ensures { IfOk result (λ ids. ids ≡ []) }

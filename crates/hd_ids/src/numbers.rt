@@ -95,7 +95,7 @@ fn scatter(
 }
 
 impl Numbers {
-    /// No row yet, and room for so many places, where the system has it, so that the list needn't move as it grows. Room that isn't
+    /// No row yet, and room for `places` places, where the system has it, so that the list needn't move as it grows. Room that isn't
     /// touched takes no memory.
     pub(crate) fn with_room(alloc: Global, places: usize) -> Numbers
         ensures { result ≡ [] }

@@ -66,7 +66,7 @@ impl Model for PagedIds {
 }
 
 impl PagedIds {
-    /// No IDs yet, with room for so many in their list, and no rows. Where the system has it, there is room for the rows of so many.
+    /// No IDs yet, with room for `room` of them in their list, and no rows. Where the system has it, there is room for their rows.
     pub(crate) fn with_capacity(
         alloc: Global,
         room: usize,
@@ -75,7 +75,7 @@ impl PagedIds {
         ensures { IfOk result (λ ids. ids ≡ []) }
     {
         let slots = Vec::with_capacity(alloc, room)?;
-        // As many as `note` lets the rows have where there are so many IDs.
+        // As many as `note` lets the rows of `room` IDs have.
         let most_numbers = room.saturating_mul(8).saturating_add(1 << 16);
         let numbers = Numbers::with_room(alloc, most_numbers);
         Ok(PagedIds {

@@ -32,7 +32,7 @@ impl Model for PlainIds {
 }
 
 impl PlainIds {
-    /// No IDs yet, with room for so many.
+    /// No IDs yet, with room for `room` of them.
     pub(crate) fn with_capacity(
         alloc: Global,
         room: usize,

@@ -1,5 +1,6 @@
 -- Sessions of which the definitions leave one text, but for chains.
--- Source: this project. Which chain is shown is left open; so is when memory runs out or a log is foreign, and what others do beside a private part.
+-- Source: this project. Which chain is shown is left open; so is when memory runs out or a log is foreign, and what others do beside
+-- a private part.
 use Rattle.std.specs.Prelude.{◌≡◌, ℕ, Bool, List, [], ◌∷◌, Option, Result, Ok}
 use Rattle.std.specs.List.{AllByRecursion}
 use Rattle.hd_lines.specs.declared.commands.Command.{Command}

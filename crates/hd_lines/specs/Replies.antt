@@ -1,7 +1,7 @@
 -- The reply to a line: bytes that are a function of the dump, of logs and of the line, but for which chain is shown, and for
 -- replies that say that memory ran out or that a log is foreign.
 -- Source: this project's protocol (docs/PROTOCOL.md).
-use Rattle.std.specs.Prelude.{◌≡◌, ◌⊎◌, ◌≤◌, ℕ, false, Bool, not, if◌then◌else◌, List, [], ◌∷◌, ◌++◌, length, map, take, slice_get, codes, decimal, Option, Some, None, Result, Ok, Err}
+use Rattle.std.specs.Prelude.{◌≡◌, ◌⊎◌, ◌≤◌, ℕ, false, Bool, not, if◌then◌else◌, List, [], ◌∷◌, ◌++◌, length, map, slice_get, codes, decimal, Option, Some, None, Result, Ok, Err}
 use Rattle.std.specs.Option.{option_map}
 use Rattle.std.specs.List.{flat_map, enumerate_from}
 use Rattle.hd_terms.specs.declared.Strength.{Strength}
@@ -42,7 +42,7 @@ use Rattle.hd_terms.specs.Log.{is_live}
 use Rattle.hd_terms.specs.SlotRows.{slot_rows}
 use Rattle.hd_terms.specs.RootRows.{root_rows}
 use Rattle.hd_terms.specs.IntoRows.{into_rows}
-use Rattle.hd_terms.specs.Listed.{AreMembers, AreFallen, AreClassRows, AreTopRows, AreMovedRows, AreNamedGroups}
+use Rattle.hd_terms.specs.Listed.{first_items, AreMembers, AreFallen, AreClassRows, AreTopRows, AreMovedRows, AreNamedGroups}
 use Rattle.hd_lines.specs.Names.{id_text, group_text, group_name, name_at, name_of_id, slot_place, IsNamedWith, place_of_slot, with_columns}
 use Rattle.hd_lines.specs.Memory.{Memory, most_marks}
 use Rattle.hd_terms.specs.Fell.{Falls, FellCount}
@@ -274,14 +274,9 @@ event_line event fell back = codes "event " ++ decimal event ++ codes " fell " +
 abbrev pub Answer : Type 0
 Answer = Result (List (List ℕ)) Refusal
 
--- the first `n` of these lines, all without a number
-abbrev pub first_lines : Option ℕ → List (List ℕ) → List (List ℕ)
-first_lines None lines = lines
-first_lines (Some n) lines = take n lines
-
--- an answer as it is written
+-- the first `n` lines of an answer, all without a number, as they are written
 abbrev pub answer_text : (most : Option ℕ) → Answer → List ℕ
-answer_text most (Ok lines) = answered (first_lines most lines)
+answer_text most (Ok lines) = answered (first_items most lines)
 answer_text most (Err r) = refused (refusal_name r)
 
 -- no object has the ID; there is no mark of the number
@@ -402,8 +397,8 @@ abbrev pub RefusesBack : Option (List Event) → List ℕ → Type 0
 RefusesBack None reply = reply ≡ refused (refusal_name refusals.NotPrivate)
 RefusesBack (Some home) reply = ⊥
 
--- the reply to a command that changes nothing of what the session remembers, with the last word of its line. What an edit, an undo, a new mark, `names`, or the
--- beginning or end of a private part is answered isn't said here
+-- the reply to a command that changes nothing of what the session remembers, with the last word of its line. What an edit, an undo,
+-- a new mark, `names`, or the beginning or end of a private part is answered isn't said here
 abbrev pub RepliesTo : Dump → Memory → (text : List ℕ) → Result Command LineFault → List ℕ → Type 0
 RepliesTo dump m text (Err f) reply = reply ≡ refused (line_fault_name f)
 RepliesTo dump m text (Ok (commands.Ask most query)) reply = RepliesQuery dump m text most query reply

@@ -8,7 +8,7 @@ use Rattle.hd_terms.specs.Dump.{Dump}
 use Rattle.hd_terms.specs.Objects.{IsDumpOf}
 use Rattle.hd_lines.specs.Replies.{with_newline}
 use Rattle.hd_board.specs.Opening.{opened_board}
-use Rattle.hd_protocol.specs.Running.{IsOpenFault}
+use Rattle.hd_protocol.specs.Serving.{IsOpenFault}
 use Rattle.hd_server.specs.Logs.{PrintsLog}
 use Rattle.hd_program.specs.declared.server.ServerFault.{ServerFault}
 use Rattle.hd_program.specs.declared.server.ServerFault.TheVariants as server_faults

@@ -6,7 +6,7 @@ use Rattle.hd_terms.specs.declared.Mode.{Mode}
 use Rattle.hd_lines.specs.Replies.{with_newline}
 use Rattle.hd_protocol.specs.declared.run.RunFault.{RunFault}
 use Rattle.hd_protocol.specs.declared.run.RunFault.TheVariants as faults
-use Rattle.hd_protocol.specs.Running.{RunsDump}
+use Rattle.hd_protocol.specs.Serving.{RunsDump}
 use Rattle.hd_protocol.specs.Stating.{StatsDump}
 use Rattle.hd_program.specs.Listening.{EndsServer}
 use Rattle.hd_program.specs.declared.server.ServerFault.{ServerFault}

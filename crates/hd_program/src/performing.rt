@@ -5,7 +5,7 @@ ghost use Rattle.std.specs.Io.KnownBytes.{Appends, Keeps};
 ghost use Rattle.hd_terms.specs.Workers.{IsWorkers};
 ghost use Rattle.hd_terms.specs.declared.Mode.TheVariants.{Direct};
 ghost use Rattle.hd_protocol.specs.declared.run.RunFault.{RunFault};
-ghost use Rattle.hd_protocol.specs.Running.{RunsDump, RunsOver};
+ghost use Rattle.hd_protocol.specs.Serving.{RunsDump, RunsOver};
 ghost use Rattle.hd_program.specs.Performing.{server_status, status, version_text, Performs, RunsFile, RunsWords, FailsFirst, ServesOrFails};
 ghost use Rattle.hd_arguments.specs.Tasks.{IsAnalysts, TaskWorkers};
 

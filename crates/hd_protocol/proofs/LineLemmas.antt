@@ -11,7 +11,7 @@ use Rattle.hd_protocol.specs.declared.serving.ServeFault.{ServeFault}
 use Rattle.hd_protocol.specs.declared.serving.ServeFault.TheVariants as serve_faults
 use Rattle.hd_protocol.specs.declared.serving.Flow.{Flow}
 use Rattle.hd_protocol.specs.declared.serving.Flow.TheVariants as flows
-use Rattle.hd_protocol.specs.Serving.{EndsLine, RunsLine}
+use Rattle.hd_protocol.specs.Steps.{EndsLine, RunsLine}
 
 -- a line is run once its reply is written, or a front of it
 module _ (old new : Work) (line reply text : List ℕ) (reading : Result Command LineFault) (before after : Option (List ℕ)) (last : text ≡ last_word line) (read : reading ≡ command_of line) (h : IsAnswered old new text reading reply) where

@@ -6,7 +6,7 @@ use Rattle.std.proofs.lemmas.Bool.{cases_lt, lt-ltb}
 use Rattle.std.proofs.lemmas.List.{take-append-le}
 use Rattle.hd_lines.specs.declared.commands.LineFault.TheVariants as line_faults
 use Rattle.hd_lines.specs.Lines.{pieces, all_but_last, without_empty_end, whole_lines, lines_of, run_lines, is_quit, command_of, command_of_words, last_of, last_word, words_of}
-use Rattle.hd_protocol.specs.Serving.{last_piece, open_line, kept_of, NoneQuits}
+use Rattle.hd_protocol.specs.Steps.{last_piece, open_line, kept_of, NoneQuits}
 
 -- a list with a first
 record IsCons (ps : List (List ℕ)) : Type 0 where

@@ -14,8 +14,8 @@ use Rattle.hd_board.specs.Replicas.{Replica}
 use Rattle.hd_board.proofs.Numbers.{number_within}
 use Rattle.hd_protocol.specs.declared.serving.ServeFault.{ServeFault}
 use Rattle.hd_protocol.specs.declared.serving.ServeFault.TheVariants as faults
-use Rattle.hd_protocol.specs.Running.{ServesAlone}
-use Rattle.hd_protocol.specs.Serving.{RunsInput, Serves}
+use Rattle.hd_protocol.specs.Serving.{Serves, ServesAlone}
+use Rattle.hd_protocol.specs.Steps.{RunsInput}
 use Rattle.hd_analyst.specs.Work.{Work, work_begun}
 use Rattle.hd_protocol.proofs.Alone.{OnlyBy, only_front, alone}
 

@@ -15,7 +15,8 @@ use Rattle.hd_protocol.specs.declared.serving.ServeFault.TheVariants as faults
 use Rattle.hd_protocol.specs.declared.serving.Flow.{Flow}
 use Rattle.hd_protocol.specs.declared.serving.Flow.TheVariants as flows
 use Rattle.hd_analyst.specs.Answering.{IsAnswered}
-use Rattle.hd_protocol.specs.Serving.{open_line, kept_of, IsAnsweredSoFar, Midway, midway, IsLeft, IsOpen, OfBytes, ServedFrom, ServedUntilReadFrom, ServedUntilWriteFrom, Stands, RunsBytes, RunsLine, StandsAtEnd, RunsEnd, RunsInput, ServesFrom}
+use Rattle.hd_protocol.specs.Serving.{IsLeft, OfBytes, ServedFrom, ServedUntilReadFrom, ServedUntilWriteFrom, ServesFrom}
+use Rattle.hd_protocol.specs.Steps.{open_line, kept_of, IsAnsweredSoFar, Midway, midway, IsOpen, Stands, RunsBytes, RunsLine, StandsAtEnd, RunsEnd, RunsInput}
 use Rattle.hd_protocol.proofs.Lines.{whole_lines-newline, open_line-newline, whole_lines-other, open_line-other, lines_of-none, lines_of-some, lines_of-newline, run_lines-all, run_lines-push, run_lines-quit, command_of-kept, last_word-kept, kept_of-push, kept_of-none, kept_of-some}
 use Rattle.hd_protocol.proofs.Turns.{answered_none, answered_push, all_push, last_turn, memory_with, reply_with, session_with}
 use Rattle.hd_protocol.proofs.Writing.{appends_nil, appends_both, appends_kept, consumes_nil, consumes_both, consumes_kept}

@@ -7,7 +7,7 @@ use Rattle.hd_lines.specs.Lines.{command_of, last_word}
 use Rattle.hd_lines.specs.Memory.{Memory}
 use Rattle.hd_lines.specs.Sessions.{Analyst, Turn, IsLater, IsRefreshed, IsTurn, IsSession, IsSessionOver, memory_after, replies}
 use Rattle.hd_analyst.specs.Answering.{IsAnswered, turn_of}
-use Rattle.hd_protocol.specs.Serving.{IsAnsweredSoFar}
+use Rattle.hd_protocol.specs.Steps.{IsAnsweredSoFar}
 use Rattle.hd_analyst.specs.Work.{Work}
 
 -- one more turn

@@ -1,3 +1,3 @@
 pub mod Serving
-pub mod Running
+pub mod Steps
 pub mod Stating

@@ -1,40 +1,23 @@
--- What serving does: to a beginning of the input, and to all of it.
--- Source: this project.
-use Rattle.std.specs.Prelude.{◌≡◌, ℕ, Bool, true, false, List, [], ◌∷◌, ◌++◌, take, Option, Some, Result, Ok, Err, IfSome}
-use Rattle.std.specs.List.{AllByRecursion}
+-- What `serve` and `run_bytes` promise.
+-- Source: this project. What is used stands first, so read it from the end: `RunsDump` is how `run_bytes` ends, and `Serves` how
+-- `serve` does. Both come to `ServesFrom`: how serving a reader's lines ends, from what a session remembers at first to what it
+-- remembers at last. Which turns a session may have, and what each is answered, `IsSession` and `IsReply` of `hd_lines` say.
+use Rattle.std.specs.Prelude.{◌≡◌, ◌⊎◌, ℕ, Bool, List, [], Option, Some, Result, Ok, Err, IfSome}
 use Rattle.std.specs.Io.KnownBytes.{Keeps, Appends}
-use Rattle.hd_lines.specs.Lines.{command_of, last_word, pieces, whole_lines, is_quit}
-use Rattle.hd_lines.specs.Memory.{Memory, beginning, board_log}
+use Rattle.hd_terms.specs.declared.errors.Cause.TheVariants.{OutOfMemory}
+use Rattle.hd_terms.specs.declared.Mode.{Mode}
+use Rattle.hd_terms.specs.Dump.{Dump}
+use Rattle.hd_terms.specs.Objects.{IsDumpOf}
+use Rattle.hd_terms.specs.ReadFaults.{fault, IsReadFault}
 use Rattle.hd_terms.specs.Schedule.{Board}
-use Rattle.hd_lines.specs.Sessions.{Analyst, Turn, IsSessionOver, memory_after, replies, IsServedBy, IsServedUntilReadBy, IsServedUntilWriteBy}
+use Rattle.hd_lines.specs.Memory.{Memory, beginning, board_log}
+use Rattle.hd_lines.specs.Sessions.{Analyst, Turn, IsServed, IsServedBy, IsServedUntilReadBy, IsServedUntilWriteBy, IsSessionOver, lone_analyst, memory_after}
 use Rattle.hd_board.specs.Replicas.{Replica}
-use Rattle.hd_analyst.specs.Answering.{IsAnswered}
-use Rattle.hd_analyst.specs.Work.{Work, analyst_at}
+use Rattle.hd_analyst.specs.Work.{analyst_at}
+use Rattle.hd_protocol.specs.declared.run.RunFault.{RunFault}
+use Rattle.hd_protocol.specs.declared.run.RunFault.TheVariants as faults
 use Rattle.hd_protocol.specs.declared.serving.ServeFault.{ServeFault}
-use Rattle.hd_protocol.specs.declared.serving.ServeFault.TheVariants as faults
-use Rattle.hd_protocol.specs.declared.serving.Flow.{Flow}
-use Rattle.hd_protocol.specs.declared.serving.Flow.TheVariants as flows
-
--- the last of the pieces
-abbrev pub last_piece : List (List ℕ) → List ℕ
-last_piece [] = []
-last_piece (piece ∷ []) = piece
-last_piece (piece ∷ next ∷ rest) = last_piece (next ∷ rest)
-
--- the line that no newline ends yet
-abbrev pub open_line : List ℕ → List ℕ
-open_line seen = last_piece (pieces seen)
-
--- as much of a line as is kept
-abbrev pub kept_of : List ℕ → List ℕ
-kept_of line = take 4097 line
-
--- these lines were answered so, from what is remembered at first, and this is remembered then
-pub record IsAnsweredSoFar (a : Analyst) (first : Memory) (lines : List (List ℕ)) (written : List ℕ) (memory : Memory) : Type 0 where
-  pub turns : List Turn
-  pub session : IsSessionOver a first lines turns
-  pub written_is : written ≡ replies turns
-  pub memory_is : memory ≡ memory_after first turns
+use Rattle.hd_protocol.specs.declared.serving.ServeFault.TheVariants as serve_faults
 
 -- the whole input was served: this is written, and this is remembered then
 abbrev pub ServedFrom : Analyst → (first last : Memory) → (input written : List ℕ) → Type 0
@@ -49,68 +32,6 @@ ServedUntilReadFrom a first last input rest written =
 abbrev pub ServedUntilWriteFrom : Analyst → (first last : Memory) → (input written : List ℕ) → Type 0
 ServedUntilWriteFrom a first last input written =
     (turns : List Turn) × IsServedUntilWriteBy (IsSessionOver a first) turns input written × (last ≡ memory_after first turns)
-
--- the lines that don't end a session
-abbrev pub NoneQuits : List (List ℕ) → Type 0
-NoneQuits lines = AllByRecursion (λ line. is_quit line ≡ false) lines
-
--- what is known between two bytes: what is worked on, and what is kept of the open line
-pub record Midway : Type 0 where
-  pub work : Work
-  pub kept : List ℕ
-
-abbrev pub midway : Work → List ℕ → Midway
-midway work kept = record { work = work; kept = kept }
-
--- the whole lines of what was read are answered, none of them is `quit`, and the open line is kept
-pub record IsOpen (a : Analyst) (first : Memory) (seen : List ℕ) (m : Midway) (written : List ℕ) : Type 0 where
-  pub same_analyst : m.work.analyst ≡ a
-  pub so_far : IsAnsweredSoFar a first (whole_lines seen) written m.work.memory
-  pub none_quits : NoneQuits (whole_lines seen)
-  pub kept_is : m.kept ≡ kept_of (open_line seen)
-
--- how it stands once these bytes were read and those written: open, ended by `quit`, or by a fault of the writer
-abbrev pub Stands : Analyst → (first : Memory) → (seen : List ℕ) → Midway → (written : List ℕ) → Result Flow ServeFault → Type 0
-Stands a first seen m written (Ok flows.GoesOn) = IsOpen a first seen m written
-Stands a first seen m written (Ok flows.Quits) = (rest : List ℕ) → ServedFrom a first m.work.memory (seen ++ rest) written
-Stands a first seen m written (Err faults.Read) = ⊥
-Stands a first seen m written (Err faults.Write) = (rest : List ℕ) → ServedUntilWriteFrom a first m.work.memory (seen ++ rest) written
-Stands a first seen m written (Err faults.OutOfMemory) = ⊥
-
--- bytes are run: from how it stood before them to how it stands after them
-abbrev pub RunsBytes : (bytes : List ℕ) → (m m' : Midway) → (before after : Option (List ℕ)) → Result Flow ServeFault → Type 0
-RunsBytes bytes m m' before after result =
-    (m'.work.analyst ≡ m.work.analyst)
-    × ((a : Analyst) (first : Memory) (seen written : List ℕ) → IsOpen a first seen m written
-    → (more : List ℕ) × Appends before after more × Stands a first (seen ++ bytes) m' (written ++ more) result)
-
--- how a line that has this reply ends: the whole reply is written, or a beginning of it at a fault of the writer
-abbrev pub EndsLine : (line reply : List ℕ) → (before after : Option (List ℕ)) → Result Flow ServeFault → Type 0
-EndsLine line reply before after (Ok flows.GoesOn) = Appends before after reply × (is_quit line ≡ false)
-EndsLine line reply before after (Ok flows.Quits) = Appends before after reply × (is_quit line ≡ true)
-EndsLine line reply before after (Err faults.Read) = ⊥
-EndsLine line reply before after (Err faults.Write) = (k : ℕ) × Appends before after (take k reply)
-EndsLine line reply before after (Err faults.OutOfMemory) = ⊥
-
--- a line is run
-pub record RunsLine (old new : Work) (line : List ℕ) (before after : Option (List ℕ)) (result : Result Flow ServeFault) : Type 0 where
-  pub reply : List ℕ
-  pub answered : IsAnswered old new (last_word line) (command_of line) reply
-  pub ends : EndsLine line reply before after result
-
--- how it stands at the end of the input
-abbrev pub StandsAtEnd : Analyst → (first last : Memory) → (seen written : List ℕ) → Result Unit ServeFault → Type 0
-StandsAtEnd a first last seen written (Ok done) = ServedFrom a first last seen written
-StandsAtEnd a first last seen written (Err faults.Read) = ⊥
-StandsAtEnd a first last seen written (Err faults.Write) = ServedUntilWriteFrom a first last seen written
-StandsAtEnd a first last seen written (Err faults.OutOfMemory) = ⊥
-
--- what is open at the end of the input is run
-abbrev pub RunsEnd : Midway → (new : Work) → (before after : Option (List ℕ)) → Result Unit ServeFault → Type 0
-RunsEnd m new before after result =
-    (new.analyst ≡ m.work.analyst)
-    × ((a : Analyst) (first : Memory) (seen written : List ℕ) → IsOpen a first seen m written
-    → (more : List ℕ) × Appends before after more × StandsAtEnd a first new.memory seen (written ++ more) result)
 
 -- of some bytes, which are those of the stream where it tells them
 abbrev pub OfBytes : Option (List ℕ) → (List ℕ → Type 0) → Type 0
@@ -137,20 +58,52 @@ ServesUntilWrite a first last input before after =
 -- how serving ends, from what is remembered at first to what is remembered at last
 abbrev pub ServesFrom : Analyst → (first last : Memory) → (input rest before after : Option (List ℕ)) → Result Unit ServeFault → Type 0
 ServesFrom a first last input rest before after (Ok done) = ServesAll a first last input before after
-ServesFrom a first last input rest before after (Err faults.Read) = ServesUntilRead a first last input rest before after
-ServesFrom a first last input rest before after (Err faults.Write) = ServesUntilWrite a first last input before after
-ServesFrom a first last input rest before after (Err faults.OutOfMemory) = (last ≡ first) × Keeps input rest × Keeps before after
+ServesFrom a first last input rest before after (Err serve_faults.Read) = ServesUntilRead a first last input rest before after
+ServesFrom a first last input rest before after (Err serve_faults.Write) = ServesUntilWrite a first last input before after
+ServesFrom a first last input rest before after (Err serve_faults.OutOfMemory) = (last ≡ first) × Keeps input rest × Keeps before after
 
--- lines were served: the analyst is the same, and the session went on from what was remembered to what is
-pub record RunsInput (old new : Work) (input rest before after : Option (List ℕ)) (result : Result Unit ServeFault) : Type 0 where
-  pub same_analyst : new.analyst ≡ old.analyst
-  pub serves : ServesFrom old.analyst old.memory new.memory input rest before after result
-
--- a session of a desk at a board was served, which began with names or without. The desk has then seen what the session had seen at last of the board's log: that
--- of its last turn, or where it ended in a private part, of the part's home
+-- a session of a desk at a board was served, which began with names or without. The desk has then seen what the session had seen at
+-- last of the board's log: that of its last turn, or where it ended in a private part, of the part's home
 pub record Serves (board : Board) (names : Bool) (old new : Replica) (input rest before after : Option (List ℕ)) (result : Result Unit ServeFault) : Type 0 where
   pub last : Memory
   pub served : ServesFrom (analyst_at board old) (beginning names old.seen old.front) last input rest before after result
   pub same_who : new.who ≡ old.who
   pub same_dump : new.dump ≡ old.dump
   pub seen_is : new.seen ≡ board_log last
+
+-- an analyst was served alone over a dump, with names from the beginning or without, to the end of the input or to `quit`
+abbrev pub ServesAlone : Dump → (names : Bool) → (input before after : Option (List ℕ)) → Type 0
+ServesAlone dump names input before after = OfBytes input (λ bytes. (written : List ℕ) × Appends before after written × IsServed dump names bytes written)
+
+-- the only analyst of a board over a dump was served from the empty log. That nothing came between the turns isn't said
+abbrev pub ServesLone : Dump → (names : Bool) → (input rest before after : Option (List ℕ)) → Result (Unit {0}) ServeFault → Type 0
+ServesLone dump names input rest before after ended = (last : Memory) × ServesFrom (lone_analyst dump) (beginning names [] []) last input rest before after ended
+
+-- how a run over an open dump ends: an analyst was served alone; or memory ran out before anything was read or written; or
+-- serving ended early; or it ended well, and the board could not be closed then
+abbrev pub RunsOver : Dump → (names : Bool) → (input rest before after : Option (List ℕ)) → Result (Unit {0}) RunFault → Type 0
+RunsOver dump names input rest before after (Ok done) = ServesAlone dump names input before after
+RunsOver dump names input rest before after (Err (faults.Dump f)) = ⊥
+RunsOver dump names input rest before after (Err faults.Memory) = Keeps input rest × Keeps before after
+RunsOver dump names input rest before after (Err (faults.Serve f)) = ServesLone dump names input rest before after (Err f)
+RunsOver dump names input rest before after (Err faults.Close) = ServesLone dump names input rest before after (Ok tt)
+
+-- why a dump isn't open: it has this fault, or memory ran out
+abbrev pub IsOpenFault : (bytes : List ℕ) → RunFault → Type 0
+IsOpenFault bytes (faults.Dump f) = (f ≡ fault OutOfMemory 0) ⊎ IsReadFault bytes f
+IsOpenFault bytes faults.Memory = Unit {0}
+IsOpenFault bytes (faults.Serve f) = ⊥
+IsOpenFault bytes faults.Close = ⊥
+
+-- a run over the dump of these bytes
+abbrev pub RunsOverDump : Mode → (names : Bool) → (bytes : List ℕ) → (input rest before after : Option (List ℕ)) → Result (Unit {0}) RunFault → Type 0
+RunsOverDump mode names bytes input rest before after ended = (dump : Dump) × IsDumpOf mode bytes dump × RunsOver dump names input rest before after ended
+
+-- how a run over bytes ends: as one over their dump; or the dump has this fault, or memory ran out, and nothing was read or
+-- written
+abbrev pub RunsDump : Mode → (names : Bool) → (bytes : List ℕ) → (input rest before after : Option (List ℕ)) → Result (Unit {0}) RunFault → Type 0
+RunsDump mode names bytes input rest before after (Ok done) = RunsOverDump mode names bytes input rest before after (Ok done)
+RunsDump mode names bytes input rest before after (Err (faults.Dump f)) = ((f ≡ fault OutOfMemory 0) ⊎ IsReadFault bytes f) × Keeps input rest × Keeps before after
+RunsDump mode names bytes input rest before after (Err faults.Memory) = Keeps input rest × Keeps before after
+RunsDump mode names bytes input rest before after (Err (faults.Serve f)) = RunsOverDump mode names bytes input rest before after (Err (faults.Serve f))
+RunsDump mode names bytes input rest before after (Err faults.Close) = RunsOverDump mode names bytes input rest before after (Err faults.Close)

@@ -10,6 +10,8 @@
 //!   computed.
 //! - `sample.rt`: the built-in dump.
 //!
+//! What `serve` and `run_bytes` promise stands in one file, `specs/Serving.antt`; what their loops keep, in `specs/Steps.antt`.
+//!
 //! The crate knows no files, no words of a command line and no connections.
 #![tactic(auto)]
 

@@ -4,7 +4,7 @@ ghost use Rattle.std.specs.Arc.{arc_value};
 ghost use Rattle.hd_terms.specs.Workers.{IsWorkers};
 ghost use Rattle.hd_terms.specs.Objects.{IsDumpOf, IsNamelessDumpOf};
 ghost use Rattle.hd_board.specs.Opening.{opened_board, opened_desk};
-ghost use Rattle.hd_protocol.specs.Running.{RunsDump, RunsOver, IsOpenFault};
+ghost use Rattle.hd_protocol.specs.Serving.{RunsDump, RunsOver, IsOpenFault};
 
 use crate::serving::{ServeFault, serve};
 use hd_board::{Board, Desk, open};
@@ -137,8 +137,8 @@ pub fn open_alone<T: Threads + Sync>(
     }
 }
 
-/// Serves the lines of the only analyst of a board that was just opened, and closes the board. Replies show names from the beginning
-/// where `names` says so.
+/// Serves the lines of the only analyst of a board that was just opened, and closes the board. Replies show names from the
+/// beginning where `names` says so.
 ///
 /// # Errors
 ///

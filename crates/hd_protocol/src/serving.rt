@@ -2,7 +2,8 @@
 ghost use Rattle.std.specs.Prelude.{◌≡◌, ℕ, ◌≤◌, [], ◌∷◌, ◌++◌, length, take, Ok, Err, IfOk, IfErr, OnOk, OnErr, OnSome, if◌then◌else◌};
 ghost use Rattle.std.specs.Io.KnownBytes.{Keeps, Appends, Consumes, IsAtEnd};
 ghost use Rattle.hd_lines.specs.Lines.{is_quit_command};
-ghost use Rattle.hd_protocol.specs.Serving.{kept_of, midway, RunsLine, RunsBytes, RunsEnd, RunsInput, Serves};
+ghost use Rattle.hd_protocol.specs.Serving.{Serves};
+ghost use Rattle.hd_protocol.specs.Steps.{kept_of, midway, RunsLine, RunsBytes, RunsEnd, RunsInput};
 
 use hd_analyst::{Analyst, FixedBuffer, LONGEST_REPLY, answer, first_marks};
 use hd_board::{Board, Desk};

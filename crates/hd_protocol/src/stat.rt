@@ -8,7 +8,7 @@ ghost use Rattle.hd_terms.specs.declared.Strength.{Strength as OneStrength};
 ghost use Rattle.hd_lines.specs.Replies.{with_newline, strength_name};
 ghost use Rattle.hd_lines.specs.Stat.{IsStat, count_lines, repeated_line, total_line, total_lines};
 ghost use Rattle.hd_totals.specs.Totals.{total_for};
-ghost use Rattle.hd_protocol.specs.Running.{IsOpenFault};
+ghost use Rattle.hd_protocol.specs.Serving.{IsOpenFault};
 ghost use Rattle.hd_protocol.specs.Stating.{IsStatOf, StatsDump, shown_total};
 
 use crate::run::{RunFault, open_nameless};

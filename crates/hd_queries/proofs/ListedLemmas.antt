@@ -50,7 +50,7 @@ pass true false h k = absurd cc
 pass false b h k = absurd cc
 
 -- an object of a page at which a group is not marked is no member
-pub unmarked-not-member : (dump : Dump) (ks : List Reached) (pages : PageMarks) (group : Group) (s : Strength) (o : ℕ) → IsNoted pages o (object_at dump o).group (object_at dump o).id → (IsMarked pages (page_of o) group → ⊥)
+pub unmarked-not-member : (dump : Dump) (ks : List Reached) (pages : PageMarks) (group : Group) (s : Strength) (o : ℕ) → IsNoted pages (page_of o) (object_at dump o).group (object_at dump o).id → (IsMarked pages (page_of o) group → ⊥)
     → is_member dump ks group s o ≡ false
 unmarked-not-member dump ks pages group s o noted unmarked = by (is_member dump ks group s o) refl
   where

@@ -3,6 +3,7 @@
 use Rattle.std.specs.Prelude.{◌≡◌, ℕ, ◌↔◌, List, [], take, Contains, Option, Some, None}
 use Rattle.std.specs.List.{fold}
 use Rattle.std.specs.List.Sorted.{IsStrictlyIncreasing}
+use Rattle.hd_terms.specs.Listed.{first_items}
 use Rattle.hd_queries.specs.LeastIds.{Least, with_id}
 use Rattle.hd_queries.specs.declared.gathered.Gathered.{Gathered}
 use Rattle.hd_queries.specs.declared.gathered.Gathered.TheVariants as gathered
@@ -10,11 +11,6 @@ use Rattle.hd_queries.specs.declared.gathered.Gathered.TheVariants as gathered
 -- IDs, each once and ascending
 abbrev pub in_order : List ℕ → List ℕ
 in_order ids = fold with_id [] ids
-
--- the first of a list's items, or all
-abbrev pub first_of : {X : Type 0} → Option ℕ → List X → List X
-first_of None xs = xs
-first_of (Some n) xs = take n xs
 
 -- all IDs that were put in are kept, since all are wanted
 abbrev pub AreAll : Option ℕ → (all kept : List ℕ) → Type 0
@@ -33,7 +29,7 @@ AreGathered most all (gathered.Least kept) = AreLeast most all kept
 
 -- IDs are the first of such a list, or all
 abbrev pub AreFirst : Option ℕ → (List ℕ → Type 0) → List ℕ → Type 0
-AreFirst most AreAll ids = (all : List ℕ) × AreAll all × (ids ≡ first_of most all)
+AreFirst most AreAll ids = (all : List ℕ) × AreAll all × (ids ≡ first_items most all)
 
 -- a list rises and has the same IDs as another
 pub record HaveSameIds (others ids : List ℕ) : Type 0 where

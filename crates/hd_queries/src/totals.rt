@@ -36,8 +36,8 @@ fn count_part(graph: &Graph, strengths: &[Strength], start: u32, end: u32) -> St
     totals
 }
 
-/// The same as `count_part`, in `shares` shares side by side. The calling thread begins a thread for each but the last, and counts that
-/// one itself; where the system refuses a thread, one share after the other.
+/// The same as `count_part`, in `shares` shares side by side. The calling thread begins a thread for each but the last, and counts
+/// that one itself; where the system refuses a thread, one share after the other.
 #[cycle(shares)]
 fn count_shares<R: Threads + Sync>(
     rt: &R,

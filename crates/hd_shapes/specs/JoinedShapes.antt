@@ -8,7 +8,7 @@ use Rattle.hd_shapes.specs.PackedShapes.{ShapeLists}
 pub record ObjectShapes : Type 0 where
   pub objects : List ObjectShape
 
--- the first parts, up to each of three, have so many objects together, and numbers of eight bytes count those of all
+-- the ends say how many objects the parts up to each of three have together, and numbers of eight bytes count those of all
 pub record AreJoined (first second third fourth : ShapeLists) (first_end second_end third_end : ℕ) : Type 0 where
   pub first_is : first_end ≡ length first.objects
   pub second_is : second_end ≡ first_end + length second.objects

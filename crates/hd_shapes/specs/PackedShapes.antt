@@ -50,14 +50,14 @@ abbrev pub numbered_layout : List LayoutShape → ℕ → Option ObjectShape
 numbered_layout layouts zero = None
 numbered_layout layouts (suc index) = Some (shape_at (map layout_view layouts) index)
 
--- a class and a layout have their indexes among so many
+-- a class has its index among `n`, a layout among `m`
 abbrev pub IsPackedOver : ℕ → ℕ → PackedShape → Type 0
 IsPackedOver n m (kept.ObjectArray bytes) = Unit {0}
 IsPackedOver n m (kept.PrimitiveArray element bytes) = Unit {0}
 IsPackedOver n m (kept.Class index) = index < n
 IsPackedOver n m (kept.Instance index) = index < m
 
--- shapes over so many classes and so many layouts, together no more than there are shapes, and numbers of these layouts
+-- shapes over `classes` classes and `layouts` layouts, together no more than there are shapes, and numbers of these layouts
 pub record ArePacked (ks : List PackedShape) (classes layouts : ℕ) (numbers : List ℕ) : Type 0 where
   pub over : All (IsPackedOver classes layouts) ks
   pub few : classes + layouts ≤ length ks

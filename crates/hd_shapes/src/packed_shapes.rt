@@ -82,7 +82,7 @@ fn code_of(shape: PackedShape) -> Option<u32>
 }
 
 impl PackedShapes {
-    /// No shapes yet, with room for so many.
+    /// No shapes yet, with room for `room` of them.
     ///
     /// # Errors
     ///

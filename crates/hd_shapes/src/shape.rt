@@ -94,7 +94,7 @@ fn shape_of<'a>(
 }
 
 impl Shapes {
-    /// No objects yet, with room for so many, and no shape of the instances of any of so many classes.
+    /// No objects yet, with room for `objects` of them, and no shape of the instances of any of `known` classes.
     ///
     /// # Errors
     ///
@@ -132,7 +132,7 @@ impl Shapes {
         )
     }
 
-    /// An object array of so many bytes comes next.
+    /// An object array of `bytes` bytes comes next.
     ///
     /// # Errors
     ///
@@ -145,7 +145,7 @@ impl Shapes {
         Ok(())
     }
 
-    /// A primitive array of so many bytes comes next, with elements of a type.
+    /// A primitive array of `bytes` bytes comes next, with elements of a type.
     ///
     /// # Errors
     ///

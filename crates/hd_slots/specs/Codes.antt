@@ -7,7 +7,7 @@ abbrev pub id_of_code : List ℕ → List ℕ → ℕ → ℕ
 id_of_code ids absent code =
     if code == null_code then 0 else if nat_lt code (length ids) then slice_index ids code else slice_index absent (code - length ids)
 
--- the object that a number stands for, where there are so many objects
+-- the object that a number stands for, where there are `objects` objects
 abbrev pub object_of_code : ℕ → ℕ → Option ℕ
 object_of_code objects code = if nat_lt code objects then Some code else None
 

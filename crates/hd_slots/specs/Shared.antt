@@ -13,7 +13,7 @@ pub record Noted : Type 0 where
 abbrev pub offset_of : List ℕ → ℕ → ℕ
 offset_of shared item = if nat_lt item mark then item else slice_index shared (item - mark)
 
--- a slot's ID lies within a file of so many bytes, or is one of so many that are shared
+-- a slot's ID lies within a file of `n` bytes, or is one of `many` that are shared
 pub record IsKept (size : IdSize) (n many item : ℕ) : Type 0 where
   pub own : item < mark → IsIdWithin size n item
   pub shared : mark ≤ item → item - mark < many

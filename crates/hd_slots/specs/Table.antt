@@ -48,7 +48,7 @@ null_code = 4294967295
 abbrev pub id_at : List ℕ → IdSize → ℕ → ℕ
 id_at bytes size offset = big_number (id_len size) (drop offset bytes)
 
--- an ID lies whole in a file of so many bytes
+-- an ID lies whole in a file of `n` bytes
 abbrev pub IsIdWithin : IdSize → ℕ → ℕ → Type 0
 IsIdWithin size n offset = offset + id_len size ≤ n
 

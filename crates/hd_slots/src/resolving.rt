@@ -15,7 +15,7 @@ use std::thread::Threads;
 /// Marks the offset of an ID that is no object's. Numbers of objects and offsets into the file are below it.
 const ABSENT: u32 = 0x8000_0000;
 
-/// Marks, in place of the offset of an ID, an index of the offsets that many slots share.
+/// Marks an index of the offsets that many slots share, instead of the offset of an ID.
 pub(crate) const SHARED: u32 = 0x8000_0000;
 
 /// How many numbers are looked over together for marked offsets, of which most dumps have few.

@@ -28,7 +28,7 @@ impl<'a> Model for Targets<'a> {
 }
 
 impl<'a> Targets<'a> {
-    /// What these numbers stand for, where there are so many objects.
+    /// What these numbers stand for, where there are `objects` objects.
     pub(crate) fn new(codes: &'a [u32], objects: usize) -> Targets<'a>
         requires { length codes.now < 2 ^ 32 }
         ensures { result ≡ map (object_of_code objects) codes.now }

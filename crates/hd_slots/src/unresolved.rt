@@ -14,7 +14,7 @@ use std::marker::Model;
 use std::sync::Arc;
 use std::thread::Threads;
 
-/// A file of so many bytes is large: there is room at once for IDs in all of it. In a smaller one there is room for IDs in half of
+/// From how many bytes on a file is large: there is room at once for IDs in all of it. In a smaller one there is room for IDs in half of
 /// it. Few have more, and what is left of a large page at the end of the list would show beside the file.
 const LARGE: usize = 1 << 26;
 

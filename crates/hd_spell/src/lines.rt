@@ -128,7 +128,7 @@ fn put_array(output: &mut Output, head: &str, elements: &str) -> Result<(), Mist
     Ok(())
 }
 
-/// Writes what stands in an instance before its values, of which there are so many bytes.
+/// Writes what stands in an instance before its values, of which there are `len` bytes.
 fn put_instance_head(output: &mut Output, head: &str, len: u32) -> Result<(), Mistake> {
     let (id, class) = read_pair(head, "of")?;
     output.put_bytes(&[0x21])?;

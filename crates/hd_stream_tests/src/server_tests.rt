@@ -71,7 +71,7 @@ fn client_breaks_off(rt: HostRuntime) {
     assert!(rt; printed.is_some_and(|text| text.as_slice() == b"0 0 cut 0x1 e0 live\n".as_slice()));
 }
 
-/// A board can't be closed without one of its desks. No connection is accepted, and nothing is printed.
+/// A board can't be closed without one of its desks. No connection is accepted.
 #[test]
 fn board_without_its_desks(rt: HostRuntime) {
     let (listener, _address) = listen(&rt);

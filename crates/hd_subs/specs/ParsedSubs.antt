@@ -20,7 +20,7 @@ pub record BeginsWithSub (size : IdSize) (at : ℕ) (rest : List ℕ) (sub : Sub
 abbrev pub LiesAt : List ℕ → ℕ → List ℕ → Type 0
 LiesAt bytes at text = text ≡ take (length text) (drop at bytes)
 
--- `fields` has so many bytes at least, and `after` is what follows them
+-- `fields` has at least `len` bytes, and `after` is what follows them
 pub record IsBehind (len : ℕ) (fields after : List ℕ) : Type 0 where
   pub within : len ≤ length fields
   pub after_is : after ≡ drop len fields

@@ -52,7 +52,7 @@ pub record HasOtherTypeIn {A : Type 0} (Is : A → Type 0) (text : A → List �
   pub whole : rest ≡ counted_text text begun ++ behind
   pub other : HasOtherType n behind
 
--- these bytes begin with a key of n bytes and a type, whose values have so many bytes; what is behind them lies at `end`
+-- these bytes begin with a key of n bytes and a type, whose values have `bytes` bytes; what is behind them lies at `end`
 pub record BeginsWithType (size : IdSize) (n at : ℕ) (rest : List ℕ) (code bytes : ℕ) (behind : List ℕ) (end : ℕ) : Type 0 where
   pub key : List ℕ
   pub long : length key ≡ n

@@ -44,7 +44,7 @@ abbrev pub instance_kind : IdSize → Kind
 instance_kind sizes.Four = kinds.InstanceOfFour
 instance_kind sizes.Eight = kinds.InstanceOfEight
 
--- a row of a class has its index among so many classes
+-- a row of a class has its index among `n` classes
 abbrev pub HasClass : ℕ → Kind → ℕ → Type 0
 HasClass n (kinds.Root kind) class = Unit {0}
 HasClass n kinds.Class class = class < n

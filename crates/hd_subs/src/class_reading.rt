@@ -23,7 +23,7 @@ struct Cursor<'a> {
 }
 
 impl<'a> Cursor<'a> {
-    /// What is left behind so many bytes, if they are there.
+    /// What is left behind `len` bytes, if they are there.
     fn skip(self, len: usize) -> Option<Cursor<'a>>
         ensures { MatchOption result (length self.entry.rest.now < len) (λ after. (len ≤ length self.entry.rest.now) × (after.rest.now ≡ drop len self.entry.rest.now) × (after.at ≡ self.entry.at + len)) }
     {

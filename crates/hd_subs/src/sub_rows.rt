@@ -55,7 +55,7 @@ fn instance_of(row: Row, start: u64) -> Item<'static>
     }
 }
 
-/// The object array of a row, whose IDs lie at this file offset and have so many bytes.
+/// The object array of a row, whose IDs lie from the file offset `start` on and have `len` bytes.
 fn array_of(row: Row, start: u64, len: u64) -> Item<'static>
     ensures { item_view result ≡ ObjArray row.id row.class (record { start = start; len = len }) }
 {

@@ -85,7 +85,7 @@ module _ (classes : List ClassItem) where
     to_turn : LeadUp classes id way turn
     around : LeadUp classes turn (first ∷ rest) turn
 
-  -- so many times round
+  -- `n` times round
   rounds : (id : ℕ) (r : Round id) (n : ℕ) → (up : List ClassItem) × LeadUp classes r.turn up r.turn × (n ≤ length up)
   rounds id r zero = ([], refl, omega arith)
   rounds id r (suc n) =

@@ -20,7 +20,7 @@ event_by who what = record { who = who; what = what }
 abbrev pub with_event : List Event → Event → List Event
 with_event log event = log ++ event ∷ []
 
--- why an edit can't be done to the roots of a dump that has so many and those that a log adds: there is no root to drop
+-- why an edit can't be done to the `roots` roots of a dump and those that a log adds: there is no root to drop
 abbrev pub root_refusal : (roots : ℕ) → List Event → Edit → Option Refusal
 root_refusal roots log (edits.Cut id slot) = None
 root_refusal roots log (edits.Clear id) = None
@@ -32,7 +32,7 @@ root_refusal roots log (edits.ClearAll kind) = None
 abbrev pub by_log : Option LogFault → Option Refusal
 by_log fault = option_map (λ (f : LogFault). refusals.Log f) fault
 
--- why a log doesn't take an event over a dump of so many roots, the first reason, if there is one: there is no root to drop,
+-- why a log doesn't take an event over a dump of `roots` roots, the first reason, if there is one: there is no root to drop,
 -- or the log's own reason
 abbrev pub append_refusal : (roots : ℕ) → List Event → Event → Option Refusal
 append_refusal roots log event = option_or (option_and_then (root_refusal roots log) (edit_of event.what)) (by_log (log_fault log event))

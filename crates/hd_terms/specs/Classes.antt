@@ -95,7 +95,7 @@ abbrev pub prefix_on : ℕ → Option ClassItem → (ClassItem → ChainPrefix) 
 prefix_on id None more = record { classes = []; end = id }
 prefix_on id (Some c) more = record { classes = c ∷ (more c).classes; end = (more c).end }
 
--- the first so many classes of the chain of an ID, or all where it has fewer
+-- the first `n` classes of the chain of an ID, or all where it has fewer
 abbrev pub chain_prefix : ℕ → List ClassItem → ℕ → ChainPrefix
 chain_prefix zero classes id = record { classes = []; end = id }
 chain_prefix (suc n) classes id = prefix_on id (class_at classes id) (λ (c : ClassItem). chain_prefix n classes c.super)
@@ -183,7 +183,7 @@ KnownClasses = ℕ → Option ResolvedClass
 abbrev pub resolved_class : ClassTable → ℕ → Option ResolvedClass
 resolved_class t id = option_map (resolved_by t) (chain_of t.classes id)
 
--- the class by whose layout so many bytes of values are read: the one of the ID, if it is known and they fit its layout. An
+-- the class by whose layout `len` bytes of values are read: the one of the ID, if it is known and they fit its layout. An
 -- instance whose values don't fit is a fault where it stands; where it repeats an ID, it is no object
 abbrev pub fitting_class : ClassTable → IdSize → ℕ → ℕ → Option ResolvedClass
 fitting_class t size len class = option_and_then (λ (k : ResolvedClass). if len == layout_len size k.layout then Some k else None) (resolved_class t class)

@@ -349,7 +349,7 @@ class_object id super = record {
   referent = None;
 }
 
--- (id of class: slots), with so many bytes of values
+-- (id of class: slots), with `bytes` bytes of values
 abbrev pub instance : ℕ → ℕ → ℕ → List SlotEntry → Object
 instance id class bytes slots_of_fields = record {
   id = id;

@@ -1,6 +1,6 @@
 -- Objects and groups as they are listed under a log.
 -- Source: this project. A list is told by what is in it and by its order, and not by how it is made.
-use Rattle.std.specs.Prelude.{◌≡◌, ◌≢◌, ℕ, ◌+◌, ◌*◌, ◌-◌, ◌^◌, ◌<◌, ◌⊎◌, ◌↔◌, List, length, map, Contains, slice_get, Some}
+use Rattle.std.specs.Prelude.{◌≡◌, ◌≢◌, ℕ, ◌+◌, ◌*◌, ◌-◌, ◌^◌, ◌<◌, ◌⊎◌, ◌↔◌, List, length, map, take, Contains, slice_get, Option, None, Some}
 use Rattle.std.specs.List.{AllByRecursion}
 use Rattle.std.specs.List.Sorted.{IsStrictlyIncreasing}
 use Rattle.hd_terms.specs.declared.Group.{Group}
@@ -15,6 +15,11 @@ use Rattle.hd_terms.specs.Dump.{NamedClass, Dump, object_at}
 use Rattle.hd_terms.specs.EditedDump.{standing}
 use Rattle.hd_terms.specs.Fell.{Falls}
 use Rattle.hd_terms.specs.Totals.{IsMember, IsTotalOf, IsGroupTotal}
+
+-- the first `n` items of a list, or all
+abbrev pub first_items : {X : Type 0} → Option ℕ → List X → List X
+first_items None xs = xs
+first_items (Some n) xs = take n xs
 
 -- some object that is meant has this ID
 abbrev pub IsIdOf : Dump → (IsMeant : ℕ → Type 0) → ℕ → Type 0

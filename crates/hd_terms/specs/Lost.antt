@@ -33,7 +33,9 @@ pub record AreLost (dump : Dump) (more less : List Event) (items : List Holding)
   pub holders : All (λ (h : Holding). h.holder ≢ supports.Nothing) items
 
 -- the region of an event, by the logs and what is kept before and after it: that of the loss of what stood and stands no more,
--- or that of the gain of what stands and didn't
+-- or that of the gain of what stands and didn't. An event takes away or adds, and its other half has no object more. Where nothing
+-- is lost, no stored chain uses what is lost, so the region of the loss is empty. Where nothing is gained, the region of the gain
+-- has the objects whose strength changes, and a loss changes strengths in its own region alone
 pub data InEventRegion (dump : Dump) (before after : List Event) (ks ls : List Reached) (o : ℕ) : Type 0 where
   by_loss : (lost : List Holding) → AreLost dump before after lost → InLossRegion ks lost o → InEventRegion dump before after ks ls o
   by_gain : (gained : List Holding) → AreLost dump after before gained → InGainRegion ks ls gained o → InEventRegion dump before after ks ls o

@@ -12,7 +12,7 @@ pub record Board : Type 0 where
   pub base : List Event
   pub numbers : List ℕ
 
--- so many numbers one after another, from a first one on
+-- `count` numbers one after another, from a first one on
 abbrev pub numbers_from : (first count : ℕ) → List ℕ
 numbers_from first zero = []
 numbers_from first (suc count) = first ∷ numbers_from (suc first) count

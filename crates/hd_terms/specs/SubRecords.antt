@@ -66,7 +66,7 @@ pub record ClassValue : Type 0 where
 abbrev pub value_text : ClassValue → List ℕ
 value_text v = v.key ++ v.code ∷ v.value
 
--- its key has so many bytes, and its value those of its type
+-- its key has `n` bytes, and its value those of its type
 pub record IsClassValue (size : IdSize) (n : ℕ) (v : ClassValue) : Type 0 where
   pub key : length v.key ≡ n
   pub known : is_type v.code ≡ true

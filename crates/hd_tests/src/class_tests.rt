@@ -11,7 +11,7 @@ use std::alloc::Global;
 use std::process::Abort;
 use std::thread::Threads;
 
-/// Whether texts lie within so many bytes.
+/// Whether texts lie within `len` bytes.
 fn lie_within(texts: &Texts, len: usize) -> bool
     ensures { IsTrue result → All (IsTextWithin len) texts.now }
 {

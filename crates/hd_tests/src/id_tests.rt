@@ -46,7 +46,7 @@ fn are_those(ids: &ObjectIds, wanted: &[u64]) -> bool {
     true
 }
 
-/// Whether they agree for the IDs of so many steps.
+/// Whether they agree for the IDs of `steps` steps.
 fn agree_for<R: Abort>(rt: &R, ids: &mut ObjectIds, set: &mut IndexSet<u64>, steps: u64) -> bool {
     let mut random = 1;
     for step in 0..steps {
@@ -92,7 +92,7 @@ fn id_of(spread: Spread, step: u64) -> u64 {
     }
 }
 
-/// Whether each of so many IDs is new, and then has the number of its step, as often as it is asked for.
+/// Whether each of `steps` IDs is new, and then has the number of its step, as often as it is asked for.
 fn are_noted<R: Abort>(rt: &R, ids: &mut ObjectIds, spread: Spread, steps: u64) -> bool {
     for step in 0..steps {
         if !is_noted_once(rt, ids, id_of(spread, step)) {
@@ -110,7 +110,7 @@ fn are_noted<R: Abort>(rt: &R, ids: &mut ObjectIds, spread: Spread, steps: u64) 
     true
 }
 
-/// Whether the IDs 8 behind those of so many steps, far apart, have no number.
+/// Whether the IDs 8 behind those of `steps` steps, far apart, have no number.
 fn none_behind(ids: &ObjectIds, steps: u64) -> bool {
     for step in 0..steps {
         if ids.index_of(id_of(Spread::FarApart, step) | 8).is_some() {

@@ -24,14 +24,14 @@ fn primitive_bytes(shapes: &Shapes, o: u32) -> Option<(u8, u32)> {
     }
 }
 
-/// Adds an object array of so many bytes.
+/// Adds an object array of `bytes` bytes.
 fn push_object_array<R: Abort>(rt: &R, shapes: &mut Shapes, bytes: u32) {
     shapes
         .push_object_array(bytes)
         .expect(rt, "the array is added");
 }
 
-/// Adds a primitive array of so many bytes.
+/// Adds a primitive array of `bytes` bytes.
 fn push_primitive_array<R: Abort>(rt: &R, shapes: &mut Shapes, element: u8, bytes: u32) {
     shapes
         .push_primitive_array(element, bytes)

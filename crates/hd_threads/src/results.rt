@@ -7,7 +7,7 @@ ghost use Rattle.std.specs.Fork.Halves.{GivesFrom};
 use std::alloc::{AllocError, Global};
 use std::thread::{Threads, join};
 
-/// What the calls with so many numbers from `from` on answer.
+/// What the calls with `count` numbers from `from` on answer.
 #[cycle(calls)]
 fn calls_from<R: Threads + Sync, X: Send + Drop, F: Fn(usize) -> X + Sync>(
     rt: &R,

@@ -1,9 +1,9 @@
 -- Totals of some of the objects: one more is counted, and two parts are joined.
-use Rattle.std.proofs.Common.{◌≡◌, ◌≢◌, ◌∙◌, ℕ, suc, ◌+◌, ◌-◌, ◌<◌, ◌≤◌, ◌^◌, Bool, inl, inr, List, [], length, get_or, Contains, refl, sym, ap, subst, arith}
+use Rattle.std.proofs.Common.{◌≡◌, ◌≢◌, ◌∙◌, ℕ, suc, ◌+◌, ◌-◌, ◌%◌, ◌<◌, ◌≤◌, ◌^◌, Bool, inl, inr, List, [], length, get_or, Contains, refl, sym, ap, subst, arith}
 use Rattle.std.specs.Prelude.{count_by, nat_eq, sum_by}
 use Rattle.std.specs.List.{IsDistinct, range_with_len}
 use Rattle.std.proofs.lemmas.Bool.{cases_eq, cases_lt}
-use Rattle.std.proofs.lemmas.List.{get_or_past}
+use Rattle.std.proofs.lemmas.List.{get_or_past, length-append}
 use Rattle.hd_terms.specs.declared.Group.{Group}
 use Rattle.hd_terms.specs.declared.Group.TheVariants as groups
 use Rattle.hd_terms.specs.declared.Strength.{Strength}
@@ -15,10 +15,12 @@ use Rattle.hd_totals.specs.declared.total.Total.{Total}
 use Rattle.hd_totals.specs.declared.total.StrengthTotals.{StrengthTotals}
 use Rattle.hd_totals.specs.Counting.{totals_of, AreTotalsBetween, AreJoined, IsShare}
 use Rattle.hd_totals.specs.declared.counting.Share.{Share}
-use Rattle.hd_totals.specs.GroupPages.{IsNoted}
+use Rattle.hd_totals.specs.GroupPages.{pages_behind, PageMarks, AreWhole, IsNoted}
+use Rattle.hd_totals.specs.LastChanges.{page_of}
 use Rattle.hd_totals.specs.Members.{bytes_if, InRange}
 use Rattle.hd_totals.specs.Running.{counts_for, strength_in, plus_one, IsRowPut}
 use Rattle.hd_totals.specs.Totals.{Totals, no_totals, total_for, total_in, row_at, place_of, sums_of, AreTotals}
+use Rattle.hd_totals.proofs.GroupPageLemmas.{noted-earlier, noted-later}
 use Rattle.hd_totals.proofs.Joining.{AreJoining}
 use Rattle.hd_totals.proofs.RowLemmas.{at-place, placed, place-of-key, row-of-key}
 use Rattle.hd_totals.proofs.RunningLemmas.{cond-le, one-counted}
@@ -215,20 +217,22 @@ module _ (dump : Dump) (strength : ℕ → Strength) (start middle end : ℕ) (o
       whole = j.whole;
     }
 
--- two shares, of which one begins where the other ends
-pub both-shares : (dump : Dump) (ks : List Reached) (start middle end : ℕ) (one other : Share) → IsShare dump ks start middle one → IsShare dump ks middle end other
-    → (both : Share) → AreJoined (totals_of one.counted) (totals_of other.counted) (totals_of both.counted) → length both.pages.least ≡ length one.pages.least
-    → ((o : ℕ) (group : Group) (id : ℕ) → IsNoted one.pages o group id → IsNoted both.pages o group id)
-    → ((o : ℕ) (group : Group) (id : ℕ) → IsNoted other.pages o group id → IsNoted both.pages o group id)
-    → IsShare dump ks start end both
-both-shares dump ks start middle end one other first second both j room low high = record {
-  counted = both-between dump (strength_in ks) start middle end (totals_of one.counted) (totals_of other.counted) first.counted second.counted (totals_of both.counted) j;
-  room = room ∙ first.room;
-  noted = λ o le lt. elim (cases_lt o middle) [
-    | inl below ↦ low o (object_at dump o).group (object_at dump o).id (first.noted o le below)
-    | inr above ↦ high o (object_at dump o).group (object_at dump o).id (second.noted o (omega arith) lt)
-  ];
-}
+-- two shares, of which one begins where the other ends, and both with a page
+module _ (dump : Dump) (ks : List Reached) (start middle end : ℕ) (one other : Share) (first : IsShare dump ks start middle one) (second : IsShare dump ks middle end other) where
+  pub both-shares : (both : Share) → start % 1024 ≡ 0 → middle % 1024 ≡ 0 → start ≤ middle → middle ≤ end → AreWhole one.pages
+      → AreJoined (totals_of one.counted) (totals_of other.counted) (totals_of both.counted) → both.pages ≡ pages_behind one.pages other.pages
+      → IsShare dump ks start end both
+  both-shares both begins next order within whole j is = record {
+    counted = both-between dump (strength_in ks) start middle end (totals_of one.counted) (totals_of other.counted) first.counted second.counted (totals_of both.counted) j;
+    room = omega (arith, ap (λ (p : PageMarks). length p.least) is, length-append one.pages.least other.pages.least, first.room, second.room, begins, next, order, within);
+    noted = λ o le lt. subst (λ (p : PageMarks). IsNoted p (page_of o - page_of start) (object_at dump o).group (object_at dump o).id) (sym is) (elim (cases_lt o middle) [
+      | inl below ↦ noted-earlier one.pages other.pages whole (page_of o - page_of start) (object_at dump o).group (object_at dump o).id (omega (arith, first.room, begins, next, le, below)) (first.noted o le below)
+      | inr above ↦
+          let later = noted-later one.pages other.pages whole (page_of o - page_of middle) (object_at dump o).group (object_at dump o).id (second.noted o (omega arith) lt) in
+          let page : length one.pages.least + (page_of o - page_of middle) ≡ page_of o - page_of start = omega (arith, first.room, begins, next, order, above) in
+          subst (λ (n : ℕ). IsNoted (pages_behind one.pages other.pages) n (object_at dump o).group (object_at dump o).id) page later
+    ]);
+  }
 
 -- all objects
 pub all-counted : (dump : Dump) (ks : List Reached) (t : Totals) → AreTotalsBetween dump (strength_in ks) 0 (length dump.objects) t → length dump.objects < 2 ^ 32 → AreTotals dump ks t

@@ -1,12 +1,14 @@
--- Buckets and least IDs of pages, as one more object is noted and two parts are put together.
-use Rattle.std.proofs.Common.{◌≡◌, ◌∙◌, ℕ, zero, suc, ◌+◌, ◌*◌, ◌/◌, ◌%◌, ◌<◌, ◌≤◌, ◌^◌, inl, inr, List, get_or, length, refl, sym, ap, subst, arith}
+-- Buckets and least IDs of pages, as one more object is noted and later pages are put behind.
+use Rattle.std.proofs.Common.{◌≡◌, ◌∙◌, ℕ, zero, suc, ◌+◌, ◌*◌, ◌/◌, ◌%◌, ◌<◌, ◌≤◌, ◌^◌, inl, inr, ◌++◌, List, get_or, length, refl, sym, ap, arith}
 use Rattle.std.specs.Int.{bit_at}
 use Rattle.std.specs.Int.RustNames.{bit_or}
 use Rattle.std.proofs.Math.ListN.{set}
 use Rattle.std.proofs.lemmas.Bool.{cases_eq, cases_lt}
-use Rattle.std.proofs.lemmas.List.{length-set, get_or_past, get_or-set_same, get_or-set_other}
+use Rattle.std.proofs.lemmas.List.{get_or_append_left, get_or-append-add, get_or_past, get_or-set_same, get_or-set_other}
+use Rattle.std.proofs.lemmas.Nat.Bits.{bit_at-zero}
 use Rattle.std.proofs.lemmas.Nat.{or_comm, or_shr, or_mod, mod_below, shl-shr}
-use Rattle.hd_totals.specs.GroupPages.{word_at, HasBucket, IsUnited}
+use Rattle.hd_terms.specs.declared.Group.{Group}
+use Rattle.hd_totals.specs.GroupPages.{first_bucket, second_bucket, pages_behind, PageMarks, AreWhole, HasBucket, IsNoted}
 
 -- a bit of either of two words is a bit of both together
 or-one : (y : ℕ) → y < 2 → bit_or 1 y ≡ 1
@@ -32,13 +34,9 @@ own-bit k =
 pub sets-bit : (a k : ℕ) → bit_at (bit_or a (2 ^ k)) k ≡ 1
 sets-bit a k = takes-bit a (2 ^ k) k (own-bit k)
 
--- a bucket that is marked in either of two lists of words is marked in both together
-module _ (one other both : List ℕ) (united : IsUnited one other both) (page b : ℕ) where
-  pub united-keeps : HasBucket one page b → HasBucket both page b
-  united-keeps has = ap (λ (n : ℕ). bit_at n (b % 64)) (united (page * 64 + b / 64)) ∙ keeps-bit (word_at one page b) (word_at other page b) (b % 64) has
-
-  pub united-takes : HasBucket other page b → HasBucket both page b
-  united-takes has = ap (λ (n : ℕ). bit_at n (b % 64)) (united (page * 64 + b / 64)) ∙ takes-bit (word_at one page b) (word_at other page b) (b % 64) has
+-- the number 0 has no bit
+no-bit : (k : ℕ) → bit_at 0 k ≡ 1 → ⊥
+no-bit k is = absurd (omega (arith, is, bit_at-zero k))
 
 -- one word takes more bits
 module _ (words : List ℕ) (i m : ℕ) (within : i < length words) where
@@ -63,33 +61,29 @@ lowered ids i id within le j = elim (cases_eq j i) [
   | inr other ↦ let there = get_or-set_other ids i j id 0 other in omega (arith, there)
 ]
 
--- the numbers of two lists up to an index are put together, and the others are those of the first list
-pub record AreZipped (f : ℕ → ℕ → ℕ) (one other : List ℕ) (i : ℕ) (both : List ℕ) : Type 0 where
-  pub count : length both ≡ length one
-  pub done : (j : ℕ) → j < i → get_or both j 0 ≡ f (get_or one j 0) (get_or other j 0)
-  pub rest : (j : ℕ) → i ≤ j → get_or both j 0 ≡ get_or one j 0
+-- what is noted at pages is noted where later ones are put behind them
+module _ (earlier later : PageMarks) (whole : AreWhole earlier) (page : ℕ) (group : Group) (id : ℕ) where
+  marked-in : (b : ℕ) → HasBucket earlier.marks page b → HasBucket (earlier.marks ++ later.marks) page b
+  marked-in b has = elim (cases_lt (page * 64 + b / 64) (length earlier.marks)) [
+    | inl within ↦ ap (λ (n : ℕ). bit_at n (b % 64)) (get_or_append_left earlier.marks later.marks 0 (page * 64 + b / 64) within) ∙ has
+    | inr past ↦
+        let none : bit_at 0 (b % 64) ≡ 1 = ap (λ (n : ℕ). bit_at n (b % 64)) (sym (get_or_past earlier.marks (page * 64 + b / 64) 0 past)) ∙ has in
+        absurd (no-bit (b % 64) none)
+  ]
 
-module _ (f : ℕ → ℕ → ℕ) (one other : List ℕ) where
-  pub zipped-none : AreZipped f one other 0 one
-  zipped-none = record { count = refl; done = λ j lt. absurd (omega (arith, lt)); rest = λ j le. refl }
-
-  pub zipped-more : (i : ℕ) (both : List ℕ) (x : ℕ) → i < length one → x ≡ f (get_or both i 0) (get_or other i 0) → AreZipped f one other i both → AreZipped f one other (i + 1) (set both i x)
-  zipped-more i both x lt is h = record {
-    count = length-set both i x ∙ h.count;
-    done = λ j below. elim (cases_eq j i) [
-      | inl same ↦
-          let here : get_or (set both i x) i 0 ≡ f (get_or one i 0) (get_or other i 0) = get_or-set_same both i x 0 (omega (arith, lt, h.count)) ∙ is ∙ ap (λ (n : ℕ). f n (get_or other i 0)) (h.rest i (omega arith)) in
-          subst (λ (n : ℕ). get_or (set both i x) n 0 ≡ f (get_or one n 0) (get_or other n 0)) (sym same) here
-      | inr differ ↦ get_or-set_other both i j x 0 differ ∙ h.done j (omega (arith, below, differ))
-    ];
-    rest = λ j above. get_or-set_other both i j x 0 (λ e. let same : j ≡ i = e in omega (arith, above, same)) ∙ h.rest j (omega (arith, above));
+  pub noted-earlier : page < length earlier.least → IsNoted earlier page group id → IsNoted (pages_behind earlier later) page group id
+  noted-earlier within noted = record {
+    marked = (marked-in (first_bucket group) noted.marked.0, marked-in (second_bucket group) noted.marked.1);
+    above = omega (arith, noted.above, get_or_append_left earlier.least later.least 0 page within);
   }
 
-  pub zipped-all : (both : List ℕ) → length one ≡ length other → f 0 0 ≡ 0 → AreZipped f one other (length other) both → (j : ℕ) → get_or both j 0 ≡ f (get_or one j 0) (get_or other j 0)
-  zipped-all both same zero-is h j = elim (cases_lt j (length other)) [
-    | inl below ↦ h.done j below
-    | inr past ↦
-        get_or_past both j 0 (omega (arith, past, h.count, same)) ∙ sym zero-is
-        ∙ ap (λ (n : ℕ). f n 0) (sym (get_or_past one j 0 (omega (arith, past, same))))
-        ∙ ap (f (get_or one j 0)) (sym (get_or_past other j 0 past))
-  ]
+  behind : (b : ℕ) → HasBucket later.marks page b → HasBucket (earlier.marks ++ later.marks) (length earlier.least + page) b
+  behind b has =
+      let at : (length earlier.least + page) * 64 + b / 64 ≡ length earlier.marks + (page * 64 + b / 64) = omega (arith, whole) in
+      ap (λ (n : ℕ). bit_at n (b % 64)) (ap (λ (i : ℕ). get_or (earlier.marks ++ later.marks) i 0) at ∙ get_or-append-add earlier.marks later.marks (page * 64 + b / 64) 0) ∙ has
+
+  pub noted-later : IsNoted later page group id → IsNoted (pages_behind earlier later) (length earlier.least + page) group id
+  noted-later noted = record {
+    marked = (behind (first_bucket group) noted.marked.0, behind (second_bucket group) noted.marked.1);
+    above = omega (arith, noted.above, get_or-append-add earlier.least later.least page 0);
+  }

@@ -1,6 +1,6 @@
 -- Totals of some of the objects, and of two parts together.
 -- Source: this project.
-use Rattle.std.specs.Prelude.{◌≡◌, ℕ, ◌+◌, ◌*◌, ◌/◌, ◌<◌, ◌≤◌, List, length, Contains, count_by, sum_by}
+use Rattle.std.specs.Prelude.{◌≡◌, ℕ, ◌+◌, ◌-◌, ◌*◌, ◌/◌, ◌<◌, ◌≤◌, List, length, Contains, count_by, sum_by}
 use Rattle.std.specs.List.{range_with_len}
 use Rattle.hd_terms.specs.declared.Group.{Group}
 use Rattle.hd_terms.specs.declared.Strength.{Strength}
@@ -50,8 +50,8 @@ pub record AreJoined (one other both : Totals) : Type 0 where
   pub few_keys : length both.keys ≤ length one.keys + length other.keys
   pub whole : length both.rows ≡ length both.keys
 
--- the totals of the objects from one number on, before another, and these noted among the pages of all
+-- the totals of the objects from one number on, before another, and the pages of these
 pub record IsShare (dump : Dump) (ks : List Reached) (start end : ℕ) (share : Share) : Type 0 where
   pub counted : AreGroupsCounted dump ks start end share.counted
-  pub room : length share.pages.least ≡ length dump.objects / 1024 + 1
+  pub room : length share.pages.least ≡ (end - start + 1023) / 1024
   pub noted : AreNotedBetween dump start end share.pages

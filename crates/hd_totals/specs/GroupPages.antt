@@ -1,8 +1,7 @@
 -- Of each page of objects, the groups of its objects by buckets, and an ID that none of its objects is below.
 -- Source: this project.
-use Rattle.std.specs.Prelude.{◌≡◌, ℕ, ◌+◌, ◌-◌, ◌*◌, ◌/◌, ◌%◌, ◌<◌, ◌≤◌, ◌^◌, List, length, min, replicate, slice_index_or}
+use Rattle.std.specs.Prelude.{◌≡◌, ℕ, ◌+◌, ◌-◌, ◌*◌, ◌/◌, ◌%◌, ◌<◌, ◌≤◌, ◌^◌, ◌++◌, List, length, replicate, slice_index_or}
 use Rattle.std.specs.Int.{bit_at}
-use Rattle.std.specs.Int.RustNames.{bit_or}
 use Rattle.hd_terms.specs.declared.Group.{Group}
 use Rattle.hd_terms.specs.declared.Group.TheVariants as groups
 use Rattle.hd_terms.specs.Dump.{Dump, object_at}
@@ -25,6 +24,10 @@ abbrev pub spread : Group → ℕ
 spread (groups.Class id) = id * 11400714819323198485 % 2 ^ 64
 spread (groups.Prim element) = element * 11400714819323198485 % 2 ^ 64
 spread groups.Classes = 0
+
+-- pages, and later ones behind them
+abbrev pub pages_behind : (earlier later : PageMarks) → PageMarks
+pages_behind earlier later = record { marks = earlier.marks ++ later.marks; least = earlier.least ++ later.least }
 
 -- the two buckets of a group, each one of 4,096
 abbrev pub first_bucket : Group → ℕ
@@ -49,23 +52,15 @@ IsMarked p page group = HasBucket p.marks page (first_bucket group) × HasBucket
 abbrev pub least_at : PageMarks → ℕ → ℕ
 least_at p page = slice_index_or p.least page 0
 
--- the group and the ID of the object of a number are noted
-pub record IsNoted (p : PageMarks) (o : ℕ) (group : Group) (id : ℕ) : Type 0 where
-  pub marked : IsMarked p (page_of o) group
-  pub above : least_at p (page_of o) ≤ id
+-- a group and an ID are noted at a page
+pub record IsNoted (p : PageMarks) (page : ℕ) (group : Group) (id : ℕ) : Type 0 where
+  pub marked : IsMarked p page group
+  pub above : least_at p page ≤ id
 
--- the objects of a dump from one number on, before another, are noted
+-- the objects of a dump from one number on, before another, are noted at pages of which the first is that of the first object
 abbrev pub AreNotedBetween : Dump → (start end : ℕ) → PageMarks → Type 0
-AreNotedBetween dump start end p = (o : ℕ) → start ≤ o → o < end → IsNoted p o (object_at dump o).group (object_at dump o).id
+AreNotedBetween dump start end p = (o : ℕ) → start ≤ o → o < end → IsNoted p (page_of o - page_of start) (object_at dump o).group (object_at dump o).id
 
 -- all objects of a dump are noted
 abbrev pub AreNoted : Dump → PageMarks → Type 0
-AreNoted dump p = AreNotedBetween dump 0 (length dump.objects) p
-
--- words have the bits that either of two words has
-abbrev pub IsUnited : (one other both : List ℕ) → Type 0
-IsUnited one other both = (i : ℕ) → slice_index_or both i 0 ≡ bit_or (slice_index_or one i 0) (slice_index_or other i 0)
-
--- IDs are the lesser of two each
-abbrev pub IsLowered : (one other both : List ℕ) → Type 0
-IsLowered one other both = (i : ℕ) → slice_index_or both i 0 ≡ min (slice_index_or one i 0) (slice_index_or other i 0)
+AreNoted dump p = (o : ℕ) → o < length dump.objects → IsNoted p (page_of o) (object_at dump o).group (object_at dump o).id

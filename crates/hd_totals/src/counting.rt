@@ -1,10 +1,10 @@
 //! Counting objects by their groups and strengths, part by part, by several threads.
 ghost use denote.Param.Send.{IsSync};
-ghost use Rattle.std.specs.Prelude.{[], ◌≡◌, ◌+◌, ◌<◌, ◌≤◌, ◌^◌, ℕ, length, IfOk, OnOk};
+ghost use Rattle.std.specs.Prelude.{[], ◌≡◌, ◌+◌, ◌%◌, ◌<◌, ◌≤◌, ◌^◌, length, IfOk, OnOk};
 ghost use Rattle.hd_terms.specs.declared.Group.{Group as OneGroup};
 ghost use Rattle.hd_terms.specs.declared.Strength.{Strength as OneStrength};
 ghost use Rattle.hd_terms.specs.Listed.{group_key};
-ghost use Rattle.hd_totals.specs.GroupPages.{IsNoted};
+ghost use Rattle.hd_totals.specs.GroupPages.{pages_behind, AreWhole as HaveMarks};
 ghost use Rattle.hd_totals.specs.Members.{InRange};
 ghost use Rattle.hd_totals.specs.Counting.{totals_of, AreGroupsCounted, AreJoined, AreWhole, IsShare};
 ghost use Rattle.hd_totals.specs.Running.{plus_one, IsPlaced, IsRowPut};
@@ -12,6 +12,7 @@ ghost use Rattle.hd_totals.specs.Totals.{row_at, sums_of, total_for, total_in};
 
 use crate::group_pages::{GroupPages, buckets_of};
 use crate::keys::{GroupKeys, key_of};
+use crate::last_changes::PAGE_OBJECTS;
 use crate::total::StrengthTotals;
 use hd_graph::Graph;
 use hd_supports::Supports;
@@ -22,7 +23,8 @@ use std::thread::{Threads, join};
 /// In how many shares the objects are counted.
 const SHARES: u32 = 4;
 
-/// How many places of totals a share remembers: one for each number of this many that buckets of groups leave when divided by it.
+/// How many cells a share has for the places where it found totals last. The cell of a group is its first bucket, modulo this
+/// number.
 const PLACES: usize = 256;
 
 /// The totals of some of the objects: the keys of their groups, and the totals of each, in the same order.
@@ -34,7 +36,7 @@ pub struct Counted {
     pub(crate) last: usize,
 }
 
-/// The totals of some of the objects, and which pages have objects of a group among these.
+/// The totals of some of the objects, and their pages.
 #[derive(Drop)]
 pub(crate) struct Share {
     pub(crate) counted: Counted,
@@ -100,7 +102,7 @@ fn count_object(
     Ok(place)
 }
 
-/// The totals of the objects from one number on, before another, and their pages.
+/// The totals of the objects from one number on, which begins a page, before another, and their pages.
 fn count_part(
     alloc: Global,
     graph: &Graph,
@@ -109,22 +111,28 @@ fn count_part(
     end: u32,
 ) -> Result<Share, NoMemory>
     requires count { length supports.now ≡ length graph.now.objects }
+    requires page { start % 1024 ≡ 0 }
     requires order { start ≤ end }
     requires within { end ≤ length graph.now.objects }
     ensures { IfOk result (IsShare graph.now supports.now start end) }
 {
     let mut keys = GroupKeys::new(alloc);
     let mut rows = Vec::new(alloc);
-    let mut pages = GroupPages::none(alloc, graph.objects())?;
+    let mut pages = GroupPages::none(alloc, (end - start).div_ceil(PAGE_OBJECTS) as usize)?;
     let mut places = vec![in alloc; 0; PLACES]?;
     for o in start..end {
         let group = graph.group_of(o);
         let key = key_of(group);
         let strength = supports.strength(o);
         let bytes = graph.bytes_of(o);
-        let near = buckets_of(group).0 % PLACES;
-        places[near] = count_object(&mut keys, &mut rows, places[near], key, strength, bytes)?;
-        pages.note(o, group, graph.id_of(o));
+        let buckets = buckets_of(group);
+        let cell = buckets.0 % PLACES;
+        places[cell] = count_object(&mut keys, &mut rows, places[cell], key, strength, bytes)?;
+        pages.note(
+            ((o - start) / PAGE_OBJECTS) as usize,
+            buckets,
+            graph.id_of(o),
+        );
     }
     let counted = Counted {
         keys,
@@ -174,20 +182,17 @@ fn join_parts(one: Counted, other: Counted) -> Result<Counted, NoMemory>
     Ok(Counted { keys, rows, last })
 }
 
-/// Two shares together.
+/// Two shares together, of which the other's pages are the later ones.
 fn join_shares(one: Share, other: Share) -> Result<Share, NoMemory>
     requires whole { AreWhole one.counted × AreWhole other.counted }
     requires counts { (group : OneGroup) (s : OneStrength) → InRange group → (total_in (totals_of one.counted) group s).count + (total_in (totals_of other.counted) group s).count < 2 ^ 64 }
     requires bytes { (group : OneGroup) (s : OneStrength) → InRange group → (total_in (totals_of one.counted) group s).bytes + (total_in (totals_of other.counted) group s).bytes < 2 ^ 64 }
-    requires pages { length one.pages.least ≡ length other.pages.least }
     ensures joined { IfOk result (λ both. AreJoined (totals_of one.counted) (totals_of other.counted) (totals_of both.counted)) }
-    ensures pages { IfOk result (λ both. length both.pages.least ≡ length one.pages.least) }
-    ensures first { IfOk result (λ both. (o : ℕ) (group : OneGroup) (id : ℕ) → IsNoted one.pages o group id → IsNoted both.pages o group id) }
-    ensures second { IfOk result (λ both. (o : ℕ) (group : OneGroup) (id : ℕ) → IsNoted other.pages o group id → IsNoted both.pages o group id) }
+    ensures pages { IfOk result (λ both. both.pages ≡ pages_behind one.pages other.pages) }
+    ensures marks { HaveMarks one.pages }
 {
+    let pages = one.pages.append(other.pages)?;
     let counted = join_parts(one.counted, other.counted)?;
-    let mut pages = one.pages;
-    pages.join(other.pages);
     Ok(Share { counted, pages })
 }
 
@@ -233,8 +238,20 @@ impl Counted {
     }
 }
 
-/// The same as `count_part`, in `shares` shares side by side. The calling thread begins a thread for each but the last, and counts that
-/// one itself; where the system refuses a thread, one share after the other.
+/// Where the first of `shares` shares of the objects ends: where a page begins, so that no page has objects of two shares.
+fn first_end(start: u32, end: u32, shares: u32) -> u32
+    requires some { 0 < shares }
+    requires page { start % 1024 ≡ 0 }
+    requires order { start ≤ end }
+    ensures page { result % 1024 ≡ 0 }
+    ensures between { (start ≤ result) × (result ≤ end) }
+{
+    let each = (end - start) / shares;
+    start + each / PAGE_OBJECTS * PAGE_OBJECTS
+}
+
+/// The same as `count_part`, in `shares` shares side by side. The calling thread begins a thread for each but the last, and counts
+/// that one itself; where the system refuses a thread, one share after the other.
 #[cycle(shares)]
 fn count_shares<R: Threads + Sync>(
     rt: &R,
@@ -246,6 +263,7 @@ fn count_shares<R: Threads + Sync>(
     shares: u32,
 ) -> Result<Share, NoMemory>
     requires count { length supports.now ≡ length graph.now.objects }
+    requires page { start % 1024 ≡ 0 }
     requires order { start ≤ end }
     requires within { end ≤ length graph.now.objects }
     ensures { IfOk result (IsShare graph.now supports.now start end) }
@@ -253,14 +271,14 @@ fn count_shares<R: Threads + Sync>(
     if shares <= 1 {
         return count_part(alloc, graph, supports, start, end);
     }
-    let middle = start + (end - start) / shares;
+    let middle = first_end(start, end, shares);
     let shares_left = shares - 1;
     let share = || -> Result<Share, NoMemory>
-        requires { (length supports.now ≡ length graph.now.objects) × (start ≤ middle) × (middle ≤ length graph.now.objects) }
+        requires { (length supports.now ≡ length graph.now.objects) × (start % 1024 ≡ 0) × (start ≤ middle) × (middle ≤ length graph.now.objects) }
         ensures { IfOk result (IsShare graph.entry.now supports.entry.now start middle) }
     { count_part(alloc, graph, supports, start, middle) };
     let others = || -> Result<Share, NoMemory>
-        requires { IsSync R.row × (length supports.now ≡ length graph.now.objects) × (middle ≤ end) × (end ≤ length graph.now.objects) }
+        requires { IsSync R.row × (length supports.now ≡ length graph.now.objects) × (middle % 1024 ≡ 0) × (middle ≤ end) × (end ≤ length graph.now.objects) }
         ensures { IfOk result (IsShare graph.entry.now supports.entry.now middle end) }
     { count_shares(rt, alloc, graph, supports, middle, end, shares_left) };
     let (one, other) = join(rt, share, others);

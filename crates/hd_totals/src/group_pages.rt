@@ -1,10 +1,8 @@
 //! Which groups the objects of each page are of.
-ghost use Rattle.std.specs.Prelude.{◌≡◌, ◌+◌, ◌*◌, ◌/◌, ◌<◌, ◌≤◌, ◌↔◌, ℕ, length, IfOk, IsTrue};
+ghost use Rattle.std.specs.Prelude.{◌≡◌, ◌+◌, ◌*◌, ◌/◌, ◌^◌, ◌<◌, ◌≤◌, ◌↔◌, ℕ, length, IfOk, IsTrue};
 ghost use Rattle.hd_terms.specs.declared.Group.{Group as OneGroup};
-ghost use Rattle.hd_totals.specs.GroupPages.{first_bucket, second_bucket, spread, least_at, no_marks, HasBucket, IsLowered, IsMarked, IsNoted, IsUnited};
-ghost use Rattle.hd_totals.specs.LastChanges.{page_of};
+ghost use Rattle.hd_totals.specs.GroupPages.{first_bucket, second_bucket, spread, least_at, no_marks, pages_behind, AreWhole as HaveMarks, HasBucket, IsMarked, IsNoted};
 
-use crate::last_changes::PAGE_OBJECTS;
 use hd_terms::{Group, NoMemory};
 use std::alloc::Global;
 use std::marker::Model;
@@ -16,9 +14,9 @@ const BUCKETS: usize = 4096;
 const WORDS: usize = BUCKETS / 64;
 
 /// Of each page of 1,024 objects, the two buckets of each group of its objects, and an ID that none of its objects is below. So a
-/// query can leave out a page that has no object of a group, or none with an ID that is low enough. Another group may fall in one of
-/// the buckets; one that is not on a page seldom finds both of its buckets marked there (B. H. Bloom, Space/Time Trade-offs in Hash
-/// Coding with Allowable Errors, Communications of the ACM 13(7), 1970).
+/// query can leave out a page that has no object of a group, or none with an ID that is low enough. Another group may fall in one
+/// of the buckets; one that is not on a page seldom finds both of its buckets marked there (B. H. Bloom, Space/Time Trade-offs in
+/// Hash Coding with Allowable Errors, Communications of the ACM 13(7), 1970).
 ///
 /// It takes 520 bytes a page.
 pub struct GroupPages {
@@ -91,67 +89,56 @@ fn has_bucket(marks: &[u64], page: u32, bucket: usize) -> bool
     }
 }
 
-/// Gives each word the bits of a further one as well.
-fn unite(words: &mut Vec<u64>, more: &[u64])
-    requires { length words.old.items ≡ length more.now }
-    ensures count { length words.new.items ≡ length words.old.items }
-    ensures bits { IsUnited words.old.items more.now words.new.items }
-{
-    for i in 0..more.len() {
-        words[i] |= more[i];
-    }
-}
-
-/// Keeps of each ID and a further one the lesser.
-fn lower(least: &mut Vec<u64>, more: &[u64])
-    requires { length least.old.items ≡ length more.now }
-    ensures count { length least.new.items ≡ length least.old.items }
-    ensures ids { IsLowered least.old.items more.now least.new.items }
-{
-    for i in 0..more.len() {
-        least[i] = least[i].min(more[i]);
-    }
-}
-
 impl GroupPages {
-    /// The pages of `objects` objects, of which none is noted yet.
+    /// `pages` pages, at which no object is noted yet.
     ///
     /// # Errors
     ///
     /// Memory ran out.
-    pub(crate) fn none(alloc: Global, objects: u32) -> Result<GroupPages, NoMemory>
-        ensures { IfOk result (λ p. p ≡ no_marks (objects / 1024 + 1)) }
+    pub(crate) fn none(alloc: Global, pages: usize) -> Result<GroupPages, NoMemory>
+        requires { pages * 64 < 2 ^ 64 }
+        ensures { IfOk result (λ p. p ≡ no_marks pages) }
     {
-        let pages = (objects / PAGE_OBJECTS) as usize + 1;
         let marks = vec![in alloc; 0u64; pages * WORDS]?;
         let least = vec![in alloc; u64::MAX; pages]?;
         Ok(GroupPages { marks, least })
     }
 
-    /// Notes the group and the ID of the object of a number.
+    /// Notes the buckets of an object's group, and its ID, at its page.
     #[inline(always)]
-    pub(crate) fn note(&mut self, o: u32, group: Group, id: u64)
-        requires { page_of o < length self.old.least }
+    pub(crate) fn note(&mut self, page: usize, buckets: (usize, usize), id: u64)
+        requires page { page < length self.old.least }
+        requires buckets { (buckets.0 < 4096) × (buckets.1 < 4096) }
         ensures count { length self.new.least ≡ length self.old.least }
-        ensures noted { IsNoted self.new o group id }
-        ensures kept { (x : ℕ) (g : OneGroup) (i : ℕ) → IsNoted self.old x g i → IsNoted self.new x g i }
+        ensures marked { HasBucket self.new.marks page buckets.0 × HasBucket self.new.marks page buckets.1 }
+        ensures above { least_at self.new page ≤ id }
+        ensures kept { (p : ℕ) (g : OneGroup) (i : ℕ) → IsNoted self.old p g i → IsNoted self.new p g i }
     {
-        let page = (o / PAGE_OBJECTS) as usize;
-        let (first, second) = buckets_of(group);
-        mark(&mut self.marks, page, first);
-        mark(&mut self.marks, page, second);
+        mark(&mut self.marks, page, buckets.0);
+        mark(&mut self.marks, page, buckets.1);
         self.least[page] = self.least[page].min(id);
     }
 
-    /// Notes what others have noted of the same pages.
-    pub(crate) fn join(&mut self, other: GroupPages)
-        requires { length self.old.least ≡ length other.least }
-        ensures count { length self.new.least ≡ length self.old.least }
-        ensures kept { (x : ℕ) (g : OneGroup) (i : ℕ) → IsNoted self.old x g i → IsNoted self.new x g i }
-        ensures others { (x : ℕ) (g : OneGroup) (i : ℕ) → IsNoted other x g i → IsNoted self.new x g i }
+    /// These pages, and later ones behind them.
+    ///
+    /// # Errors
+    ///
+    /// Memory ran out.
+    pub(crate) fn append(self, later: GroupPages) -> Result<GroupPages, NoMemory>
+        ensures behind { IfOk result (λ p. p ≡ pages_behind self later) }
+        ensures marks { HaveMarks self }
     {
-        unite(&mut self.marks, other.marks.as_slice());
-        lower(&mut self.least, other.least.as_slice());
+        let GroupPages {
+            mut marks,
+            mut least,
+        } = self;
+        let GroupPages {
+            marks: mut later_marks,
+            least: mut later_least,
+        } = later;
+        marks.append(&mut later_marks)?;
+        least.append(&mut later_least)?;
+        Ok(GroupPages { marks, least })
     }
 
     /// Whether an object of a page may be of a group: both buckets of the group are marked there.

@@ -12,11 +12,12 @@
 //!   their type, then class objects. `GroupKeys` is a hash set in insertion order, so the index of a key is the index
 //!   of its row.
 //! - `counting.rt` makes the first totals in one pass over the objects. They are cut into four shares, each counted by
-//!   a thread with keys and rows of its own; then the rows of each group are added up. Where the system refuses a
+//!   a thread with keys and rows of its own; then the rows of each group are added up. A share begins where a page does,
+//!   so no page has objects of two shares, and the pages of all are put one behind another. Where the system refuses a
 //!   thread, the shares are counted one after another. Queries count some of the objects by the same parts (`Counted`).
 //! - `group_pages.rt` keeps of each page of 1,024 objects which groups its objects may be of, in a bit for each of 4,096
-//!   buckets, two buckets a group, and the least ID (`GroupPages`). It is noted while the first totals are counted, and never changes. The
-//!   query that lists the objects of a group skips the other pages.
+//!   buckets, two buckets a group, and the least ID (`GroupPages`). It is noted while the first totals are counted, and
+//!   never changes. The query that lists the objects of a group skips the other pages.
 //! - `group_totals.rt` moves each changed object from the total of its strength before to that of its strength after
 //!   (`apply`), one move for each `Change` of `hd_repair`. Where memory runs out, some moves may be missing, so the
 //!   version must not be used further.

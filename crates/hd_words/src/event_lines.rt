@@ -16,6 +16,7 @@ pub struct EventRow {
 }
 
 /// Events as lines: `E WHO EDIT live`, `E WHO EDIT undone` or `E WHO undo K`.
+#[derive(Drop)]
 pub struct EventLines;
 
 impl LineFormat for EventLines {
@@ -25,7 +26,7 @@ impl LineFormat for EventLines {
 
     ghost line = { λ _ row. event_line row };
 
-    fn put(&self, text: &mut String, row: &EventRow) -> Result<(), AllocError> {
+    fn put(&mut self, text: &mut String, row: &EventRow) -> Result<(), AllocError> {
         put_decimal(text, u64::from(row.number))?;
         text.push_str(" ")?;
         put_decimal(text, u64::from(row.event.who))?;

@@ -1,7 +1,8 @@
 //! Replies of many lines: `ok N`, and a line for each of N rows.
 ghost use Rattle.std.specs.Prelude.{◌≡◌, ◌∷◌, ◌++◌, ℕ, List, All, codes, decimal, map, string_bytes, IfOk, OnOk};
 ghost use Rattle.std.specs.List.{flat_map};
-ghost use Rattle.hd_lines.specs.Replies.{answered, first_lines, with_newline};
+ghost use Rattle.hd_lines.specs.Replies.{answered, with_newline};
+ghost use Rattle.hd_terms.specs.Listed.{first_items};
 ghost use Rattle.hd_words.specs.FirstLines.{first_count};
 
 use crate::decimal::put_decimal;
@@ -18,21 +19,24 @@ pub trait LineFormat {
     /// The line of a row.
     ghost line: { Self → Self.Row → List ℕ };
 
-    /// Puts the line of a row behind a text, without the newline that ends it.
-    fn put(&self, text: &mut String, row: &Self::Row) -> Result<(), AllocError>
-        requires { can_write self.now row.now }
-        ensures { OnOk result (string_bytes text.new ≡ string_bytes text.old ++ line self.now row.now) };
+    /// Puts the line of a row behind a text, without the newline that ends it. What a format finds for one row it may keep for the
+    /// next; no line depends on it.
+    fn put(&mut self, text: &mut String, row: &Self::Row) -> Result<(), AllocError>
+        requires { can_write self.old row.now }
+        ensures line { OnOk result (string_bytes text.new ≡ string_bytes text.old ++ line self.old row.now) }
+        ensures same { self.new ≡ self.old };
 }
 
 /// Puts the line of each row behind a text.
 #[tactic(auto, using(crate::proofs::FlatMaps::flat_push))]
 pub fn put_lines<F: LineFormat>(
     text: &mut String,
-    format: &F,
+    format: &mut F,
     rows: &[F::Row],
 ) -> Result<(), AllocError>
-    requires { All (F.can_write format.now) rows.now }
-    ensures { OnOk result (string_bytes text.new ≡ string_bytes text.old ++ flat_map with_newline (map (F.line format.now) rows.now)) }
+    requires { All (F.can_write format.old) rows.now }
+    ensures lines { OnOk result (string_bytes text.new ≡ string_bytes text.old ++ flat_map with_newline (map (F.line format.old) rows.now)) }
+    ensures same { format.new ≡ format.old }
 {
     for row in rows {
         put_line(text, format, row)?;
@@ -41,9 +45,14 @@ pub fn put_lines<F: LineFormat>(
 }
 
 /// Puts the line of a row and its newline behind a text.
-fn put_line<F: LineFormat>(text: &mut String, format: &F, row: &F::Row) -> Result<(), AllocError>
-    requires { F.can_write format.now row.now }
-    ensures { OnOk result (string_bytes text.new ≡ string_bytes text.old ++ with_newline (F.line format.now row.now)) }
+fn put_line<F: LineFormat>(
+    text: &mut String,
+    format: &mut F,
+    row: &F::Row,
+) -> Result<(), AllocError>
+    requires { F.can_write format.old row.now }
+    ensures line { OnOk result (string_bytes text.new ≡ string_bytes text.old ++ with_newline (F.line format.old row.now)) }
+    ensures same { format.new ≡ format.old }
 {
     format.put(text, row)?;
     text.push('\n')?;
@@ -73,12 +82,13 @@ fn put_count(text: &mut String, count: usize) -> Result<(), AllocError>
 /// `ok N`, and the line of each of N rows: the first ones where at most `most` are wanted.
 pub fn lines_text<F: LineFormat>(
     alloc: Global,
-    format: &F,
+    format: &mut F,
     rows: &[F::Row],
     most: Option<u32>,
 ) -> Result<String, AllocError>
-    requires { All (F.can_write format.now) rows.now }
-    ensures { IfOk result (λ text. string_bytes text ≡ answered (first_lines most (map (F.line format.now) rows.now))) }
+    requires { All (F.can_write format.old) rows.now }
+    ensures lines { IfOk result (λ text. string_bytes text ≡ answered (first_items most (map (F.line format.old) rows.now))) }
+    ensures same { format.new ≡ format.old }
 {
     let mut text = String::new(alloc);
     let count = count_of(rows.len(), most);
@@ -91,12 +101,13 @@ pub fn lines_text<F: LineFormat>(
 pub fn lines_text_from<F: LineFormat>(
     alloc: Global,
     start: &str,
-    format: &F,
+    format: &mut F,
     rows: &[F::Row],
     most: Option<u32>,
 ) -> Result<String, AllocError>
-    requires { All (F.can_write format.now) rows.now }
-    ensures { IfOk result (λ text. string_bytes text ≡ answered (first_lines most (start.now ∷ map (F.line format.now) rows.now))) }
+    requires { All (F.can_write format.old) rows.now }
+    ensures lines { IfOk result (λ text. string_bytes text ≡ answered (first_items most (start.now ∷ map (F.line format.old) rows.now))) }
+    ensures same { format.new ≡ format.old }
 {
     let mut text = String::new(alloc);
     let Some(all) = rows.len().checked_add(1) else {

@@ -9,6 +9,7 @@ use std::alloc::AllocError;
 use std::fmt::Write;
 
 /// What moved between two strengths as lines: `BEFORE AFTER COUNT BYTES`.
+#[derive(Drop)]
 pub struct MovedLines;
 
 impl LineFormat for MovedLines {
@@ -20,7 +21,7 @@ impl LineFormat for MovedLines {
 
     ghost line = { λ _ row. moved_line row };
 
-    fn put(&self, text: &mut String, row: &MovedRow) -> Result<(), AllocError> {
+    fn put(&mut self, text: &mut String, row: &MovedRow) -> Result<(), AllocError> {
         let before = strength_text(row.before);
         let after = strength_text(row.after);
         write!(text, "{before} {after} ")?;

@@ -215,7 +215,7 @@ fn usage_faults(rt: HostRuntime) {
 
 #[test]
 fn version(rt: HostRuntime) {
-    assert!(rt; ends(&rt, &["--version"], DONE, b"hdesk 1.4.1\n", b""));
+    assert!(rt; ends(&rt, &["--version"], DONE, b"hdesk 1.4.2\n", b""));
     assert!(rt; !usage_of(&rt, &["stat", "--version"]).is_empty());
 }
 

@@ -9,7 +9,7 @@ use Rattle.hd_analyst.proofs.texts.log_text.Goals as goal
 pub returns : goal.returns
 returns c =
     let empty : string_bytes c.new-text.result ≡ [] = c.new-text.ensures.bytes in
-    c.in_ok-put_lines.ensures
+    c.in_ok-put_lines.ensures.lines
     ∙ ap (λ (before : List ℕ). before ++ flat_map with_newline (map event_line c.as_slice.result.now)) empty
     ∙ ap (λ (rows : List EventRow). flat_map with_newline (map event_line rows)) (c.as_slice.ensures.value ∙ c.in_ok-rows.ensures)
     ∙ ap (flat_map with_newline) (lines_of_rows c.args.front.now)

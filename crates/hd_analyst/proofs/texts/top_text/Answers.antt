@@ -1,7 +1,8 @@
 use Rattle.std.proofs.Common.{◌∙◌, List, Ok, map, refl, ap}
 use Rattle.hd_terms.specs.declared.ClassRow.{ClassRow}
 use Rattle.hd_terms.specs.Dump.{Dump}
-use Rattle.hd_lines.specs.Replies.{answered, class_line, first_lines}
+use Rattle.hd_lines.specs.Replies.{answered, class_line}
+use Rattle.hd_terms.specs.Listed.{first_items}
 use Rattle.hd_analyst.proofs.texts.top_text.Goals as goal
 
 pub returns : goal.returns
@@ -11,7 +12,7 @@ returns c =
     let most = c.args.showing.most in (
       Ok (map (class_line dump) rows),
       (rows, c.in_ok-rows.ensures, refl),
-      c.in_ok-text.ensures
-          ∙ ap (λ (d : Dump). answered (first_lines most (map (class_line d) c.as_slice.result.now))) c.graph.ensures
-          ∙ ap (λ (rs : List ClassRow). answered (first_lines most (map (class_line dump) rs))) c.as_slice.ensures.value,
+      c.in_ok-text.ensures.lines
+          ∙ ap (λ (d : Dump). answered (first_items most (map (class_line d) c.as_slice.result.now))) c.graph.ensures
+          ∙ ap (λ (rs : List ClassRow). answered (first_items most (map (class_line dump) rs))) c.as_slice.ensures.value,
     )

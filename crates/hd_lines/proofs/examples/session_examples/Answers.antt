@@ -41,7 +41,7 @@ spelled e f b le lf lb =
     ∙ ap (λ (fell : List ℕ). text (49 ∷ []) ((48 + e) ∷ []) fell (decimal b)) (decimal_digit f lf)
     ∙ ap (λ (back : List ℕ). text (49 ∷ []) ((48 + e) ∷ []) ((48 + f) ∷ []) back) (decimal_digit b lb)
 
--- so many events of the log are a lawful log with the same events of an analyst
+-- `m` events of the log are a lawful log with the same events of an analyst
 later : (who n m : ℕ) (more : List Event) → session_examples.first_cuts m ≡ session_examples.first_cuts n ++ more → own who (session_examples.first_cuts m) ≡ own who (session_examples.first_cuts n) → IsLawful (session_examples.first_cuts m)
     → IsLater who (session_examples.first_cuts n) (session_examples.first_cuts m)
 later who n m more begins same is = record { more = more; begins = begins; same_own = same; lawful = is }

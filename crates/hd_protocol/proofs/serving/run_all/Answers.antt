@@ -1,6 +1,6 @@
 use Rattle.std.proofs.Common.{◌∙◌, Err, sym, ap, subst}
 use Rattle.std.proofs.lemmas.Result.{err_from_is_err_and}
-use Rattle.hd_protocol.specs.Serving.{RunsInput}
+use Rattle.hd_protocol.specs.Steps.{RunsInput}
 use Rattle.hd_protocol.proofs.ServedLines.{served_lost}
 use Rattle.hd_protocol.proofs.serving.run_all.Goals as goal
 

@@ -1,7 +1,7 @@
 use Rattle.std.proofs.Common.{◌∙◌, ◌+◌, [], ◌∷◌, get_or, Ok, Err, ap, subst}
 use Rattle.std.proofs.lemmas.Result.{err_from_is_err_and}
 use Rattle.hd_protocol.specs.declared.serving.Flow.TheVariants as flows
-use Rattle.hd_protocol.specs.Serving.{midway, RunsBytes}
+use Rattle.hd_protocol.specs.Steps.{midway, RunsBytes}
 use Rattle.hd_protocol.proofs.ServedLines.{runs_next, runs_all, runs_past_quit, runs_past_fault}
 use Rattle.hd_protocol.proofs.serving.run_chunk.Goals as goal
 

@@ -1,6 +1,6 @@
 use Rattle.std.proofs.Common.{Ok, take}
 use Rattle.hd_protocol.specs.declared.serving.Flow.TheVariants as flows
-use Rattle.hd_protocol.specs.Serving.{midway, RunsBytes}
+use Rattle.hd_protocol.specs.Steps.{midway, RunsBytes}
 use Rattle.hd_protocol.proofs.serving.run_chunk.Given as goal
 
 -- the bytes so far were run

@@ -1,6 +1,6 @@
 use Rattle.std.proofs.Common.{◌≡◌, ◌<◌, ◌∙◌, Err, ap, length, arith}
 use Rattle.std.proofs.lemmas.Result.{err_from_is_err_and}
-use Rattle.hd_protocol.specs.Serving.{midway}
+use Rattle.hd_protocol.specs.Steps.{midway}
 use Rattle.hd_protocol.proofs.ServedLines.{runs_end_none, runs_end, runs_end_fault}
 use Rattle.hd_protocol.proofs.serving.run_end.Goals as goal
 

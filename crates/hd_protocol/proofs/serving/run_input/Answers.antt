@@ -2,7 +2,7 @@ use Rattle.std.proofs.Common.{◌≡◌, ◌∙◌, Ok, Err, length, sym, ap, su
 use Rattle.std.proofs.KnownBytes.{Keeps-refl}
 use Rattle.std.proofs.lemmas.Result.{err_from_is_err_and}
 use Rattle.std.specs.Io.KnownBytes.{Consumes}
-use Rattle.hd_protocol.specs.Serving.{midway, RunsBytes, RunsInput}
+use Rattle.hd_protocol.specs.Steps.{midway, RunsBytes, RunsInput}
 use Rattle.hd_protocol.proofs.ServedLines.{running_none, running_read, read_ends, flush_ends, quit_ends, fault_ends, end_ends}
 use Rattle.hd_protocol.proofs.serving.run_input.Goals as goal
 

@@ -1,4 +1,4 @@
-use Rattle.hd_protocol.specs.Serving.{midway}
+use Rattle.hd_protocol.specs.Steps.{midway}
 use Rattle.hd_protocol.proofs.ServedLines.{IsRunning}
 use Rattle.hd_protocol.proofs.serving.run_input.Given as goal
 

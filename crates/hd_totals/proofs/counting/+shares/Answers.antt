@@ -20,4 +20,5 @@ pub returns : goal.returns
 returns g t c =
     let first = rw c.in_ok-one.was at c.join-one.ensures.first in
     let second = rw c.in_ok-other.was at c.join-one.ensures.second in
-    both-shares c.args.graph.now c.args.supports.now _ _ _ c.in_ok-one.field-0 c.in_ok-other.field-0 first second c.in_ok-both.both c.in_ok-both.ensures.joined c.in_ok-both.ensures.pages c.in_ok-both.ensures.first c.in_ok-both.ensures.second
+    both-shares c.args.graph.now c.args.supports.now _ _ _ c.in_ok-one.field-0 c.in_ok-other.field-0 first second c.in_ok-both.both
+    c.requires.page c.first_end-middle.ensures.page (omega arith) (omega arith) c.in_ok-both.ensures.marks c.in_ok-both.ensures.joined c.in_ok-both.ensures.pages

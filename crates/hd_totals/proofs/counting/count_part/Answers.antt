@@ -1,4 +1,4 @@
-use Rattle.std.proofs.Common.{◌≡◌, ◌∙◌, ◌+◌, ◌-◌, ◌/◌, ◌%◌, ◌≤◌, ◌^◌, inl, inr, ℕ, length, sym, ap, subst, arith}
+use Rattle.std.proofs.Common.{◌≡◌, ◌∙◌, ◌-◌, ◌/◌, ◌%◌, ◌≤◌, ◌^◌, inl, inr, ℕ, length, sym, ap, subst, arith}
 use Rattle.std.proofs.lemmas.Bool.{cases_lt}
 use Rattle.std.proofs.lemmas.List.{length-replicate, length-set}
 use Rattle.hd_terms.specs.declared.Group.{Group}
@@ -7,7 +7,8 @@ use Rattle.hd_terms.specs.Dump.{object_at}
 use Rattle.hd_terms.specs.Listed.{group_key}
 use Rattle.hd_terms.specs.Records.{largest_file}
 use Rattle.hd_totals.specs.Counting.{AreTotalsBetween}
-use Rattle.hd_totals.specs.GroupPages.{PageMarks, AreNotedBetween, IsNoted}
+use Rattle.hd_totals.specs.GroupPages.{PageMarks, AreNotedBetween, HasBucket, IsNoted}
+use Rattle.hd_totals.specs.LastChanges.{page_of}
 use Rattle.hd_totals.specs.Members.{InRange}
 use Rattle.hd_totals.specs.Running.{strength_in, plus_one, IsRowPut}
 use Rattle.hd_totals.specs.Totals.{Totals, total_for, row_at}
@@ -34,7 +35,7 @@ count_object-requires-clause-bytes c =
 pub loop-o-init : goal.loop-o-init
 loop-o-init c = record {
   totals = rw (c.new-keys.ensures, c.new-rows.ensures.items) (none-between c.args.graph.now (strength_in c.args.supports.now) c.args.start);
-  room = omega (arith, ap (λ (p : PageMarks). length p.least) c.in_ok-pages.ensures, length-replicate (c.objects.result / 1024 + 1) (2 ^ 64 - 1), c.objects.ensures);
+  room = ap (λ (p : PageMarks). length p.least) c.in_ok-pages.ensures ∙ length-replicate c.div_ceil.result (2 ^ 64 - 1) ∙ omega (arith, c.div_ceil.ensures);
   noted = λ x le lt. absurd (omega (arith, le, lt));
   places = omega (arith, c.in_ok-places.ensures.len, c.in_ok-places.places.ok);
 }
@@ -56,15 +57,22 @@ loop-o-preserved c =
     record {
       totals = one-more-between dump st c.args.start o t t' c.loop-o.invariant.totals (omega arith) range small put;
       room = c.note.ensures.count ∙ c.loop-o.invariant.room;
-      places = length-set c.loop-o.places.items (c.buckets_of.result.0 % 256) c.in_ok-places-2.field-0 ∙ c.loop-o.invariant.places;
+      places = length-set c.loop-o.places.items (c.buckets_of-buckets.result.0 % 256) c.in_ok-places-2.field-0 ∙ c.loop-o.invariant.places;
       noted = λ x le lt. elim (cases_lt x o) [
-        | inl earlier ↦ c.note.ensures.kept x (object_at dump x).group (object_at dump x).id (c.loop-o.invariant.noted x le earlier)
+        | inl earlier ↦ c.note.ensures.kept (page_of x - page_of c.args.start) (object_at dump x).group (object_at dump x).id (c.loop-o.invariant.noted x le earlier)
         | inr last ↦
             let same : x ≡ o = omega (arith, lt, last) in
-            let here : IsNoted c.note.new.self o (object_at dump o).group (object_at dump o).id =
-            subst (λ (g : Group). IsNoted c.note.new.self o g (object_at dump o).id) c.group_of-group.ensures
-            (subst (λ (id : ℕ). IsNoted c.note.new.self o c.group_of-group.result id) c.id_of.ensures c.note.ensures.noted) in
-            subst (λ (y : ℕ). IsNoted c.note.new.self y (object_at dump y).group (object_at dump y).id) (sym same) here
+            let page : (o - c.args.start) / 1024 ≡ page_of o - page_of c.args.start = omega (arith, c.requires.page, c.requires.order) in
+            let at : ℕ = (o - c.args.start) / 1024 in
+            let first = subst (λ (b : ℕ). HasBucket c.note.new.self.marks at b) c.buckets_of-buckets.ensures.first c.note.ensures.marked.0 in
+            let second = subst (λ (b : ℕ). HasBucket c.note.new.self.marks at b) c.buckets_of-buckets.ensures.second c.note.ensures.marked.1 in
+            let noted : IsNoted c.note.new.self at c.group_of-group.result c.id_of.result = record { marked = (first, second); above = c.note.ensures.above } in
+            let here : IsNoted c.note.new.self at (object_at dump o).group (object_at dump o).id =
+            subst (λ (g : Group). IsNoted c.note.new.self at g (object_at dump o).id) c.group_of-group.ensures
+            (subst (λ (id : ℕ). IsNoted c.note.new.self at c.group_of-group.result id) c.id_of.ensures noted) in
+            let there : IsNoted c.note.new.self (page_of o - page_of c.args.start) (object_at dump o).group (object_at dump o).id =
+            subst (λ (n : ℕ). IsNoted c.note.new.self n (object_at dump o).group (object_at dump o).id) page here in
+            subst (λ (y : ℕ). IsNoted c.note.new.self (page_of y - page_of c.args.start) (object_at dump y).group (object_at dump y).id) (sym same) there
       ];
     }
 

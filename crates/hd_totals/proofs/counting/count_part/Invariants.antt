@@ -1,4 +1,4 @@
-use Rattle.std.proofs.Common.{◌≡◌, ◌+◌, ◌/◌, length}
+use Rattle.std.proofs.Common.{◌≡◌, ◌+◌, ◌-◌, ◌/◌, length}
 use Rattle.hd_totals.specs.Counting.{AreTotalsBetween}
 use Rattle.hd_totals.specs.GroupPages.{AreNotedBetween}
 use Rattle.hd_totals.specs.Running.{strength_in}
@@ -8,7 +8,7 @@ use Rattle.hd_totals.proofs.counting.count_part.Given as goal
 abbrev pub invariant-loop-o : goal.invariant-loop-o
 invariant-loop-o l = record {
   totals : AreTotalsBetween l.graph (strength_in l.supports) l.start l.o (record { keys = l.keys; rows = l.rows.items });
-  room : length l.pages.least ≡ length l.graph.objects / 1024 + 1;
+  room : length l.pages.least ≡ (l.end - l.start + 1023) / 1024;
   noted : AreNotedBetween l.graph l.start l.o l.pages;
   places : length l.places.items ≡ 256;
 }

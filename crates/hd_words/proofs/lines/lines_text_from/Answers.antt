@@ -6,8 +6,8 @@ use Rattle.hd_words.proofs.FirstLineLemmas.{head, written-with-start, written-wi
 use Rattle.hd_words.proofs.lines.lines_text_from.Goals as goal
 use Rattle.hd_words.proofs.lines.lines_text_from.Goals.{then-count-gt0+in_ok-push_str+in_ok-push+in_ok-put_lines, else-count-gt0}
 
-pub returns : goal.returns
-returns g c =
+pub returns-clause-lines : goal.returns-clause-lines
+returns-clause-lines g c =
     let line = g.F.LineFormat.line c.args.format.now in
     let rows = c.args.rows.now in
     let most = c.args.most in
@@ -20,7 +20,7 @@ returns g c =
       | then-count-gt0+in_ok-push_str+in_ok-push+in_ok-put_lines w ↦
           written-with-start line start rows most count counted (string_bytes c.if-count-gt0.text) w.if-count-gt0.true
           (ap string_bytes w.text-is
-          ∙ w.in_ok-put_lines.ensures
+          ∙ w.in_ok-put_lines.ensures.lines
           ∙ ap (λ (text : List ℕ). text ++ flat_map with_newline (map line (take (count - 1) rows)))
           (w.in_ok-push.ensures.bytes ∙ ap (λ (newline : List ℕ). string_bytes w.push_str.new.self ++ newline) (w.in_ok-push.ensures.ascii (lit< tt)) ∙ ap (λ (text : List ℕ). text ++ 10 ∷ []) w.in_ok-push_str.ensures.bytes ∙ ap (λ (text : List ℕ). (text ++ start) ++ 10 ∷ []) begun))
       | else-count-gt0 w ↦
