@@ -37,7 +37,7 @@ from session import add_program, native  # noqa: E402
 
 COLUMNS = ["dump", "bytes", "objects", "program", "threads", "runs", "seconds", "processor", "peak", "held"]
 LARGE = 64 << 20
-TUNABLES = "glibc.malloc.hugetlb=1:glibc.malloc.mmap_threshold=2097152"  # those of the script `hdesk` for large dumps
+TUNABLES = "glibc.malloc.hugetlb=1:glibc.malloc.mmap_threshold=1048576"  # those of the script `hdesk` for large dumps
 
 
 class Subject(NamedTuple):
