@@ -15,7 +15,7 @@ use crate::class_shapes::push_class_shape;
 use crate::instance_rows::push_instance_row;
 use crate::instance_shapes::push_fitted_shape;
 use hd_classes::{Classes, LayoutBytes};
-use hd_ids::JoinedIds;
+use hd_ids::ObjectIds;
 use hd_shapes::{JoinedShapes, Shapes};
 use hd_slots::{JoinedRows, UnresolvedSlots};
 use hd_subs::{DumpSubs, Item, Sub, array_class_offset};
@@ -43,7 +43,7 @@ impl<'a> StretchRows<'a> {
         alloc: Global,
         bytes: &'a [u8],
         id_size: IdSize,
-        ids: Arc<JoinedIds>,
+        ids: Arc<ObjectIds>,
     ) -> Result<StretchRows<'a>, AllocError>
         requires small { length bytes.now < 2 ^ 31 }
         requires few { length (arc_value ids) < 2 ^ 31 }
@@ -194,7 +194,7 @@ fn fill_first_rows(
 /// those of the first object of each ID.
 fn first_rows_of<'a>(
     alloc: Global,
-    ids: JoinedIds,
+    ids: ObjectIds,
     classes: &Classes,
     id_size: IdSize,
     bytes: &'a [u8],
@@ -225,7 +225,7 @@ fn first_rows_of<'a>(
 /// repeated; where they aren't given, or some are repeated, they are made anew.
 pub(crate) fn rows_of<'a>(
     alloc: Global,
-    ids: JoinedIds,
+    ids: ObjectIds,
     all: Option<Rows<'a>>,
     classes: &Classes,
     id_size: IdSize,

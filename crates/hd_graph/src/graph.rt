@@ -5,8 +5,7 @@ ghost use Rattle.std.specs.Option.{option_map, option_copied};
 ghost use Rattle.hd_terms.specs.Counts.{unresolved_of};
 ghost use Rattle.hd_terms.specs.Edges.{index_of};
 ghost use Rattle.hd_terms.specs.EditedDump.{same_slot};
-ghost use Rattle.hd_terms.specs.Dump.{SlotEntry, NamedClass, object_at, name_in, named_class, named_field, static_name};
-ghost use Rattle.hd_names.specs.Fields.{field_view};
+ghost use Rattle.hd_terms.specs.Dump.{SlotEntry, NamedClass, object_at, name_in, named_class, static_name};
 ghost use Rattle.hd_terms.specs.declared.Slot.{Slot};
 ghost use Rattle.hd_shapes.specs.Shapes.{shape_bytes};
 ghost use Rattle.hd_shapes.specs.PackedShapes.{shape_view};
@@ -16,7 +15,7 @@ ghost use Rattle.hd_graph.specs.Shapes.{slot_name, slot_kind, shape_index, shape
 
 use crate::kinds::{KindLists, kinds_of};
 use hd_classes::ClassNames;
-use hd_names::{FieldName, FieldNames, NamedClasses};
+use hd_names::{FieldNames, NamedClasses};
 use hd_shapes::{JoinedShapes, Shape};
 use hd_slots::{IdCounts, SlotTable, Targets};
 use hd_terms::{EdgeKind, Group, Mode, RootKind, Slot};
@@ -463,16 +462,6 @@ impl Graph {
     {
         match &self.classes {
             Some(classes) => classes.fields(class),
-            None => None,
-        }
-    }
-
-    /// The field of a number in the layout of the class of an ID, if the class has it and its name is kept.
-    pub fn named_field(&self, class: u64, field: u32) -> Option<FieldName<'_>>
-        ensures { option_map field_view result ≡ named_field self.now class field }
-    {
-        match &self.classes {
-            Some(classes) => classes.field(class, field),
             None => None,
         }
     }

@@ -9,7 +9,7 @@ ghost use Rattle.hd_graph.specs.Numbering.{IsNumbered, IsObjectFaultOrMemory, Jo
 use crate::graph::StoredRoot;
 use crate::number::{NumberedStretch, Tally, number_stretch};
 use hd_classes::Classes;
-use hd_ids::JoinedIds;
+use hd_ids::ObjectIds;
 use hd_subs::DumpSubs;
 use hd_terms::{IdSize, ReadFault};
 use std::alloc::{AllocError, Global};
@@ -17,7 +17,7 @@ use std::alloc::{AllocError, Global};
 /// The numbers of the objects of a file, and the roots.
 #[derive(Drop)]
 pub(crate) struct Numbered {
-    pub(crate) ids: JoinedIds,
+    pub(crate) ids: ObjectIds,
     pub(crate) roots: Vec<StoredRoot>,
     pub(crate) tally: Tally,
 }
@@ -39,12 +39,19 @@ pub(crate) fn join_numbers(
         .with(third.tally)
         .with(fourth.tally);
     let mut roots = first.roots;
-    let Some(ids) = JoinedIds::join(first.ids, second.ids, third.ids, fourth.ids) else {
+    let Some(ids) = first.ids.followed_by(second.ids)? else {
+        return Ok(None);
+    };
+    let Some(ids) = ids.followed_by(third.ids)? else {
+        return Ok(None);
+    };
+    let Some(ids) = ids.followed_by(fourth.ids)? else {
         return Ok(None);
     };
     roots.extend_from_slice(second.roots.as_slice())?;
     roots.extend_from_slice(third.roots.as_slice())?;
     roots.extend_from_slice(fourth.roots.as_slice())?;
+    let ids = ids.indexed();
     Ok(Some(Numbered { ids, roots, tally }))
 }
 
@@ -70,6 +77,6 @@ pub(crate) fn number_alone(
         0,
         list.len(),
     )?;
-    let ids = JoinedIds::alone(alloc, ids)?;
+    let ids = ids.indexed();
     Ok(Numbered { ids, roots, tally })
 }

@@ -13,7 +13,7 @@ use crate::instance_rows::push_instance_row;
 use crate::instance_shapes::push_fitted_shape;
 use crate::number::{NumberedStretch, Tally, number_fitted, number_one};
 use hd_classes::{Classes, LayoutBytes};
-use hd_ids::{JoinedIds, ObjectIds};
+use hd_ids::ObjectIds;
 use hd_shapes::Shapes;
 use hd_slots::UnresolvedSlots;
 use hd_subs::{DumpSubs, Item, Sub};
@@ -98,7 +98,7 @@ pub(crate) fn make_stretch<'a>(
     };
     let mut layouts = LayoutBytes::new(alloc, classes, id_size)?;
     let mut shapes = Shapes::with_capacity(alloc, count, classes.len())?;
-    let no_ids = Arc::new(alloc, JoinedIds::none(alloc)?)?;
+    let no_ids = Arc::new(alloc, ObjectIds::with_capacity(alloc, 0, secret)?)?;
     let mut slot_table = UnresolvedSlots::new(alloc, bytes, id_size, no_ids, count)?;
     let subs = list.as_list();
     for i in first..end {

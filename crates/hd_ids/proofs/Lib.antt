@@ -3,8 +3,6 @@ pub mod PlainLemmas
 pub mod BlockLemmas
 pub mod NumberLemmas
 pub mod RowLemmas
-pub mod JoinLemmas
-pub mod GuessLemmas
-pub mod HeapLemmas
-pub mod ApartLemmas
 pub mod SlotLemmas
+pub mod DirectoryLemmas
+pub mod FollowLemmas

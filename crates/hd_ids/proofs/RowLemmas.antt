@@ -75,14 +75,14 @@ pub row-here : (pages : List ℕ) (page : ℕ) → row_of pages page ≡ length 
 row-here pages page new = position_or_len_push (λ k. eqb page k) pages page ∙ rw (eq-eqb (row_of pages page) (length pages) new, eq-eqb page page refl) (omega arith)
 
 -- the others keep theirs, or have none
-row-others : (pages : List ℕ) (page q : ℕ) → row_of pages q < length pages → row_of (pages ++ page ∷ []) q ≡ row_of pages q
+pub row-others : (pages : List ℕ) (page q : ℕ) → row_of pages q < length pages → row_of (pages ++ page ∷ []) q ≡ row_of pages q
 row-others pages page q lt = position_or_len_push (λ k. eqb q k) pages page ∙ rw (ne_eqb (row_of pages q) (length pages) (λ e. omega (arith, e, lt))) refl
 
 row-past : (pages : List ℕ) (page q : ℕ) → row_of pages q ≡ length pages → length pages ≤ row_of (pages ++ page ∷ []) q
 row-past pages page q e = rw (position_or_len_push (λ k. eqb q k) pages page, eq-eqb (row_of pages q) (length pages) e) (omega arith)
 
 -- zeros read as zero at any place
-zeros : (n i z : ℕ) → get_or (replicate n z) i z ≡ z
+pub zeros : (n i z : ℕ) → get_or (replicate n z) i z ≡ z
 zeros n i z = elim (cases_lt i n) [ inl lt ↦ get_or-replicate n i z z lt | inr le ↦ get_or_past (replicate n z) i z (omega (arith, length-replicate n z)) ]
 
 module _ (pages numbers ids : List ℕ) (h : AreNumbers pages numbers ids) where
@@ -179,7 +179,7 @@ module _ (pages numbers ids : List ℕ) (last_page last_row : ℕ) (h : AreRows 
   pub new-page : length numbers ≤ slot → row ≡ length pages
   new-page le = omega (arith, le, slot_is, row_is, h.numbers_are.rows, row-le pages (page_of id))
 
-  pub page-noted : length numbers ≤ slot → (n : ℕ) → n ≡ 512 → length numbers + n ≤ length ids * 8 + 2 ^ 16
+  pub page-noted : length numbers ≤ slot → (n : ℕ) → n ≡ 512 → length numbers + n ≤ length ids * 64 + 2 ^ 16
       → AreRows (pages ++ page_of id ∷ []) (slice_set (numbers ++ replicate n 0) slot (length ids + 1)) (ids ++ id ∷ []) (page_of id) row
   page-noted le n size small =
       let new : row_of pages (page_of id) ≡ length pages = sym row_is ∙ new-page le in
@@ -196,7 +196,7 @@ module _ (pages numbers ids : List ℕ) (last_page last_row : ℕ) (h : AreRows 
       }
 
   -- the row alone, where its first ID isn't added
-  pub row-noted : length numbers ≤ slot → (n : ℕ) → n ≡ 512 → length numbers + n ≤ length ids * 8 + 2 ^ 16 → AreRows (pages ++ page_of id ∷ []) (numbers ++ replicate n 0) ids (page_of id) row
+  pub row-noted : length numbers ≤ slot → (n : ℕ) → n ≡ 512 → length numbers + n ≤ length ids * 64 + 2 ^ 16 → AreRows (pages ++ page_of id ∷ []) (numbers ++ replicate n 0) ids (page_of id) row
   row-noted le n size small =
       let new : row_of pages (page_of id) ≡ length pages = sym row_is ∙ new-page le in
       let here : row_of (pages ++ page_of id ∷ []) (page_of id) ≡ length pages = row-here pages (page_of id) new in

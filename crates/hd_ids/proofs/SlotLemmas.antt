@@ -85,7 +85,7 @@ module _ (pages numbers slots : List ℕ) (last_page last_row : ℕ) (h : AreSlo
         few = omega (arith, h.few, length-set numbers slot (length slots + 1));
       }
 
-  module _ (past : length numbers ≤ slot) (n : ℕ) (size : n ≡ 512) (small : length numbers + n ≤ length slots * 8 + 2 ^ 16) (most : length numbers + n ≤ 2 ^ 32) (low : id < 2 ^ 64) where
+  module _ (past : length numbers ≤ slot) (n : ℕ) (size : n ≡ 512) (small : length numbers + n ≤ length slots * 64 + 2 ^ 16) (most : length numbers + n ≤ 2 ^ 32) (low : id < 2 ^ 64) where
     one-more : length (pages ++ page_of id ∷ []) ≡ length pages + 1
     one-more = length-append pages (page_of id ∷ [])
 
@@ -95,7 +95,7 @@ module _ (pages numbers slots : List ℕ) (last_page last_row : ℕ) (h : AreSlo
     here : row_of (pages ++ page_of id ∷ []) (page_of id) ≡ length pages
     here = row-here pages (page_of id) new
 
-    small-ids : length numbers + n ≤ length ids * 8 + 2 ^ 16
+    small-ids : length numbers + n ≤ length ids * 64 + 2 ^ 16
     small-ids = omega (arith, small, len)
 
     pub kept : ids_in (pages ++ page_of id ∷ []) slots ≡ ids

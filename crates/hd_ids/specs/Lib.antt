@@ -1,9 +1,7 @@
-pub mod AtHand
-pub mod FoundBy
-pub mod Index
-pub mod Guessing
-pub mod Heap
-pub mod Joined
 pub mod Noted
 pub mod Numbers
 pub mod Rows
+pub mod Directory
+pub mod AtHand
+pub mod FoundBy
+pub mod Index

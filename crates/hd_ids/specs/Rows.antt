@@ -1,6 +1,6 @@
 -- Where the number of an ID stands: in the row of its page.
 -- Source: this project.
-use Rattle.std.specs.Prelude.{◌≡◌, nat_eq, ℕ, ◌+◌, ◌*◌, ◌/◌, ◌%◌, ◌≤◌, ◌<◌, ◌^◌, ◌==◌, ◌⊎◌, List, length, map, slice_index, if◌then◌else◌, All}
+use Rattle.std.specs.Prelude.{◌≡◌, nat_eq, ℕ, ◌+◌, ◌*◌, ◌/◌, ◌%◌, ◌≤◌, ◌<◌, ◌^◌, ◌==◌, List, length, map, slice_index, if◌then◌else◌, All}
 use Rattle.std.specs.List.{position_or_len, IsDistinct}
 use Rattle.hd_ids.specs.Noted.{is_noted}
 
@@ -24,10 +24,6 @@ slot_of pages id = row_of pages (page_of id) * 512 + place_of id
 abbrev pub number_of : List ℕ → ℕ → ℕ
 number_of ids id = if is_noted ids id then position_or_len (λ k. id == k) ids + 1 else 0
 
--- two rows have no number at one place
-abbrev pub MeetNowhere : List ℕ → ℕ → List ℕ → ℕ → Type 0
-MeetNowhere front i back k = (place : ℕ) → place < 512 → (slice_index front (i * 512 + place) ≡ 0) ⊎ (slice_index back (k * 512 + place) ≡ 0)
-
 -- the ID of a place in the row of a page
 abbrev pub id_at : ℕ → ℕ → ℕ
 id_at page place = page / 8 * 4096 + place * 8 + page % 8
@@ -46,12 +42,12 @@ pub record AreNumbers (pages numbers ids : List ℕ) : Type 0 where
   pub at : (id : ℕ) → slice_index numbers (slot_of pages id) ≡ number_of ids id
   pub distinct : IsDistinct nat_eq ids
 
--- rows of IDs with at most 8 numbers for each ID and 65,536 more, and the row of the last page
+-- rows of IDs with at most 64 numbers for each ID and 65,536 more, and the row of the last page
 pub record AreRows (pages numbers ids : List ℕ) (last_page last_row : ℕ) : Type 0 where
   pub numbers_are : AreNumbers pages numbers ids
   pub last : row_of pages last_page ≡ last_row
   pub within : last_row ≤ length pages
-  pub small : length numbers ≤ length ids * 8 + 2 ^ 16
+  pub small : length numbers ≤ length ids * 64 + 2 ^ 16
   pub few_ids : length ids ≤ 2 ^ 31
 
 -- the slots of the numbers of IDs in rows, and the row of the last page

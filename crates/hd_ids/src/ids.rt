@@ -1,7 +1,7 @@
 //! Numbering IDs: the number of an ID is its index in the order in which IDs are first met.
-ghost use Rattle.std.specs.Prelude.{◌≡◌, nat_eq, ◌<◌, ◌^◌, ◌==◌, ℕ, [], length, not, position, Some, slice_index, IfOk, OnOk, OnErr, IfSome};
+ghost use Rattle.std.specs.Prelude.{◌≡◌, nat_eq, ◌<◌, ◌^◌, ◌==◌, ℕ, [], ◌++◌, length, not, position, false, true, Some, slice_index, IfOk, OnOk, OnErr, MatchOption};
 ghost use Rattle.std.specs.List.{IsDistinct};
-ghost use Rattle.hd_ids.specs.Noted.{is_noted, noted};
+ghost use Rattle.hd_ids.specs.Noted.{are_apart, is_noted, noted};
 
 use crate::finder::{Finder, FoundBy};
 use crate::paged::PagedIds;
@@ -105,16 +105,6 @@ impl ObjectIds {
         Finder { by }
     }
 
-    /// The IDs by pages, if they are found so.
-    pub(crate) fn paged(&self) -> Option<&PagedIds>
-        ensures { IfSome result (λ paged. paged.now ≡ self.now) }
-    {
-        match &self.index {
-            Index::Paged(paged) => Some(paged),
-            Index::Plain(_) => None,
-        }
-    }
-
     /// Notes an ID, and answers whether it is new. Out of memory, nothing is noted.
     #[inline(always)]
     pub fn note(&mut self, id: u64) -> Result<bool, AllocError>
@@ -145,5 +135,46 @@ impl ObjectIds {
         };
         self.index = Index::Plain(plain);
         Ok(new)
+    }
+
+    /// Notes the IDs of `back` one after another, and answers whether all are new. Where one isn't, no further one is noted.
+    fn note_all(&mut self, back: &ObjectIds) -> Result<bool, AllocError>
+        ensures apart { IfOk result (λ apart. apart ≡ are_apart self.old back.now) }
+        ensures all { IfOk result (λ apart. apart ≡ true → self.new ≡ self.old ++ back.now) }
+    {
+        for number in 0..back.len() {
+            if !self.note(back.get(number))? {
+                return Ok(false);
+            }
+        }
+        Ok(true)
+    }
+
+    /// These IDs, and those of `back` behind them; `None` if an ID is in both.
+    ///
+    /// # Errors
+    ///
+    /// Out of memory.
+    pub fn followed_by(mut self, back: ObjectIds) -> Result<Option<ObjectIds>, AllocError>
+        ensures { IfOk result (λ joined. MatchOption joined (are_apart self back ≡ false) (λ ids. (are_apart self back ≡ true) × (ids ≡ self ++ back))) }
+    {
+        if self.is_empty() {
+            return Ok(Some(back));
+        }
+        if self.note_all(&back)? {
+            return Ok(Some(self));
+        }
+        Ok(None)
+    }
+
+    /// The same IDs, once all are noted: a directory of their pages is made, by which each is found quicker.
+    pub fn indexed(mut self) -> ObjectIds
+        ensures { result ≡ self }
+    {
+        match &mut self.index {
+            Index::Paged(paged) => paged.index_rows(),
+            Index::Plain(_) => {}
+        }
+        self
     }
 }

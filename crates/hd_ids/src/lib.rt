@@ -1,10 +1,7 @@
 //! The IDs of a heap dump's objects, each once, in the order in which they are first noted, and the number of each.
 //!
-//! Callers see a list of distinct IDs. `ObjectIds` (`ids.rt`) notes IDs. `JoinedIds` (`joined.rt`) is four of these
-//! as one list. Either answers the ID of a number, the number of an ID, and a finder for looking up many IDs. How IDs
-//! are kept, the hashes and their secret show in no answer.
-//!
-//! One `ObjectIds`:
+//! Callers see a list of distinct IDs. `ObjectIds` (`ids.rt`) answers the ID of a number, the number of an ID, and a
+//! finder for looking up many IDs. How IDs are kept, the hashes and their secret show in no answer.
 //!
 //! - `paged.rt`, `rows.rt`: objects lie close together, so IDs are found by pages of 4,096 addresses. IDs that leave
 //!   different remainders by 8 have different pages. A hash map leads from a page to its row, and the row has a
@@ -14,37 +11,23 @@
 //!   place. A block whose numbers don't follow one another has a row of its own, with four bytes for each place.
 //! - An ID isn't kept. Of each number `PagedIds` keeps the place in the rows, in four bytes; this place and the page
 //!   of its row tell the ID (`PagedIds::get`).
-//! - `plain.rt`: one hash set of all IDs. They go over to it where rows would take too much memory or numbers too
-//!   many bits: where the rows would have more than 8 places for each ID and 65,536 more, or more than 2^32 places,
-//!   or where there are 2^31 IDs.
-//! - `finder.rt`, `near.rt`: a `Finder` keeps the rows of up to 256 pages at hand.
+//! - `plain.rt`: one hash set of all IDs. They go over to it where rows would take more memory or numbers too many
+//!   bits: where the rows would have more than 64 places for each ID and 65,536 more, or more than 2^32 places, or
+//!   where there are 2^31 IDs.
+//! - `directory.rt`: once all IDs are noted, `indexed` makes a list with the row of each page from the first to the
+//!   last, where there are at most 16 for each row. A number is then found by two looks: at the page's entry, and at
+//!   the block. The directory knows only IDs that are multiples of 8.
+//! - `finder.rt`, `near.rt`: a `Finder` asks the directory, and keeps at hand the rows of up to 256 pages of which that
+//!   tells nothing.
 //!
-//! `JoinedIds` has four parts, which four threads note. The IDs of each part are numbered behind those of the one
-//! before, and nothing is copied. `join` answers `None` where two parts have an ID in common. The rows of pages that
-//! two parts share mostly tell that they have none (`is_apart_by_rows`); where they don't, each ID is looked up.
-//!
-//! A `JoinedFinder` asks in this order for the number of an ID. The first two are there only where all parts go by
-//! pages:
-//!
-//! - `heap_blocks.rt`: the blocks of all parts side by side, by where they lie in the heap. The number is found
-//!   without a look at the page. They are made where the pages from the first to the last are at most twice as many
-//!   as the rows. They tell nothing of an ID that is no multiple of 8, nor of a block whose numbers don't follow one
-//!   another. Of a block with IDs of two parts they tell those of one part.
-//! - `directory.rt`, `guessing.rt`: an entry for each page from the first to the last, where there are at most 16 for
-//!   each row. It guesses which part has a row for the page, and which row. The `Guesser` checks that the row is the
-//!   page's. It knows only IDs that are multiples of 8.
-//! - The parts, one after the other, by the `Finder` of each.
-//!
-//! `JoinedIds::index_of`, for a single ID, asks the parts alone.
+//! The threads that read a dump note the IDs of a part of it each. `followed_by` notes the IDs of the next part behind
+//! those of the parts before, and answers `None` where one was there before. So there is one index for the whole dump.
 #![tactic(auto)]
 
 mod block;
 mod directory;
 mod finder;
-mod guessing;
-mod heap_blocks;
 mod ids;
-mod joined;
 mod near;
 mod numbers;
 mod paged;
@@ -53,4 +36,3 @@ mod rows;
 
 pub use finder::Finder;
 pub use ids::ObjectIds;
-pub use joined::{JoinedFinder, JoinedIds};

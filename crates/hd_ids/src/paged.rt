@@ -1,18 +1,13 @@
 //! IDs by pages of the heap.
 ghost use Rattle.std.specs.Prelude.{◌≡◌, nat_eq, ◌<◌, ◌^◌, ◌==◌, ℕ, [], length, not, position, Some, slice_index, true, IfOk, OnOk, OnErr, IfSome, IfNone};
 ghost use Rattle.std.specs.List.{IsDistinct};
-ghost use Rattle.hd_ids.specs.Noted.{are_apart, is_noted, noted};
-ghost use Rattle.hd_ids.specs.Heap.{told};
+ghost use Rattle.hd_ids.specs.Noted.{is_noted, noted};
 
 use crate::directory::Directory;
-use crate::guessing::IdsByRow;
-use crate::heap_blocks::HeapBlocks;
 use crate::near::NearIds;
 use crate::numbers::{Numbers, ROW};
 use crate::plain::PlainIds;
-use crate::rows::{
-    add_row, add_slot, id_at, number_at, page_of, place_of, row_after, row_of, rows_meet,
-};
+use crate::rows::{add_row, add_slot, id_at, number_at, page_of, place_of, row_after};
 use hd_hashers::PageHasher;
 use indexmap::IndexSet;
 use std::alloc::{AllocError, Global};
@@ -21,9 +16,12 @@ use std::marker::Model;
 /// How many numbers the rows have at most, so that a slot of them takes four bytes.
 const MOST_NUMBERS: usize = 1 << 32;
 
+/// How many numbers the rows may have for each ID, 2 bits each: fewer bytes than one index of all IDs takes.
+const MOST_SPREAD: usize = 64;
+
 /// IDs by pages of the heap: the numbers of those of one page stand in one row.
 ///
-/// The rows have at most 8 numbers for each ID and 65,536 more, and 2^32 in all. An ID isn't kept itself: the slot of its number
+/// The rows have at most 64 numbers for each ID and 65,536 more, and 2^32 in all. An ID isn't kept itself: the slot of its number
 /// and the page of that row tell it, and take half as much memory.
 pub(crate) struct PagedIds {
     alloc: Global,
@@ -37,6 +35,8 @@ pub(crate) struct PagedIds {
     /// The page that was noted last, and its row.
     last_page: u64,
     last_row: usize,
+    /// The rows of the pages by where they lie in the heap. It tells nothing until all IDs are noted.
+    directory: Directory,
 }
 
 impl Drop for PagedIds {
@@ -50,19 +50,21 @@ impl Drop for PagedIds {
             numbers,
             last_page: _,
             last_row: _,
+            directory,
         } = self;
     }
 }
 
 impl Model for PagedIds {
     ghost use Rattle.std.specs.Prelude.{ℕ, List};
-    ghost use Rattle.hd_ids.specs.Rows.{AreSlots, ids_in};
+    ghost use Rattle.hd_ids.specs.Directory.{AreIndexed};
+    ghost use Rattle.hd_ids.specs.Rows.{ids_in};
 
     ghost Value = { List ℕ };
 
     ghost view = { λ a. ids_in a.pages.keys a.slots.items };
 
-    ghost invariant = { λ a. AreSlots a.pages.keys a.numbers a.slots.items a.last_page a.last_row };
+    ghost invariant = { λ a. AreIndexed a.pages.keys a.numbers a.slots.items a.last_page a.last_row a.directory };
 }
 
 impl PagedIds {
@@ -75,9 +77,8 @@ impl PagedIds {
         ensures { IfOk result (λ ids. ids ≡ []) }
     {
         let slots = Vec::with_capacity(alloc, room)?;
-        // As many as `note` lets the rows of `room` IDs have.
-        let most_numbers = room.saturating_mul(8).saturating_add(1 << 16);
-        let numbers = Numbers::with_room(alloc, most_numbers);
+        // More than the rows of `room` IDs have where these lie close.
+        let numbers = Numbers::with_room(alloc, room.saturating_mul(8).saturating_add(1 << 16));
         Ok(PagedIds {
             alloc,
             secret,
@@ -86,6 +87,7 @@ impl PagedIds {
             numbers,
             last_page: 0,
             last_row: 0,
+            directory: Directory::none(alloc),
         })
     }
 
@@ -124,65 +126,17 @@ impl PagedIds {
             self.slots.as_slice(),
             &self.pages,
             &self.numbers,
+            &self.directory,
             self.last_page,
             self.last_row,
         )
     }
 
-    /// These IDs by the rows of their pages.
-    pub(crate) fn by_row(&self) -> IdsByRow<'_>
-        ensures { result ≡ self.now }
+    /// Makes the directory of the rows, by which the IDs that are noted so far are found quicker.
+    pub(crate) fn index_rows(&mut self)
+        ensures { self.new ≡ self.old }
     {
-        IdsByRow::new(self.slots.as_slice(), self.pages.as_slice(), &self.numbers)
-    }
-
-    /// Guesses of the rows of the pages of these IDs and of those of three further parts.
-    pub(crate) fn directory(
-        &self,
-        second: &PagedIds,
-        third: &PagedIds,
-        fourth: &PagedIds,
-    ) -> Directory {
-        let parts = [
-            self.pages.as_slice(),
-            second.pages.as_slice(),
-            third.pages.as_slice(),
-            fourth.pages.as_slice(),
-        ];
-        Directory::of(self.alloc, parts)
-    }
-
-    /// Blocks of the heap over the pages of these IDs and of those of three further parts, which tell no number yet.
-    pub(crate) fn heap_without_ids(
-        &self,
-        second: &PagedIds,
-        third: &PagedIds,
-        fourth: &PagedIds,
-    ) -> Option<HeapBlocks>
-        ensures { IfSome result (λ h. (id : ℕ) → told h id ≡ 0) }
-    {
-        let parts = [
-            self.pages.as_slice(),
-            second.pages.as_slice(),
-            third.pages.as_slice(),
-            fourth.pages.as_slice(),
-        ];
-        HeapBlocks::over(self.alloc, parts)
-    }
-
-    /// Whether the rows of these IDs and of others have no number at one place. Then no ID is in both. Few pages have IDs of both, so
-    /// this looks at few numbers.
-    pub(crate) fn is_apart_by_rows(&self, back: &PagedIds) -> bool
-        ensures { result ≡ true → are_apart self.now back.now ≡ true }
-    {
-        let pages = back.pages.as_slice();
-        for row in 0..pages.len() {
-            let front_row = row_of(&self.pages, pages[row]);
-            if rows_meet(&self.numbers, front_row, &back.numbers, row) {
-                return false;
-            }
-        }
-        true
+        self.directory = Directory::of(self.alloc, self.pages.as_slice());
     }
 
     /// Notes an ID, and answers whether it is new, or `None` where rows don't serve: a further row would have too few IDs, the rows
@@ -203,7 +157,9 @@ impl PagedIds {
         self.last_row = row;
         let slot = row * ROW + place_of(id);
         if slot >= self.numbers.len() {
-            if self.numbers.len() + ROW > (self.slots.len() * 8 + (1 << 16)).min(MOST_NUMBERS) {
+            if self.numbers.len() + ROW
+                > (self.slots.len() * MOST_SPREAD + (1 << 16)).min(MOST_NUMBERS)
+            {
                 return Ok(None);
             }
             add_row(&mut self.pages, &mut self.numbers, page)?;

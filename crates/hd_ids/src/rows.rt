@@ -1,5 +1,5 @@
 //! Rows of numbers, one for each page of IDs.
-ghost use Rattle.std.specs.Prelude.{◌≡◌, false, ◌+◌, ◌*◌, ◌<◌, ◌≤◌, ◌^◌, [], ◌∷◌, ◌++◌, length, replicate, slice_index, slice_set, OnOk, OnErr};
+ghost use Rattle.std.specs.Prelude.{◌≡◌, ◌+◌, ◌*◌, ◌<◌, ◌≤◌, ◌^◌, [], ◌∷◌, ◌++◌, length, replicate, slice_index, slice_set, OnOk, OnErr};
 ghost use Rattle.hd_ids.specs.Rows as rows;
 
 use crate::numbers::{Numbers, ROW};
@@ -82,26 +82,6 @@ pub(crate) fn number_at(pages: &IndexSet<u64, PageHasher>, numbers: &Numbers, id
     ensures { result ≡ slice_index numbers.now (rows.slot_of pages.now.keys id) }
 {
     number_in(numbers, row_of(pages, page_of(id)), id)
-}
-
-/// Whether two rows have a number at one place. A row past the last one has none.
-pub(crate) fn rows_meet(front: &Numbers, front_row: usize, back: &Numbers, back_row: usize) -> bool
-    requires few { (front_row ≤ 2 ^ 32) × (back_row ≤ 2 ^ 32) }
-    requires back { (back_row + 1) * 512 ≤ length back.now }
-    requires front_whole { front_row * 512 < length front.now → (front_row + 1) * 512 ≤ length front.now }
-    ensures { result ≡ false → rows.MeetNowhere front.now front_row back.now back_row }
-{
-    let start = front_row * ROW;
-    let back_start = back_row * ROW;
-    if start >= front.len() {
-        return false;
-    }
-    for place in 0..ROW {
-        if front.get(start + place) != 0 && back.get(back_start + place) != 0 {
-            return true;
-        }
-    }
-    false
 }
 
 /// Gives a page its row, of zeros.

@@ -2,11 +2,10 @@
 ghost use Rattle.std.specs.Prelude.{◌≡◌, length, slice_get, None, Some, MatchOption};
 ghost use Rattle.std.specs.Option.{option_map, option_copied};
 ghost use Rattle.hd_terms.specs.Dump.{NamedClass};
-ghost use Rattle.hd_names.specs.Fields.{field_view};
-ghost use Rattle.hd_names.specs.Named.{class_in, field_in, static_in};
+ghost use Rattle.hd_names.specs.Named.{class_in, static_in};
 ghost use Rattle.hd_names.specs.Tables.{AreEarlier, named_of};
 
-use crate::field_names::{FieldName, FieldNames};
+use crate::field_names::FieldNames;
 use crate::field_table::FieldTable;
 use crate::lists::Lists;
 use hd_hashers::IdHasher;
@@ -91,14 +90,6 @@ impl NamedClasses {
             Some(first) => Some(FieldNames::new(&self.table, *first)),
             None => None,
         }
-    }
-
-    /// The field of a number in the layout of the class of an ID, if it has it.
-    pub fn field(&self, class: u64, field: u32) -> Option<FieldName<'_>>
-        ensures { option_map field_view result ≡ field_in self.now class field }
-    {
-        let mut fields = self.fields(class)?;
-        fields.get(field)
     }
 
     /// The name of the static of a number of the class of an ID, if it has the static and that has a name: its bytes as the file

@@ -4,7 +4,7 @@ ghost use Rattle.hd_slots.specs.Table.{null_code, is_known, is_absent};
 ghost use Rattle.hd_slots.specs.Codes.{IsCode, id_of_code};
 
 use crate::resolved_rows::NULL;
-use hd_ids::JoinedIds;
+use hd_ids::ObjectIds;
 
 /// How many IDs are objects', and how many are neither null nor an object's.
 #[derive(Clone, Copy)]
@@ -16,7 +16,7 @@ pub struct IdCounts {
 }
 
 /// Whether a number stands for an ID that is neither null nor an object's. Few do.
-fn is_other(ids: &JoinedIds, absent: &[u64], code: u32) -> bool
+fn is_other(ids: &ObjectIds, absent: &[u64], code: u32) -> bool
     requires few { length ids.now < 2 ^ 31 }
     requires is { IsCode ids.now absent.now code }
     ensures { result ≡ is_absent ids.now (id_of_code ids.now absent.now code) }
@@ -53,7 +53,7 @@ fn has_no_null(absent: &[u64]) -> bool
 }
 
 /// How many of these numbers stand for IDs that are neither null nor an object's. It looks at each of them.
-fn count_others(ids: &JoinedIds, absent: &[u64], codes: &[u32]) -> u64
+fn count_others(ids: &ObjectIds, absent: &[u64], codes: &[u32]) -> u64
     requires few { length ids.now < 2 ^ 31 }
     requires short { length codes.now < 2 ^ 32 }
     requires codes { All (IsCode ids.now absent.now) codes.now }
@@ -69,7 +69,7 @@ fn count_others(ids: &JoinedIds, absent: &[u64], codes: &[u32]) -> u64
 }
 
 /// How many of these numbers stand for IDs of objects, and how many for IDs that are neither null nor an object's.
-pub(crate) fn count_codes(ids: &JoinedIds, absent: &[u64], codes: &[u32]) -> IdCounts
+pub(crate) fn count_codes(ids: &ObjectIds, absent: &[u64], codes: &[u32]) -> IdCounts
     requires few { length ids.now < 2 ^ 31 }
     requires short { length codes.now < 2 ^ 32 }
     requires codes { All (IsCode ids.now absent.now) codes.now }

@@ -5,7 +5,7 @@ ghost use Rattle.hd_slots.specs.JoinedInside.{joined_table};
 use crate::resolved_rows::ResolvedRows;
 use crate::slot_table::SlotTable;
 use crate::unresolved::UnresolvedSlots;
-use hd_ids::JoinedIds;
+use hd_ids::ObjectIds;
 use std::alloc::{AllocError, Global};
 use std::marker::Model;
 use std::sync::Arc;
@@ -60,7 +60,7 @@ impl<'a> JoinedRows<'a> {
     /// # Errors
     ///
     /// Out of memory.
-    pub fn with_ids(self, alloc: Global, ids: JoinedIds) -> Result<JoinedRows<'a>, AllocError>
+    pub fn with_ids(self, alloc: Global, ids: ObjectIds) -> Result<JoinedRows<'a>, AllocError>
         requires few { length ids < 2 ^ 31 }
         requires no_null { All (λ id. 0 < id) ids }
         requires room { length ids + self.count < 2 ^ 32 }

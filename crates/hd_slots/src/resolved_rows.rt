@@ -8,7 +8,7 @@ ghost use Rattle.hd_slots.specs.Parts.{rows_of, AreParts};
 
 use crate::counting::{IdCounts, count_codes};
 use crate::targets::Targets;
-use hd_ids::JoinedIds;
+use hd_ids::ObjectIds;
 use std::marker::Model;
 use std::sync::Arc;
 
@@ -18,7 +18,7 @@ pub(crate) const NULL: u32 = 0xffff_ffff;
 /// The references of some objects: for each object a row of IDs, each kept as a number of four bytes. A number below that
 /// of the objects is the object's; `NULL` is null; any other stands for an ID that is no object's.
 pub(crate) struct ResolvedRows {
-    ids: Arc<JoinedIds>,
+    ids: Arc<ObjectIds>,
     starts: Vec<u32>,
     items: Vec<u32>,
     absent: Vec<u64>,
@@ -52,7 +52,7 @@ impl Model for ResolvedRows {
 }
 
 /// The ID that a number stands for, and the number of its object, if it is one's.
-fn read_code(ids: &JoinedIds, absent: &[u64], code: u32) -> (u64, Option<u32>)
+fn read_code(ids: &ObjectIds, absent: &[u64], code: u32) -> (u64, Option<u32>)
     requires few { length ids.now < 2 ^ 32 - 1 }
     requires is { IsCode ids.now absent.now code }
     ensures id { result.0 ≡ id_of_code ids.now absent.now code }
@@ -72,7 +72,7 @@ fn read_code(ids: &JoinedIds, absent: &[u64], code: u32) -> (u64, Option<u32>)
 impl ResolvedRows {
     /// The references of the objects of these IDs: rows that start at these indexes of one list of numbers.
     pub(crate) fn new(
-        ids: Arc<JoinedIds>,
+        ids: Arc<ObjectIds>,
         starts: Vec<u32>,
         items: Vec<u32>,
         absent: Vec<u64>,

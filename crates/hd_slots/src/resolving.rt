@@ -6,7 +6,7 @@ ghost use Rattle.hd_slots.specs.Resolving.{found_code, id_of_found, IsFound, IsM
 ghost use Rattle.hd_slots.specs.Shared.{offset_of, found_item, IsKept};
 
 use crate::resolved_rows::NULL;
-use hd_ids::{JoinedFinder, JoinedIds};
+use hd_ids::{Finder, ObjectIds};
 use hd_terms::IdSize;
 use rayon::prelude::par_chunks_mut_for_each;
 use std::alloc::{AllocError, Global};
@@ -27,7 +27,7 @@ const PART: usize = 65_536;
 /// The number of the object whose ID lies at an offset of the file, `NULL` for the ID 0, and the marked offset where no object
 /// has the ID.
 #[inline(always)]
-fn found(finder: &mut JoinedFinder<'_>, id_size: IdSize, bytes: &[u8], offset: u32) -> u32
+fn found(finder: &mut Finder<'_>, id_size: IdSize, bytes: &[u8], offset: u32) -> u32
     requires within { IsIdWithin id_size (length bytes.now) offset }
     requires small { length bytes.now < 2 ^ 31 }
     requires few { length finder.old < 2 ^ 31 }
@@ -47,7 +47,7 @@ fn found(finder: &mut JoinedFinder<'_>, id_size: IdSize, bytes: &[u8], offset: u
 /// What is found for a slot, where this was found for the shared offsets.
 #[inline(always)]
 fn find_item(
-    finder: &mut JoinedFinder<'_>,
+    finder: &mut Finder<'_>,
     id_size: IdSize,
     bytes: &[u8],
     shared: &[u32],
@@ -67,7 +67,7 @@ fn find_item(
 
 /// Turns what is kept of the slots of one part into what is found for them. IDs that follow one another are mostly near, so one
 /// finder finds all.
-fn find_part(ids: &JoinedIds, id_size: IdSize, bytes: &[u8], shared: &[u32], part: &mut [u32])
+fn find_part(ids: &ObjectIds, id_size: IdSize, bytes: &[u8], shared: &[u32], part: &mut [u32])
     requires kept { All (IsKept id_size (length bytes.now) (length shared.now)) part.old }
     requires small { length bytes.now < 2 ^ 31 }
     requires few { length ids.now < 2 ^ 31 }
@@ -82,7 +82,7 @@ fn find_part(ids: &JoinedIds, id_size: IdSize, bytes: &[u8], shared: &[u32], par
 /// Turns what is kept of slots into what is found for them, on all processors, part by part.
 fn find_objects<R: Threads + Sync>(
     rt: &R,
-    ids: &JoinedIds,
+    ids: &ObjectIds,
     id_size: IdSize,
     bytes: &[u8],
     shared: &[u32],
@@ -114,7 +114,7 @@ fn is_marked(item: u32) -> bool
 /// The number for a marked offset: the next behind those of the objects and of the absent IDs so far, of which the ID at the
 /// offset is one from then on.
 fn number_for(
-    ids: &JoinedIds,
+    ids: &ObjectIds,
     id_size: IdSize,
     bytes: &[u8],
     absent: &mut Vec<u64>,
@@ -146,7 +146,7 @@ fn none_marked(items: &[u32]) -> bool
 
 /// Does for one block what `keep_absent` does for all. The block begins at `start`; the answer is where the next begins.
 fn keep_block(
-    ids: &JoinedIds,
+    ids: &ObjectIds,
     id_size: IdSize,
     bytes: &[u8],
     items: &mut [u32],
@@ -178,7 +178,7 @@ fn keep_block(
 /// Keeps the IDs that are no object's, and gives each a number behind those of the objects. Of the others nothing is written.
 fn keep_absent(
     alloc: Global,
-    ids: &JoinedIds,
+    ids: &ObjectIds,
     id_size: IdSize,
     bytes: &[u8],
     items: &mut [u32],
@@ -201,7 +201,7 @@ fn keep_absent(
 pub(crate) fn resolve_offsets<R: Threads + Sync>(
     rt: &R,
     alloc: Global,
-    ids: &JoinedIds,
+    ids: &ObjectIds,
     id_size: IdSize,
     bytes: &[u8],
     shared: &mut [u32],

@@ -7,7 +7,7 @@ ghost use Rattle.hd_slots.specs.Table.{id_at, IsIdWithin};
 use crate::resolved_rows::ResolvedRows;
 use crate::resolving::{SHARED, resolve_offsets};
 use crate::shared::SharedIds;
-use hd_ids::JoinedIds;
+use hd_ids::ObjectIds;
 use hd_terms::IdSize;
 use std::alloc::{AllocError, Global};
 use std::marker::Model;
@@ -23,7 +23,7 @@ const LARGE: usize = 1 << 26;
 pub struct UnresolvedSlots<'a> {
     bytes: &'a [u8],
     id_size: IdSize,
-    ids: Arc<JoinedIds>,
+    ids: Arc<ObjectIds>,
     starts: Vec<u32>,
     /// Of each slot the offset of its ID, or `SHARED` and an index of the shared ones.
     items: Vec<u32>,
@@ -63,7 +63,7 @@ impl<'a> UnresolvedSlots<'a> {
         alloc: Global,
         bytes: &'a [u8],
         id_size: IdSize,
-        ids: Arc<JoinedIds>,
+        ids: Arc<ObjectIds>,
         rows: usize,
     ) -> Result<UnresolvedSlots<'a>, AllocError>
         requires small { length bytes.now < 2 ^ 31 }
@@ -177,7 +177,7 @@ impl<'a> UnresolvedSlots<'a> {
     }
 
     /// The same rows, over the objects of these IDs.
-    pub(crate) fn with_ids(self, ids: Arc<JoinedIds>) -> UnresolvedSlots<'a>
+    pub(crate) fn with_ids(self, ids: Arc<ObjectIds>) -> UnresolvedSlots<'a>
         requires few { length (arc_value ids) < 2 ^ 31 }
         requires no_null { All (λ id. 0 < id) (arc_value ids) }
         requires room { length (arc_value ids) + self.count < 2 ^ 32 }

@@ -1,5 +1,5 @@
 //! The IDs of objects, compared with a set of the library: close together, at odd addresses, far apart, and repeated.
-use hd_ids::{JoinedIds, ObjectIds};
+use hd_ids::ObjectIds;
 use indexmap::IndexSet;
 use std::alloc::Global;
 use std::process::Abort;
@@ -203,6 +203,27 @@ fn ids_of<R: Abort>(rt: &R, alloc: Global, more: &[u64]) -> ObjectIds {
     ids
 }
 
+/// The IDs of parts, those of each behind those of the parts before; `None` if an ID is in two.
+fn followed<R: Abort>(rt: &R, parts: [ObjectIds; 4]) -> Option<ObjectIds> {
+    let [first, second, third, fourth] = parts;
+    let two = first.followed_by(second).expect(rt, "there is room")?;
+    let three = two.followed_by(third).expect(rt, "there is room")?;
+    let four = three.followed_by(fourth).expect(rt, "there is room")?;
+    Some(four.indexed())
+}
+
+/// Whether an index has these IDs, in this order, and none beside them.
+fn finds_those(ids: &ObjectIds, wanted: &[u64]) -> bool {
+    let mut finder = ids.finder();
+    for number in 0..wanted.len() {
+        let id = wanted[number];
+        if ids.index_of(id) != Some(number) || finder.index_of(id) != Some(number) {
+            return false;
+        }
+    }
+    are_those(ids, wanted)
+}
+
 #[test]
 fn ids_of_four_parts(rt: HostRuntime) {
     // 0x1008, 0x1010 and 0x1020 lie on one page, 0x9000 and 0x9008 on another
@@ -210,19 +231,15 @@ fn ids_of_four_parts(rt: HostRuntime) {
     let second = ids_of(&rt, rt.alloc(), &[0x2000, 0x1010]);
     let third = ids_of(&rt, rt.alloc(), &[0x9008]);
     let fourth = ids_of(&rt, rt.alloc(), &[0x1020, 0x3000]);
-    let ids = JoinedIds::join(first, second, third, fourth).expect(&rt, "no ID is in two");
-    assert_eq!(rt; ids.len(), 7);
+    let ids = followed(&rt, [first, second, third, fourth]).expect(&rt, "no ID is in two");
     let all = [0x1008, 0x9000, 0x2000, 0x1010, 0x9008, 0x1020, 0x3000];
+    assert!(rt; finds_those(&ids, &all));
     assert_eq!(rt; ids.index_of(0x1018), None);
     let mut finder = ids.finder();
-    for (number, id) in all.into_iter().enumerate() {
-        assert_eq!(rt; ids.index_of(id), Some(number));
-        assert_eq!(rt; finder.index_of(id), Some(number));
-        if number < ids.len() {
-            assert_eq!(rt; ids.get(number), id);
-        }
+    // An ID of a page between two that have some, and one behind all pages.
+    for absent in [0x1018, 0x1009, 0x4000, 0xa000, 0xffff_ffff_ffff_fff8] {
+        assert_eq!(rt; finder.index_of(absent), None);
     }
-    assert_eq!(rt; finder.index_of(0x1018), None);
 }
 
 /// Whether parts with these IDs, one in each, can be joined.
@@ -232,7 +249,7 @@ fn are_joined<R: Abort>(rt: &R, alloc: Global, ids: [u64; 4]) -> bool {
     let second = ids_of(rt, alloc, &[second]);
     let third = ids_of(rt, alloc, &[third, 0x2000]);
     let fourth = ids_of(rt, alloc, &[fourth]);
-    JoinedIds::join(first, second, third, fourth).is_some()
+    followed(rt, [first, second, third, fourth]).is_some()
 }
 
 #[test]
@@ -251,14 +268,38 @@ fn ids_of_two_of_the_parts(rt: HostRuntime) {
 }
 
 #[test]
-fn ids_of_one_part(rt: HostRuntime) {
-    let none = JoinedIds::none(rt.alloc()).expect(&rt, "an index is made");
-    assert_eq!(rt; (none.len(), none.index_of(8)), (0, None));
+fn ids_of_parts_without_some(rt: HostRuntime) {
+    let none = || ids_of(&rt, rt.alloc(), &[]);
+    let ids = followed(&rt, [none(), none(), none(), none()]).expect(&rt, "no ID is in two");
+    assert_eq!(rt; (ids.len(), ids.index_of(8)), (0, None));
     let front = ids_of(&rt, rt.alloc(), &[8, 16]);
-    let alone = JoinedIds::alone(rt.alloc(), front).expect(&rt, "an index is made");
-    assert_eq!(rt; alone.len(), 2);
+    let ids = followed(&rt, [none(), front, none(), none()]).expect(&rt, "no ID is in two");
+    assert!(rt; finds_those(&ids, &[8, 16]));
+    assert_eq!(rt; ids.index_of(24), None);
+}
+
+#[test]
+fn ids_that_lie_apart(rt: HostRuntime) {
+    // Consecutive, far apart, above 2^63, and with zero pages between.
+    let first = ids_of(&rt, rt.alloc(), &[1, 2, 3, 0xffff_ffff_ffff_fff8]);
+    let second = ids_of(&rt, rt.alloc(), &[0x8000_0000_0000_0000, 4]);
+    let third = ids_of(&rt, rt.alloc(), &[0x1_0000, 0x4_0000]);
+    let fourth = ids_of(&rt, rt.alloc(), &[0xffff_ffff_ffff_ffff]);
+    let ids = followed(&rt, [first, second, third, fourth]).expect(&rt, "no ID is in two");
+    let all = [
+        1,
+        2,
+        3,
+        0xffff_ffff_ffff_fff8,
+        0x8000_0000_0000_0000,
+        4,
+        0x1_0000,
+        0x4_0000,
+        0xffff_ffff_ffff_ffff,
+    ];
+    assert!(rt; finds_those(&ids, &all));
     assert_eq!(rt;
-        [8, 16, 24].map(|id| alone.index_of(id)),
-        [Some(0), Some(1), None]
+        [5, 0x2_0000, 0].map(|id| ids.index_of(id)),
+        [None, None, None]
     );
 }

@@ -16,4 +16,4 @@ returns-then-len c =
     let all = c.in-Some.field-0 in
     let rows : HasAllRows known c.args.bytes.now c.args.id_size list all.slot_table = rw c.in-Some.is at c.requires.rows in
     let shapes : HasAllShapes known c.args.id_size list all.shapes.objects = rw c.in-Some.is at c.requires.shapes in
-    rw c.in_ok-slot_table.ensures (rows-of-all known c.args.bytes.now c.args.id_size list all.slot_table all.shapes.objects c.args.ids rows shapes c.requires.ids (sym c.len.ensures ∙ c.if-len.true ∙ c.len-in-Some.ensures))
+    rw c.in_ok-slot_table.ensures (rows-of-all known c.args.bytes.now c.args.id_size list all.slot_table all.shapes.objects c.args.ids rows shapes c.requires.ids (sym c.len.ensures ∙ c.if-len.true ∙ c.len-in-Some.ensures.len))

@@ -25,7 +25,7 @@ returns-then-next-len c =
     ap (λ (n : ℕ). n - 1) (c.len-next.ensures ∙ a.starts.ok.0) ∙ sym (length-rows_from a.starts.items (map (id_at a.bytes.now a.id_size) (offsets_in a))) ∙ ap (λ (t : Table). length t.rows) c.self.view_is in
     let at : slice_get ids next ≡ slice_get c.args.self.now.ids (length c.args.self.now.rows) =
     ap (λ (xs : List ℕ). slice_get xs next) (ap (λ (t : Table). t.ids) c.self.view_is) ∙ ap (λ (n : ℕ). slice_get c.args.self.now.ids n) offset in
-    let f = found ids next c.args.id (omega (arith, c.if-next-len.true, c.len.ensures, ap (λ (xs : List ℕ). length xs) c.deref.ensures)) in
+    let f = found ids next c.args.id (omega (arith, c.if-next-len.true, c.len.ensures.len, ap (λ (xs : List ℕ). length xs) c.deref.ensures)) in
     let got : c.get.result ≡ get_or ids next 0 = c.get.ensures ∙ ap (λ (xs : List ℕ). get_or xs next 0) c.deref-then-next-len.ensures in
     (λ e. sym at ∙ f.0 (ap (λ (x : ℕ). eqb x c.args.id) (sym got) ∙ e), λ h. ap (λ (x : ℕ). eqb x c.args.id) got ∙ f.1 (at ∙ h))
 
@@ -38,5 +38,5 @@ returns-else-next-len c =
     ap (λ (n : ℕ). n - 1) (c.len-next.ensures ∙ a.starts.ok.0) ∙ sym (length-rows_from a.starts.items (map (id_at a.bytes.now a.id_size) (offsets_in a))) ∙ ap (λ (t : Table). length t.rows) c.self.view_is in
     let at : slice_get ids next ≡ slice_get c.args.self.now.ids (length c.args.self.now.rows) =
     ap (λ (xs : List ℕ). slice_get xs next) (ap (λ (t : Table). t.ids) c.self.view_is) ∙ ap (λ (n : ℕ). slice_get c.args.self.now.ids n) offset in
-    let f = not_found ids next c.args.id (ltb next c.len.result) (omega (arith, c.if-next-len.false, c.len.ensures, ap (λ (xs : List ℕ). length xs) c.deref.ensures)) (ap (ltb next) (c.len.ensures ∙ ap (λ (xs : List ℕ). length xs) c.deref.ensures)) in
+    let f = not_found ids next c.args.id (ltb next c.len.result) (omega (arith, c.if-next-len.false, c.len.ensures.len, ap (λ (xs : List ℕ). length xs) c.deref.ensures)) (ap (ltb next) (c.len.ensures.len ∙ ap (λ (xs : List ℕ). length xs) c.deref.ensures)) in
     (λ e. sym at ∙ f.0 e, λ h. f.1 (at ∙ h))
