@@ -14,6 +14,7 @@ abbrev pub TaskWorkers : Task → Type 0
 TaskWorkers (tasks.Run opening) = IsWorkers opening.workers
 TaskWorkers (tasks.Stat opening) = IsWorkers opening.workers
 TaskWorkers (tasks.Serve serving) = IsWorkers serving.opening.workers × IsAnalysts serving.analysts
+TaskWorkers (tasks.Web browsing) = IsWorkers browsing.serving.opening.workers × IsAnalysts browsing.serving.analysts
 TaskWorkers (tasks.Version version) = Unit {0}
 
 abbrev pub HasWorkers : Option Task → Type 0

@@ -17,4 +17,4 @@ mod task;
 
 pub use limits::{MOST_ANALYSTS, VERSION, WORKERS};
 pub use reading::{WordsFault, read_arguments};
-pub use task::{Opening, Serving, Task};
+pub use task::{Browsing, Opening, Serving, Task};

@@ -12,6 +12,8 @@ Examples:
   hdesk stat heap.hprof          print its counts, and its objects by strength
   hdesk serve heap.hprof --port 7070 --analysts 2
                                  serve two analysts, each of whom calls: nc 127.0.0.1 7070
+  hdesk web heap.hprof --port 7080 --analysts 1 --page desk.html
+                                 serve a desk in the browser: http://127.0.0.1:7080/
   printf 'strength 0x2\\nquit\\n' | hdesk";
 
 /// The argument that names a file.
@@ -69,6 +71,15 @@ fn analysts_option<'a>(alloc: Global) -> Arg<'a> {
         .help("How many analysts are served, 1 to 16: one for each connection")
 }
 
+/// The option that names the file of the page.
+fn page_option<'a>(alloc: Global) -> Arg<'a> {
+    Arg::new(alloc, "page")
+        .long("page")
+        .value_name("PAGE")
+        .required(true)
+        .help("The file of the page that browsers are given, at most 4 MiB")
+}
+
 /// A command of the program over a file.
 fn over_file<'a>(alloc: Global, name: &'a str, about: &'a str) -> Result<Command<'a>, AllocError> {
     let command = Command::new(alloc, name)
@@ -89,6 +100,19 @@ fn serve_command<'a>(alloc: Global) -> Result<Command<'a>, AllocError> {
     .arg(names_option(alloc))?
     .arg(port_option(alloc))?
     .arg(analysts_option(alloc))?;
+    Ok(command)
+}
+
+/// The command that serves browsers.
+fn web_command<'a>(alloc: Global) -> Result<Command<'a>, AllocError> {
+    let command = over_file(
+        alloc,
+        "web",
+        "Serve desks in the browser: example, hdesk web heap.hprof --port 7080 --analysts 1 --page desk.html",
+    )?
+    .arg(port_option(alloc))?
+    .arg(analysts_option(alloc))?
+    .arg(page_option(alloc))?;
     Ok(command)
 }
 
@@ -116,5 +140,7 @@ pub(crate) fn all_words<'a>(alloc: Global) -> Result<Command<'a>, AllocError> {
     let command = command.subcommand(stat)?;
     let serve = serve_command(alloc)?;
     let command = command.subcommand(serve)?;
+    let web = web_command(alloc)?;
+    let command = command.subcommand(web)?;
     Ok(command)
 }

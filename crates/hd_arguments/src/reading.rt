@@ -1,11 +1,11 @@
 //! Reading the words after the program's name.
-ghost use Rattle.std.specs.Prelude.{IfOk};
+ghost use Rattle.std.specs.Prelude.{◌≡◌, IfOk};
 ghost use Rattle.hd_terms.specs.Workers.{IsWorkers};
 ghost use Rattle.hd_arguments.specs.Tasks.{HasWorkers, IsAnalysts, TaskWorkers};
 
 use crate::limits::{MOST_ANALYSTS, VERSION, WORKERS};
 use crate::options::all_words;
-use crate::task::{Opening, Serving, Task};
+use crate::task::{Browsing, Opening, Serving, Task};
 use clap::error::ErrorKind;
 use clap::{ArgMatches, Error};
 use hd_terms::{MOST_WORKERS, Mode};
@@ -74,21 +74,38 @@ fn read_task<'a>(alloc: Global, words: &'a [String]) -> Result<Option<Task<'a>>,
         mode: mode_of(matches),
         names: matches.get_flag("names"),
     };
+    if name == "web" {
+        let Some(page) = matches.get_str("page") else {
+            return Ok(None);
+        };
+        return Ok(Some(Task::Web(Browsing {
+            serving: serving_of(opening, matches),
+            page,
+        })));
+    }
     Ok(Some(task_of(name, opening, matches)))
 }
 
-/// The task of a command's name over a file.
+/// How analysts are served over a file.
+fn serving_of<'a>(opening: Opening<'a>, matches: &ArgMatches<'_>) -> Serving<'a>
+    ensures opening { result.opening ≡ opening.entry }
+    ensures analysts { IsAnalysts result.analysts }
+{
+    Serving {
+        opening,
+        port: port_of(matches),
+        analysts: analysts_of(matches),
+    }
+}
+
+/// The task of a command's name over a file, where nothing else belongs to it.
 fn task_of<'a>(name: &str, opening: Opening<'a>, matches: &ArgMatches<'_>) -> Task<'a>
     requires { IsWorkers opening.workers }
     ensures { TaskWorkers result }
 {
     match name {
         "stat" => Task::Stat(opening),
-        "serve" => Task::Serve(Serving {
-            opening,
-            port: port_of(matches),
-            analysts: analysts_of(matches),
-        }),
+        "serve" => Task::Serve(serving_of(opening, matches)),
         _ => Task::Run(opening),
     }
 }

@@ -23,6 +23,14 @@ pub struct Serving<'a> {
     pub analysts: u8,
 }
 
+/// How browsers are served.
+#[derive(Clone, Copy, Debug, PartialEq, Eq)]
+pub struct Browsing<'a> {
+    pub serving: Serving<'a>,
+    /// The file of the page.
+    pub page: &'a str,
+}
+
 /// What the words ask for.
 #[derive(Clone, Copy, Debug, PartialEq, Eq)]
 pub enum Task<'a> {
@@ -32,6 +40,8 @@ pub enum Task<'a> {
     Stat(Opening<'a>),
     /// Several analysts' lines are served over a file, each over a connection.
     Serve(Serving<'a>),
+    /// Several analysts' desks are served over a file to browsers, with a page.
+    Web(Browsing<'a>),
     /// This version of the program is printed.
     Version(&'a str),
 }

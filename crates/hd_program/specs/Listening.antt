@@ -2,14 +2,13 @@
 -- Source: this project.
 use Rattle.std.specs.Prelude.{ℕ, ◌++◌, List, Option, Result, Ok, Err, codes, decimal}
 use Rattle.std.specs.Io.KnownBytes.{Keeps, Appends}
-use Rattle.hd_terms.specs.declared.Event.{Event}
 use Rattle.hd_terms.specs.declared.Mode.{Mode}
 use Rattle.hd_terms.specs.Dump.{Dump}
 use Rattle.hd_terms.specs.Objects.{IsDumpOf}
 use Rattle.hd_lines.specs.Replies.{with_newline}
 use Rattle.hd_board.specs.Opening.{opened_board}
 use Rattle.hd_protocol.specs.Serving.{IsOpenFault}
-use Rattle.hd_server.specs.Logs.{PrintsLog}
+use Rattle.hd_server.specs.Logs.{PrintsBoard}
 use Rattle.hd_program.specs.declared.server.ServerFault.{ServerFault}
 use Rattle.hd_program.specs.declared.server.ServerFault.TheVariants as server_faults
 
@@ -17,14 +16,12 @@ use Rattle.hd_program.specs.declared.server.ServerFault.TheVariants as server_fa
 abbrev pub listening_text : ℕ → List ℕ
 listening_text port = with_newline (codes "listening " ++ decimal port)
 
--- a port is told, and at the end the log with which a board of `analysts` desks over a dump closes, by what the desks have seen
+-- a port is told, and at the end the log with which a board of `analysts` desks over a dump closes
 pub record PrintsServer (dump : Dump) (analysts : ℕ) (before after : Option (List ℕ)) : Type 0 where
   pub port : ℕ
   pub told : Option (List ℕ)
   pub tells : Appends before told (listening_text port)
-  -- of each desk its number and what it has seen at the end
-  pub desks : List (ℕ × List Event)
-  pub prints : PrintsLog (opened_board dump analysts) desks told after
+  pub prints : PrintsBoard (opened_board dump analysts) told after
 
 -- the same, over a dump of the bytes
 pub record ServesAnalysts (mode : Mode) (bytes : List ℕ) (analysts : ℕ) (before after : Option (List ℕ)) : Type 0 where

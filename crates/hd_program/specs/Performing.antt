@@ -84,6 +84,7 @@ abbrev pub Performs : Task → (input rest before after : Option (List ℕ)) →
 Performs (tasks.Run opening) input rest before after exit = RunsFile opening.mode opening.names input rest before after exit ⊎ FailsFirst input rest before after exit
 Performs (tasks.Stat opening) input rest before after exit = StatsFile opening.mode input rest before after exit ⊎ FailsFirst input rest before after exit
 Performs (tasks.Serve serving) input rest before after exit = ServesFile serving.opening.mode input rest before after exit
+Performs (tasks.Web browsing) input rest before after exit = ServesFile browsing.serving.opening.mode input rest before after exit
 Performs (tasks.Version version) input rest before after exit = TellsVersion version.now input rest before after exit
 
 -- one of the three tasks over a file is done over the bytes that are read from it, in some mode and with names or without, or nothing

@@ -3,8 +3,9 @@
 //! - `performing.rt`: `program`, which serves one analyst or several, prints counts or the version, or reports a fault.
 //! - `file.rt`: reads a file into a `Buffer` of exactly its length, in pieces of up to 256 MiB, each by up to eight
 //!   threads. The length is checked before memory is taken. What is no regular file isn't opened.
-//! - `server.rt`: listens on a port of 127.0.0.1, tells it, and serves the analysts (`hd_server`). The bytes of the
-//!   file are given up first.
+//! - `page.rt`: reads the page that browsers are given.
+//! - `server.rt`: listens on a port of 127.0.0.1, tells it, and serves the analysts, by lines (`hd_server`) or in browsers
+//!   (`hd_web`). The bytes of the file are given up first.
 //! - `counts.rt`: what the status line says at the end, where a terminal shows it. The counts take a pass, so nobody
 //!   else asks for them.
 //!
@@ -14,6 +15,7 @@
 
 mod counts;
 mod file;
+mod page;
 mod performing;
 mod server;
 

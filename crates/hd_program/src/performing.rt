@@ -11,8 +11,9 @@ ghost use Rattle.hd_arguments.specs.Tasks.{IsAnalysts, TaskWorkers};
 
 use crate::counts::{end_status, shown_counts};
 use crate::file::{FileFault, read_file};
-use crate::server::{ServerFault, serve_bytes};
-use hd_arguments::{Opening, Serving, Task, WORKERS, WordsFault, read_arguments};
+use crate::page::read_page;
+use crate::server::{Server, ServerFault, serve_bytes};
+use hd_arguments::{Browsing, Opening, Task, WORKERS, WordsFault, read_arguments};
 use hd_buffer::Buffer;
 use hd_graph::Graph;
 use hd_protocol::{
@@ -216,7 +217,7 @@ where
 /// there at the end.
 fn serve_file<T, W: Write, E: Write>(
     rt: &T,
-    serving: Serving<'_>,
+    server: Server<'_>,
     status: &mut StatusLine,
     output: &mut W,
     faults: &mut E,
@@ -230,21 +231,57 @@ where
         + Threads
         + Wait
         + Sync,
-    requires workers { IsWorkers serving.opening.workers }
-    requires analysts { IsAnalysts serving.analysts }
+    requires workers { IsWorkers server.serving.opening.workers }
+    requires analysts { IsAnalysts server.serving.analysts }
     ensures no_usage { result ≢ USAGE }
-    ensures serves { ServesOrFails serving.entry.opening.mode (W.contents output.old) (W.contents output.new) result }
+    ensures serves { ServesOrFails server.entry.serving.opening.mode (W.contents output.old) (W.contents output.new) result }
 {
-    match read_file(rt, serving.opening.file, status, faults) {
+    let file = server.serving.opening.file;
+    match read_file(rt, file, status, faults) {
         Ok(bytes) => {
-            let ended = serve_bytes(rt, bytes, serving, status, output, faults);
+            let ended = serve_bytes(rt, bytes, server, status, output, faults);
             status.wipe(faults);
             report_server(ended, faults)
         }
         Err(fault) => {
             status.wipe(faults);
-            report_file(fault, serving.opening.file, faults)
+            report_file(fault, file, faults)
         }
+    }
+}
+
+/// Reads a page, serves analysts in browsers over a file, and answers the exit status. The port is told on `output`, and the log is
+/// written there at the end.
+fn web_file<T, W: Write, E: Write>(
+    rt: &T,
+    browsing: Browsing<'_>,
+    status: &mut StatusLine,
+    output: &mut W,
+    faults: &mut E,
+) -> u8
+where
+    T: AllocGlobal
+        + Clock
+        + Files<File = File>
+        + Net<Listener = TcpListener, Stream = TcpStream>
+        + RandomSource
+        + Threads
+        + Wait
+        + Sync,
+    requires workers { IsWorkers browsing.serving.opening.workers }
+    requires analysts { IsAnalysts browsing.serving.analysts }
+    ensures no_usage { result ≢ USAGE }
+    ensures serves { ServesOrFails browsing.entry.serving.opening.mode (W.contents output.old) (W.contents output.new) result }
+{
+    match read_page(rt, browsing.page) {
+        Ok(page) => {
+            let server = Server {
+                serving: browsing.serving,
+                page: Some(page.as_slice()),
+            };
+            serve_file(rt, server, status, output, faults)
+        }
+        Err(fault) => report_file(fault, browsing.page, faults),
     }
 }
 
@@ -285,13 +322,20 @@ where
                 Err(fault) => report_file(fault, opening.file, faults),
             }
         }
-        Task::Serve(serving) => serve_file(rt, serving, &mut status, output, faults),
+        Task::Serve(serving) => {
+            let server = Server {
+                serving,
+                page: None,
+            };
+            serve_file(rt, server, &mut status, output, faults)
+        }
+        Task::Web(browsing) => web_file(rt, browsing, &mut status, output, faults),
         Task::Version(version) => report(tell_version(rt.alloc(), version, output), faults),
     }
 }
 
 /// Runs the program with these words after its name, and answers its exit status. Without words the built-in sample is
-/// served on input and output; with words a file is served, there or over connections, or its counts and totals are printed, or
+/// served on input and output; with words a file is served, there or over connections or in browsers, or its counts and totals are printed, or
 /// the program's version is.
 /// Faults are reported on `faults`: a usage fault, or an asked help, with the text that belongs to it, any other in one line. At
 /// a usage fault, or where the file can't be read, no line is read and nothing is written on `output`. At a terminal one line on
@@ -327,7 +371,7 @@ where
         Ok(None) => {
             let _ = writeln!(
                 faults,
-                "usage: hdesk [run FILE | stat FILE | serve FILE --port P --analysts N] [--workers N] [--phantom MODE] [--names] | --version"
+                "usage: hdesk [run FILE | stat FILE | serve FILE --port P --analysts N | web FILE --port P --analysts N --page PAGE] [--workers N] [--phantom MODE] [--names] | --version"
             );
             USAGE
         }

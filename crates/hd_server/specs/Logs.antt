@@ -15,3 +15,7 @@ pub record PrintsLog (board : Board) (desks : List (ℕ × List Event)) (before 
   pub lawful : IsLawful log
   pub closes : Closes board log desks
   pub appends : Appends before after (flat_map with_newline (log_lines log))
+
+-- the same, whatever the desks are
+abbrev pub PrintsBoard : Board → (before after : Option (List ℕ)) → Type 0
+PrintsBoard board before after = (desks : List (ℕ × List Event)) × PrintsLog board desks before after

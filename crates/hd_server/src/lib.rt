@@ -12,4 +12,4 @@ mod fault;
 mod server;
 
 pub use fault::ServeOnFault;
-pub use server::serve_on;
+pub use server::{close_and_print, serve_on};

@@ -108,12 +108,12 @@ fn attend_next<'s, E, R: AllocGlobal + Threads + Wait + Sync>(
     }
 }
 
-/// Closes the board with its desks, and writes its log.
+/// Closes a board with its desks, and writes its log on `output`: the lines of the reply to `events`, without the `ok N`.
 ///
 /// # Errors
 ///
 /// The board can't be closed, or memory ran out: nothing is written. Or the log can't be written.
-fn close_and_print<W: Write>(
+pub fn close_and_print<W: Write>(
     alloc: Global,
     board: Board,
     desks: &[Desk],

@@ -1,5 +1,5 @@
 //! The whole program over words and files, with its exit statuses and texts.
-use hd_arguments::{Opening, Serving, Task, read_arguments};
+use hd_arguments::{Browsing, Opening, Serving, Task, read_arguments};
 use hd_program::{BAD_DUMP, DONE, FAILED, USAGE, program};
 use hd_protocol::SAMPLE;
 use hd_terms::Mode;
@@ -184,6 +184,73 @@ fn serve_usage_faults(rt: HostRuntime) {
 }
 
 #[test]
+fn web_task(rt: HostRuntime) {
+    let words = owned(
+        &rt,
+        rt.alloc(),
+        &["web", "x", "--port=7080", "--analysts=2", "--page", "p"],
+    );
+    let opening = Opening {
+        file: "x",
+        workers: 4,
+        mode: Mode::Direct,
+        names: false,
+    };
+    let wanted = Browsing {
+        serving: Serving {
+            opening,
+            port: 7_080,
+            analysts: 2,
+        },
+        page: "p",
+    };
+    let read = read_arguments(rt.alloc(), words.as_slice()).ok();
+    assert_eq!(rt; read, Some(Some(Task::Web(wanted))));
+}
+
+#[test]
+fn web_usage_faults(rt: HostRuntime) {
+    let rows: [&[&str]; 5] = [
+        &["web", "x", "--port", "0", "--analysts", "1"],
+        &["web", "x", "--port", "0", "--page", "p"],
+        &["web", "x", "--analysts", "1", "--page", "p"],
+        &["web", "x", "--port", "0", "--analysts", "17", "--page", "p"],
+        &[
+            "web",
+            "x",
+            "--port=0",
+            "--analysts=1",
+            "--page=p",
+            "--names",
+        ],
+    ];
+    for words in rows {
+        assert!(rt; !usage_of(&rt, words).is_empty());
+    }
+}
+
+/// The page is read before the file.
+#[test]
+fn page_that_is_not_there(rt: HostRuntime) {
+    let words = [
+        "web",
+        "/no/such/file",
+        "--port=0",
+        "--analysts=1",
+        "--page=/no/such/page",
+    ];
+    assert!(rt;
+        ends(
+            &rt,
+            &words,
+            FAILED,
+            b"",
+            b"hdesk: cannot read /no/such/page\n"
+        )
+    );
+}
+
+#[test]
 fn usage_faults(rt: HostRuntime) {
     let rows: [&[&str]; 13] = [
         &["--help"],
@@ -215,7 +282,7 @@ fn usage_faults(rt: HostRuntime) {
 
 #[test]
 fn version(rt: HostRuntime) {
-    assert!(rt; ends(&rt, &["--version"], DONE, b"hdesk 1.4.2\n", b""));
+    assert!(rt; ends(&rt, &["--version"], DONE, b"hdesk 1.5.0\n", b""));
     assert!(rt; !usage_of(&rt, &["stat", "--version"]).is_empty());
 }
 

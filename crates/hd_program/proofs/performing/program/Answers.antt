@@ -12,6 +12,7 @@ runs_words (tasks.Run opening) input rest before after exit (inr fails) = inr (o
 runs_words (tasks.Stat opening) input rest before after exit (inl stats) = inr (opening.mode, opening.names, inr (inl stats))
 runs_words (tasks.Stat opening) input rest before after exit (inr fails) = inr (opening.mode, opening.names, inr (inr (inr fails)))
 runs_words (tasks.Serve serving) input rest before after exit serves = inr (serving.opening.mode, serving.opening.names, inr (inr (inl serves)))
+runs_words (tasks.Web browsing) input rest before after exit serves = inr (browsing.serving.opening.mode, browsing.serving.opening.names, inr (inr (inl serves)))
 runs_words (tasks.Version version) input rest before after exit tells = inl (version.now, tells)
 
 pub returns-in-Ok-Some-clause-words : goal.returns-in-Ok-Some-clause-words

@@ -1,0 +1,4 @@
+pub mod Joins
+pub mod HeadLemmas
+pub mod Upgrades
+pub mod HearingLemmas

@@ -1,0 +1,3 @@
+pub mod TableLemmas
+pub mod SessionLemmas
+pub mod TalkLemmas

@@ -1,0 +1,4 @@
+pub mod Messages
+pub mod Seats
+pub mod Tables
+pub mod Talks
