@@ -243,7 +243,7 @@ HAS_CHAIN = f"document.querySelectorAll('#chain:not(.is-past) li').length > 1 &&
 
 
 def shows(selector: str, count: int) -> str:
-    """What holds in a page that shows so many of the elements that a selector names, and loads nothing."""
+    """What holds in a page that loads nothing and shows `count` of the elements that a selector names."""
     return f"document.querySelectorAll('{selector}').length === {count} && {IS_STILL}"
 
 
