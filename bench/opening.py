@@ -79,7 +79,7 @@ def subjects_of(hdesk: str, room: Path) -> list[Subject]:
         Subject("walk", 1, (walk,)),
         *(Subject("plain", n, (plain,), (str(n),)) for n in (1, 2, 4)),
         Subject("holding", 4, (holding,), ("4",)),
-        *(Subject("stat", n, (hdesk, "stat"), ("--workers", str(n))) for n in (1, 2, 4)),
+        *(Subject("stat", n, (hdesk, "stat"), ("--workers", str(n))) for n in (1, 2, 4, 8, 16)),
         Subject("run", 4, (hdesk, "run"), ("--workers", "4")),
     ]
 

@@ -63,15 +63,18 @@ never_quit c h is = no_truth (subst (λ (x : Command). is_quit_command (Ok x) �
 -- of a line with this last word
 module _ (text : List ℕ) where
   -- a line that is run at once
-  pub answered_at_once : (old new : Work) (reading : Result Command LineFault) (reply : List ℕ) → IsLawful old.memory.log → IsRun old new text reading reply → IsAnswered old new text reading reply
+  pub answered_at_once : (old new : Work) (reading : Result Command LineFault) (reply : List ℕ) → IsLawful old.memory.log → IsRun old new text reading reply
+      → IsAnswered old new text reading reply
   answered_at_once old new reading reply lawful run = record { between = old; refreshes = stays_put old lawful; run = run }
 
   -- a command for which the desk was refreshed, or is
-  pub answered_after : (old between new : Work) (reading : Result Command LineFault) (reply : List ℕ) → Refreshes old between → IsRun between new text reading reply → IsAnswered old new text reading reply
+  pub answered_after : (old between new : Work) (reading : Result Command LineFault) (reply : List ℕ) → Refreshes old between
+      → IsRun between new text reading reply → IsAnswered old new text reading reply
   answered_after old between new reading reply refresh run = record { between = between; refreshes = refresh; run = run }
 
   -- a line that changes nothing
-  pub changes_nothing : (old new : Work) (reading : Result Command LineFault) (reply : List ℕ) → Remembers old new old.memory → RepliesTo old.analyst.dump old.memory text reading reply → IsRun old new text reading reply
+  pub changes_nothing : (old new : Work) (reading : Result Command LineFault) (reply : List ℕ) → Remembers old new old.memory
+      → RepliesTo old.analyst.dump old.memory text reading reply → IsRun old new text reading reply
   changes_nothing old new reading reply same h = record {
     same_analyst = same.same_analyst;
     found = old.memory.log;
@@ -81,7 +84,8 @@ module _ (text : List ℕ) where
   }
 
   -- a command that isn't run
-  pub isn't_run : (old new : Work) (reading : Result Command LineFault) (reply : List ℕ) → Remembers old new old.memory → refreshes reading ≡ true → IsUnserved reply → IsRun old new text reading reply
+  pub isn't_run : (old new : Work) (reading : Result Command LineFault) (reply : List ℕ) → Remembers old new old.memory → refreshes reading ≡ true
+      → IsUnserved reply → IsRun old new text reading reply
   isn't_run old new reading reply same needs unserved = record {
     same_analyst = same.same_analyst;
     found = old.memory.log;
@@ -90,9 +94,12 @@ module _ (text : List ℕ) where
   }
 
   -- an edit or an undo
-  module _ (old new : Work) (c : Command) (want : Result What Refusal) (asks : asked old.analyst.dump old.memory.log old.analyst.who c ≡ Some want) (needs : refreshes (Ok c) ≡ true) where
+  module _ (old new : Work) (c : Command) (want : Result What Refusal) (asks : asked old.analyst.dump old.memory.log old.analyst.who c ≡ Some want)
+      (needs : refreshes (Ok c) ≡ true) where
     -- its event is added
-    adds : (reply : List ℕ) (a : Adds old new want) → ((line : List ℕ) → command_of line ≡ Ok c → last_word line ≡ text → IsTurn old.analyst (turn_of line old.memory a.found new.memory reply)) → IsRun old new text (Ok c) reply
+    adds : (reply : List ℕ) (a : Adds old new want)
+        → ((line : List ℕ) → command_of line ≡ Ok c → last_word line ≡ text → IsTurn old.analyst (turn_of line old.memory a.found new.memory reply))
+        → IsRun old new text (Ok c) reply
     adds reply a turn = record { same_analyst = a.same_analyst; found = a.found; later = λ lawful. a.later; is_turn = turn }
 
     asks_for : (a : Adds old new want) → asked old.analyst.dump old.memory.log old.analyst.who c ≡ Some (Ok a.what)
@@ -117,14 +124,19 @@ module _ (text : List ℕ) where
 
     -- it isn't
     module _ (r : Refusal) (d : AddsNot old new want r) where
-      stays : (reply : List ℕ) → ((line : List ℕ) → command_of line ≡ Ok c → last_word line ≡ text → IsTurn old.analyst (turn_of line old.memory d.found new.memory reply)) → IsRun old new text (Ok c) reply
+      stays : (reply : List ℕ)
+          → ((line : List ℕ) → command_of line ≡ Ok c → last_word line ≡ text → IsTurn old.analyst (turn_of line old.memory d.found new.memory reply))
+          → IsRun old new text (Ok c) reply
       stays reply turn = record { same_analyst = d.same_analyst; found = d.found; later = λ lawful. d.later; is_turn = turn }
 
       refuses : IsRun old new text (Ok c) (refused (refusal_name r))
       refuses = elim d.why [
         | inl (same, inl unserved) ↦ stays (refused (refusal_name r)) (λ line spells last. sessions.unserved (ap refreshes spells ∙ needs) unserved same d.left)
-        | inl (same, inr before) ↦ stays (refused (refusal_name r)) (λ line spells last. sessions.declined c r spells (asks ∙ ap (λ (w : Result What Refusal). Some w) before) refl same d.left)
-        | inr log ↦ stays (refused (refusal_name r)) (λ line spells last. sessions.rejected c log.what r spells (asks ∙ ap (λ (w : Result What Refusal). Some w) log.asked_for) log.refuses refl d.left)
+        | inl (same, inr before) ↦
+            stays (refused (refusal_name r))
+            (λ line spells last. sessions.declined c r spells (asks ∙ ap (λ (w : Result What Refusal). Some w) before) refl same d.left)
+        | inr log ↦ stays (refused (refusal_name r))
+            (λ line spells last. sessions.rejected c log.what r spells (asks ∙ ap (λ (w : Result What Refusal). Some w) log.asked_for) log.refuses refl d.left)
       ]
 
     pub edit_ran : (ended : Result Done NotDone) → EditEnds old new want ended → IsRun old new text (Ok c) (edit_reply ended)
@@ -134,36 +146,44 @@ module _ (text : List ℕ) where
 
   -- a turn that adds no event
   module _ (old new : Work) (c : Command) (reply : List ℕ) (same_analyst : new.analyst ≡ old.analyst) where
-    between : ((line : List ℕ) → command_of line ≡ Ok c → last_word line ≡ text → IsTurn old.analyst (turn_of line old.memory old.memory.log new.memory reply)) → IsRun old new text (Ok c) reply
+    between : ((line : List ℕ) → command_of line ≡ Ok c → last_word line ≡ text → IsTurn old.analyst (turn_of line old.memory old.memory.log new.memory reply))
+        → IsRun old new text (Ok c) reply
     between turn = record { same_analyst = same_analyst; found = old.memory.log; later = same_log old.analyst.who old.memory.log; is_turn = turn }
 
   -- a mark is added, or not
-  pub mark_ran : (old new : Work) (ended : Result ℕ Refusal) → MarkEnds old new ended → IsRun old new text (Ok commands.Mark) (numbered_reply (codes "mark ") ended)
+  pub mark_ran : (old new : Work) (ended : Result ℕ Refusal) → MarkEnds old new ended
+      → IsRun old new text (Ok commands.Mark) (numbered_reply (codes "mark ") ended)
   mark_ran old new (Ok m) h =
       between old new commands.Mark (numbered_reply (codes "mark ") (Ok m)) h.marked.same_analyst
       (λ line spells last. sessions.marked spells h.room (ap (λ (n : ℕ). numbered_reply (codes "mark ") (Ok n)) h.number) refl h.marked.memory_is)
-  mark_ran old new (Err r) (same, inl memory) = isn't_run old new (Ok commands.Mark) (refused (refusal_name r)) same refl (ran_out r (refused (refusal_name r)) refl memory)
+  mark_ran old new (Err r) (same, inl memory) = isn't_run old new (Ok commands.Mark) (refused (refusal_name r)) same refl
+      (ran_out r (refused (refusal_name r)) refl memory)
   mark_ran old new (Err r) (same, inr full) =
-      changes_nothing old new (Ok commands.Mark) (refused (refusal_name r)) same (record { full = full.1; reply_is = ap (λ (q : Refusal). refused (refusal_name q)) full.0 })
+      changes_nothing old new (Ok commands.Mark) (refused (refusal_name r)) same
+      (record { full = full.1; reply_is = ap (λ (q : Refusal). refused (refusal_name q)) full.0 })
 
   -- replies show names from here on, or no longer
-  pub names_ran : (old new : Work) (on : Bool) (reply : List ℕ) → Remembers old new (with_names old.memory on) → reply ≡ answered_head 0 → IsRun old new text (Ok (commands.Names on)) reply
+  pub names_ran : (old new : Work) (on : Bool) (reply : List ℕ) → Remembers old new (with_names old.memory on) → reply ≡ answered_head 0
+      → IsRun old new text (Ok (commands.Names on)) reply
   names_ran old new on reply h is =
       between old new (commands.Names on) reply h.same_analyst
       (λ line spells last. sessions.renamed on spells (is ∙ sym (append-nil (answered_head 0))) refl h.memory_is)
 
   -- a private part begins, or not
-  pub private_ran : (old new : Work) (ended : Result ℕ Refusal) → PrivateEnds old new ended → IsRun old new text (Ok commands.Private) (numbered_reply (codes "private ") ended)
+  pub private_ran : (old new : Work) (ended : Result ℕ Refusal) → PrivateEnds old new ended
+      → IsRun old new text (Ok commands.Private) (numbered_reply (codes "private ") ended)
   private_ran old new (Ok n) h =
       between old new commands.Private (numbered_reply (codes "private ") (Ok n)) h.begun.same_analyst
       (λ line spells last. sessions.gone_private spells h.none_open (ap (λ (m : ℕ). numbered_reply (codes "private ") (Ok m)) h.number) refl h.begun.memory_is)
-  private_ran old new (Err r) (same, inl memory) = isn't_run old new (Ok commands.Private) (refused (refusal_name r)) same refl (ran_out r (refused (refusal_name r)) refl memory)
+  private_ran old new (Err r) (same, inl memory) = isn't_run old new (Ok commands.Private) (refused (refusal_name r)) same refl
+      (ran_out r (refused (refusal_name r)) refl memory)
   private_ran old new (Err r) (same, inr (is, home, opened)) =
       changes_nothing old new (Ok commands.Private) (refused (refusal_name r)) same
       (subst (λ (h : Option (List Event)). RefusesPrivate h (refused (refusal_name r))) (sym opened) (ap (λ (q : Refusal). refused (refusal_name q)) is))
 
   -- a private part ends, or none was open
-  pub back_ran : (old new : Work) (ended : Result ℕ Refusal) → BackEnds old new ended → IsRun old new text (Ok commands.Back) (numbered_reply (codes "back ") ended)
+  pub back_ran : (old new : Work) (ended : Result ℕ Refusal) → BackEnds old new ended
+      → IsRun old new text (Ok commands.Back) (numbered_reply (codes "back ") ended)
   back_ran old new (Ok k) h =
       between old new commands.Back (numbered_reply (codes "back ") (Ok k)) h.ended.same_analyst
       (λ line spells last. sessions.gone_back h.home spells h.was_open (ap (λ (m : ℕ). numbered_reply (codes "back ") (Ok m)) h.number) refl h.ended.memory_is)
@@ -172,22 +192,29 @@ module _ (text : List ℕ) where
       (subst (λ (h : Option (List Event)). RefusesBack h (refused (refusal_name r))) (sym none) (ap (λ (q : Refusal). refused (refusal_name q)) is))
 
   -- what is known of one command, work and reply holds of those that are the same
-  pub run_as : (old new new' : Work) (command command' : Command) (reply reply' : List ℕ) → command ≡ command' → new ≡ new' → reply ≡ reply' → IsRun old new' text (Ok command') reply' → IsRun old new text (Ok command) reply
+  pub run_as : (old new new' : Work) (command command' : Command) (reply reply' : List ℕ) → command ≡ command' → new ≡ new' → reply ≡ reply'
+      → IsRun old new' text (Ok command') reply' → IsRun old new text (Ok command) reply
   run_as old new new' command command' reply reply' same_command same_work same_reply h = rw (same_command, same_work, same_reply) h
 
   -- a command for which the desk couldn't be refreshed
-  pub unrefreshed : (old new : Work) (c : Command) (r : Refusal) (reply : List ℕ) → is_quit_command (Ok c) ≡ false → RefreshEnds old new (Err r) → reply ≡ refused (refusal_name r) → IsAnswered old new text (Ok c) reply
+  pub unrefreshed : (old new : Work) (c : Command) (r : Refusal) (reply : List ℕ) → is_quit_command (Ok c) ≡ false → RefreshEnds old new (Err r)
+      → reply ≡ refused (refusal_name r) → IsAnswered old new text (Ok c) reply
   unrefreshed old new c r reply other h is =
-      answered_after old new new (Ok c) reply h.0 (isn't_run new new (Ok c) reply (record { same_analyst = refl; memory_is = refl }) (refreshed_first c other) (subst IsUnserved (sym is) h.1))
+      answered_after old new new (Ok c) reply h.0 (isn't_run new new (Ok c) reply (record { same_analyst = refl; memory_is = refl }) (refreshed_first c other)
+      (subst IsUnserved (sym is) h.1))
 
   -- a line that is no command, and `quit`
-  pub line_fault_answered : (work : Work) (f : LineFault) (reply : List ℕ) → IsLawful work.memory.log → reply ≡ refused (line_fault_name f) → IsAnswered work work text (Err f) reply
-  line_fault_answered work f reply lawful is = answered_at_once work work (Err f) reply lawful (changes_nothing work work (Err f) reply (record { same_analyst = refl; memory_is = refl }) is)
+  pub line_fault_answered : (work : Work) (f : LineFault) (reply : List ℕ) → IsLawful work.memory.log → reply ≡ refused (line_fault_name f)
+      → IsAnswered work work text (Err f) reply
+  line_fault_answered work f reply lawful is =
+      answered_at_once work work (Err f) reply lawful (changes_nothing work work (Err f) reply (record { same_analyst = refl; memory_is = refl }) is)
 
   pub quit_answered : (work : Work) (reply : List ℕ) → IsLawful work.memory.log → reply ≡ answered_head 0 → IsAnswered work work text (Ok commands.Quit) reply
   quit_answered work reply lawful is =
-      answered_at_once work work (Ok commands.Quit) reply lawful (changes_nothing work work (Ok commands.Quit) reply (record { same_analyst = refl; memory_is = refl }) (is ∙ sym (append-nil (answered_head 0))))
+      answered_at_once work work (Ok commands.Quit) reply lawful
+      (changes_nothing work work (Ok commands.Quit) reply (record { same_analyst = refl; memory_is = refl }) (is ∙ sym (append-nil (answered_head 0))))
 
   -- what is known of one reading and reply holds of those that are the same
-  pub answered_as : (old new : Work) (reading reading' : Result Command LineFault) (reply reply' : List ℕ) → reading ≡ reading' → reply ≡ reply' → IsAnswered old new text reading' reply' → IsAnswered old new text reading reply
+  pub answered_as : (old new : Work) (reading reading' : Result Command LineFault) (reply reply' : List ℕ) → reading ≡ reading' → reply ≡ reply'
+      → IsAnswered old new text reading' reply' → IsAnswered old new text reading reply
   answered_as old new reading reading' reply reply' same_reading same_reply h = rw (same_reading, same_reply) h

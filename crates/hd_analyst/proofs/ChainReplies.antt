@@ -1,5 +1,6 @@
 -- Lemmas on the answer to `chain`.
-use Rattle.std.proofs.Common.{◌≡◌, ◌∙◌, ℕ, zero, suc, List, [], ◌∷◌, ◌++◌, ◌+◌, ◌-◌, ◌<◌, inl, inr, length, map, take, min, Option, None, Some, Ok, refl, sym, ap, arith}
+use Rattle.std.proofs.Common.{◌≡◌, ◌∙◌, ℕ, zero, suc, List, [], ◌∷◌, ◌++◌, ◌+◌, ◌-◌, ◌<◌, inl, inr, length, map, take, min, Option, None, Some, Ok, refl, sym}
+use Rattle.std.proofs.Common.{ap, arith}
 use Rattle.std.specs.Prelude.{Bool}
 use Rattle.std.specs.List.{flat_map}
 use Rattle.std.proofs.lemmas.List.{length-map, length-take, take_all, take_min, take-map}
@@ -28,6 +29,10 @@ module _ (dump : Dump) (names : Bool) (log : List Event) (ks : List Reached) (o 
       (ap (map (link_text dump names)) links ∙ map-map (link_text dump names) link_of es)
 
   -- a chain leads to it
-  pub chain_reply : (chain : Chain) → IsFoundChain dump log ks o chain → reply ≡ answer_text most (Ok (lines_of dump names chain)) → IsWritten (AnswersChain dump names log (Some o)) most reply
-  chain_reply chain is reply_is =
-      (Ok (lines_of dump names chain), (is.strength, is.has_strength, inr (root_of chain, is.edges, is.is_chain, ap Ok (same_lines chain is.edges is.links))), reply_is)
+  pub chain_reply : (chain : Chain) → IsFoundChain dump log ks o chain → reply ≡ answer_text most (Ok (lines_of dump names chain))
+      → IsWritten (AnswersChain dump names log (Some o)) most reply
+  chain_reply chain is reply_is = (
+    Ok (lines_of dump names chain),
+    (is.strength, is.has_strength, inr (root_of chain, is.edges, is.is_chain, ap Ok (same_lines chain is.edges is.links))),
+    reply_is,
+  )

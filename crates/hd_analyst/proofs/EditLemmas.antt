@@ -42,7 +42,8 @@ abbrev pub board_of : Inside → Board
 board_of a = board_in a.board.now a.private
 
 -- it counts as many roots as are said
-roots-in : (board : Board) (desk : Replica) (private : Option PrivatePart) → IsPartOf desk private → (board_in board private).roots ≡ roots_at (analyst_at board desk) (home_of private)
+roots-in : (board : Board) (desk : Replica) (private : Option PrivatePart) → IsPartOf desk private
+    → (board_in board private).roots ≡ roots_at (analyst_at board desk) (home_of private)
 roots-in board desk None part = refl
 roots-in board desk (Some p) part = part.2
 
@@ -71,7 +72,8 @@ adds a new what want log asked part taken who dump seen law = record {
 }
 
 -- nothing is appended, and nothing more is seen
-stays : (a : Inside) (new : Replica) (want : Result What Refusal) (r : Refusal) → new.who ≡ a.desk.who → new.dump ≡ a.desk.dump → new.seen ≡ a.desk.seen → IsLawful new.seen
+stays : (a : Inside) (new : Replica) (want : Result What Refusal) (r : Refusal) → new.who ≡ a.desk.who → new.dump ≡ a.desk.dump → new.seen ≡ a.desk.seen
+    → IsLawful new.seen
     → IsUnserved (refused (refusal_name r)) ⊎ (want ≡ Err r) → AddsNot (work_of a) (work_of (with_desk a new)) want r
 stays a new want r who dump seen law why = record {
   found = a.desk.seen;
@@ -84,7 +86,8 @@ stays a new want r who dump seen law why = record {
 -- the log doesn't take an event, or isn't reached
 adds_not : (a : Inside) (new : Replica) (what : What) (want : Result What Refusal) (fault : AppendFault) → want ≡ Ok what → IsPartOf a.desk a.private
     → AppendsNot (board_of a) a.desk new what fault → IsLawful new.seen → AddsNot (work_of a) (work_of (with_desk a new)) want (append_reason fault)
-adds_not a new what want (append_faults.Foreign found) asked part h law = stays a new want refusals.Foreign h.at.who h.at.dump h.at.seen law (inl (inr (inr refl)))
+adds_not a new what want (append_faults.Foreign found) asked part h law = stays a new want refusals.Foreign h.at.who h.at.dump h.at.seen law
+    (inl (inr (inr refl)))
 adds_not a new what want append_faults.OutOfMemory asked part h law = stays a new want _ h.at.who h.at.dump h.at.seen law (inl (inl refl))
 adds_not a new what want (append_faults.Refused r found) asked part h law =
     let is : found ≡ h.log = h.refused.0 in
@@ -136,12 +139,14 @@ edits a new edit done part h law = does a new (whats.Do edit) (edit_want a edit)
 
 -- an edit isn't done
 refuses_edit : (a : Inside) (new : Replica) (edit : Edit) (fault : EditFault) → IsPartOf a.desk a.private
-    → RefusesEdit (board_of a) a.desk new edit fault → IsLawful new.seen → EditEnds (work_of a) (work_of (with_desk a new)) (edit_want a edit) (Err (edit_not_done fault))
+    → RefusesEdit (board_of a) a.desk new edit fault → IsLawful new.seen → EditEnds (work_of a) (work_of (with_desk a new)) (edit_want a edit)
+    (Err (edit_not_done fault))
 refuses_edit a new edit edit_faults.Behind part h law = stays a new (edit_want a edit) refusals.Behind h.who h.dump h.seen law (inl (inr (inl refl)))
 refuses_edit a new edit (edit_faults.Refused r) part h law =
     stays a new (edit_want a edit) r h.1.who h.1.dump h.1.seen law (inr (ap (λ (x : Option Refusal). unless_refused x (whats.Do edit)) h.0))
 refuses_edit a new edit (edit_faults.Append fault) part h law = adds_not a new (whats.Do edit) (edit_want a edit) fault (edit_asked a edit h.0) part h.1 law
-refuses_edit a new edit (edit_faults.Accepted number) part h law = adds_behind a new (whats.Do edit) (edit_want a edit) number (edit_asked a edit h.0) part h.1 law
+refuses_edit a new edit (edit_faults.Accepted number) part h law = adds_behind a new (whats.Do edit) (edit_want a edit) number
+    (edit_asked a edit h.0) part h.1 law
 
 -- the undo of an event isn't done
 refuses_undo : (a : Inside) (new : Replica) (want : Result What Refusal) (k : ℕ) (fault : UndoFault) → want ≡ Ok (whats.Undo k) → IsPartOf a.desk a.private
@@ -153,7 +158,8 @@ refuses_undo a new want k (undo_faults.Accepted number) asked part h law = adds_
 
 -- nor that of the last
 refuses_last : (a : Inside) (new : Replica) (last : Option ℕ) (fault : UndoFault) → IsPartOf a.desk a.private
-    → RefusesUndoLast (board_of a) a.desk new last fault → IsLawful new.seen → EditEnds (work_of a) (work_of (with_desk a new)) (undo_of_last last) (Err (undo_not_done fault))
+    → RefusesUndoLast (board_of a) a.desk new last fault → IsLawful new.seen → EditEnds (work_of a) (work_of (with_desk a new)) (undo_of_last last)
+    (Err (undo_not_done fault))
 refuses_last a new None undo_faults.Behind part h law = stays a new (undo_of_last None) refusals.Behind h.who h.dump h.seen law (inl (inr (inl refl)))
 refuses_last a new None undo_faults.NothingToUndo part h law = stays a new (undo_of_last None) refusals.NothingToUndo h.who h.dump h.seen law (inr refl)
 refuses_last a new None (undo_faults.Append fault) part h law = absurd h
@@ -189,23 +195,28 @@ ends_last a new (Ok done) part ok err law = does a new (whats.Undo ok.0) (undo_a
 ends_last a new (Err fault) part ok err law = refuses_last a new (last_live a.desk.seen a.desk.who) fault part err law
 
 -- how a call of `edit` ends
-pub edit_ends : (old : Work) (a : Inside) (board : Board) (new : Replica) (edit : Edit) (ended : Result Done EditFault) → work_of a ≡ old → board ≡ board_of a → IsPartOf a.desk a.private
+pub edit_ends : (old : Work) (a : Inside) (board : Board) (new : Replica) (edit : Edit) (ended : Result Done EditFault) → work_of a ≡ old → board ≡ board_of a
+    → IsPartOf a.desk a.private
     → IfOk ended (Edits board a.desk new edit) → IfErr ended (RefusesEdit board a.desk new edit) → IsLawful new.seen
     → EditEnds old (work_of (with_desk a new)) (unless_refused (edit_refusal old.analyst.dump edit) (whats.Do edit)) (edit_answer ended)
 edit_ends old a board new edit ended view is part ok err law =
     subst (λ (w : Work). EditEnds w (work_of (with_desk a new)) (unless_refused (edit_refusal w.analyst.dump edit) (whats.Do edit)) (edit_answer ended)) view
-    (ends_edit a new edit ended part (subst (λ (b : Board). IfOk ended (Edits b a.desk new edit)) is ok) (subst (λ (b : Board). IfErr ended (RefusesEdit b a.desk new edit)) is err) law)
+    (ends_edit a new edit ended part (subst (λ (b : Board). IfOk ended (Edits b a.desk new edit)) is ok)
+    (subst (λ (b : Board). IfErr ended (RefusesEdit b a.desk new edit)) is err) law)
 
 -- how a call of `undo` with a number ends
-pub undo_ends : (old : Work) (a : Inside) (board : Board) (new : Replica) (k : ℕ) (ended : Result Done UndoFault) → work_of a ≡ old → board ≡ board_of a → IsPartOf a.desk a.private
+pub undo_ends : (old : Work) (a : Inside) (board : Board) (new : Replica) (k : ℕ) (ended : Result Done UndoFault) → work_of a ≡ old → board ≡ board_of a
+    → IsPartOf a.desk a.private
     → IfOk ended (Appends board a.desk new (whats.Undo k)) → IfErr ended (RefusesUndo board a.desk new k) → IsLawful new.seen
     → EditEnds old (work_of (with_desk a new)) (undo_asked old.memory.log old.analyst.who (Some k)) (undo_answer ended)
 undo_ends old a board new k ended view is part ok err law =
     subst (λ (w : Work). EditEnds w (work_of (with_desk a new)) (Ok (whats.Undo k)) (undo_answer ended)) view
-    (ends_undo a new k ended part (subst (λ (b : Board). IfOk ended (Appends b a.desk new (whats.Undo k))) is ok) (subst (λ (b : Board). IfErr ended (RefusesUndo b a.desk new k)) is err) law)
+    (ends_undo a new k ended part (subst (λ (b : Board). IfOk ended (Appends b a.desk new (whats.Undo k))) is ok)
+    (subst (λ (b : Board). IfErr ended (RefusesUndo b a.desk new k)) is err) law)
 
 -- and without one
-pub last_ends : (old : Work) (a : Inside) (board : Board) (new : Replica) (ended : Result Done UndoFault) → work_of a ≡ old → board ≡ board_of a → IsPartOf a.desk a.private
+pub last_ends : (old : Work) (a : Inside) (board : Board) (new : Replica) (ended : Result Done UndoFault) → work_of a ≡ old → board ≡ board_of a
+    → IsPartOf a.desk a.private
     → IfOk ended (λ done. (k : ℕ) × (last_live a.desk.seen a.desk.who ≡ Some k) × Appends board a.desk new (whats.Undo k) done)
     → IfErr ended (RefusesUndoLast board a.desk new (last_live a.desk.seen a.desk.who)) → IsLawful new.seen
     → EditEnds old (work_of (with_desk a new)) (undo_asked old.memory.log old.analyst.who None) (undo_answer ended)

@@ -1,5 +1,6 @@
 -- Groups that are found by their names.
-use Rattle.std.proofs.Common.{◌≡◌, ◌∙◌, ℕ, zero, suc, ◌+◌, ◌<◌, ◌≤◌, Bool, true, false, List, [], ◌∷◌, ◌++◌, length, map, take, drop, get_or, Option, Some, None, refl, sym, ap, subst, arith, append_assoc, take-append-drop, length-append, true≢false, Ok}
+use Rattle.std.proofs.Common.{◌≡◌, ◌∙◌, ℕ, zero, suc, ◌+◌, ◌<◌, ◌≤◌, Bool, true, false, List, [], ◌∷◌, ◌++◌, length, map, take, drop, get_or, Option, Some}
+use Rattle.std.proofs.Common.{None, refl, sym, ap, subst, arith, append_assoc, take-append-drop, length-append, true≢false, Ok}
 use Rattle.std.specs.Prelude.{◌↔◌, All, Contains, filter, is_some}
 use Rattle.std.specs.List.{AllPairs}
 use Rattle.std.specs.List.Sorted.{IsStrictlyIncreasing}
@@ -37,7 +38,11 @@ occurs-from name text (a, b, is) = record {
 pub tells : (name text : List ℕ) (r : Option ℕ) → FindsNeedle name text 0 r → TellsFound name text (is_some r)
 tells name text None h = record {
   match = ap is_some (FindsNeedle-value name text None h);
-  contains = (λ e. absurd cc, λ has. absurd (h (length has.0) (omega arith) (let o = occurs-from name text has in let fits = o.fits in omega arith) (occurs-from name text has)));
+  contains = (
+    λ e. absurd cc,
+    λ has. absurd (h (length has.0) (omega arith) (let o = occurs-from name text has in let fits = o.fits in omega arith)
+        (occurs-from name text has)),
+  );
 }
 tells name text (Some k) h = record {
   match = ap is_some (FindsNeedle-value name text (Some k) h);
@@ -87,7 +92,8 @@ kept-in {X} p (y ∷ ys) x (suc k, lt, is) passes =
     cond_both (p y) (y ∷ filter p ys) (filter p ys) (λ (l : List X). Contains l x) (λ _. Contains-append_right (y ∷ []) (filter p ys) x rest) (λ _. rest)
 
 -- those of the groups whose names contain the text
-module _ (dump : Dump) (text : List ℕ) (groups named : List Group) (all : AreNamedGroups dump (λ group. Unit {0}) groups) (h : AreNamed dump text groups named) where
+module _ (dump : Dump) (text : List ℕ) (groups named : List Group) (all : AreNamedGroups dump (λ group. Unit {0}) groups)
+    (h : AreNamed dump text groups named) where
   abbrev test : Group → Bool
   test group = is_named dump text group
 

@@ -19,9 +19,11 @@ IsWritten Is most text = (answer : Answer) × Is answer × (text ≡ answer_text
 
 -- the reply to a query with the last word of its line, under a state and marks, in a private part or not
 abbrev pub IsQueryReply : (state : Solution) → (marks : List Situation) → Showing → (text : List ℕ) → Query → List ℕ → Type 0
-IsQueryReply state marks showing text query reply = (home : Option (List Event)) → RepliesQuery state.dump (memory_at state.log marks home showing.names) text showing.most query reply
+IsQueryReply state marks showing text query reply = (home : Option (List Event))
+    → RepliesQuery state.dump (memory_at state.log marks home showing.names) text showing.most query reply
 
 -- the reply is given back as a text, or where it is short it is put into a buffer
-abbrev pub IsAnswerIn : (state : Solution) → (marks : List Situation) → Showing → (text : List ℕ) → Query → (given : Option (List ℕ)) → (buffer : List ℕ) → Type 0
+abbrev pub IsAnswerIn : (state : Solution) → (marks : List Situation) → Showing → (text : List ℕ) → Query → (given : Option (List ℕ)) → (buffer : List ℕ)
+    → Type 0
 IsAnswerIn state marks showing text query None buffer = IsQueryReply state marks showing text query buffer
 IsAnswerIn state marks showing text query (Some given) buffer = IsQueryReply state marks showing text query given

@@ -23,14 +23,17 @@ abbrev pub is_ours : List ℕ → Event → Type 0
 is_ours numbers e = Contains numbers e.who
 
 -- one more desk finds the log
-pub one_more_finds : (numbers : List ℕ) (log : List Event) (desks : List Replica) (i : ℕ) (d : Replica) (who : ℕ) (seen : List Event) → i < length desks → d ≡ get_or desks i d → who ≡ d.who → seen ≡ d.seen → All (finds numbers log) (take i desks) → IsFound numbers who seen log → All (finds numbers log) (take (i + 1) desks)
+pub one_more_finds : (numbers : List ℕ) (log : List Event) (desks : List Replica) (i : ℕ) (d : Replica) (who : ℕ) (seen : List Event) → i < length desks
+    → d ≡ get_or desks i d → who ≡ d.who → seen ≡ d.seen → All (finds numbers log) (take i desks) → IsFound numbers who seen log
+    → All (finds numbers log) (take (i + 1) desks)
 one_more_finds numbers log desks i d who seen lt at who_is seen_is so_far found =
     let by_who = subst (λ (w : ℕ). IsFound numbers w seen log) who_is found in
     let by_seen = subst (λ (s : List Event). IsFound numbers d.who s log) seen_is by_who in
     All-more (finds numbers log) desks i d lt so_far (subst (finds numbers log) at by_seen)
 
 -- an event from a place on is of the board's
-pub ours_there : (numbers : List ℕ) (log : List Event) (from i : ℕ) (e : Event) → from ≤ i → i < length log → IsEvent log i e → All (is_ours numbers) (drop from log) → is_ours numbers e
+pub ours_there : (numbers : List ℕ) (log : List Event) (from i : ℕ) (e : Event) → from ≤ i → i < length log → IsEvent log i e
+    → All (is_ours numbers) (drop from log) → is_ours numbers e
 ours_there numbers log from i e le lt at all =
     let k : ℕ = i - from in
     let place : from + k ≡ i = omega arith in
@@ -38,21 +41,24 @@ ours_there numbers log from i e le lt at all =
     subst (is_ours numbers) is (all k e (omega (arith, length-drop from log)))
 
 -- all events from a place on are
-pub all_ours : (numbers : List ℕ) (log : List Event) (from i : ℕ) → length log ≤ i → ((k : ℕ) (e : Event) → from ≤ k → k < i → IsEvent log k e → is_ours numbers e) → All (is_ours numbers) (drop from log)
+pub all_ours : (numbers : List ℕ) (log : List Event) (from i : ℕ) → length log ≤ i
+    → ((k : ℕ) (e : Event) → from ≤ k → k < i → IsEvent log k e → is_ours numbers e) → All (is_ours numbers) (drop from log)
 all_ours numbers log from i le so_far k d lt =
     let n : ℕ = from + k in
     let within : n < length log = omega (arith, length-drop from log) in
     subst (is_ours numbers) (sym (get_or-drop from log k d)) (so_far n (get_or log n d) (omega arith) (omega arith) (slice_get-get_or log n d within))
 
 -- one more number is a desk's
-pub one_more_has : (desks : List Replica) (first i : ℕ) → ((k : ℕ) → k < i → HasDesk desks (first + k)) → HasDesk desks (first + i) → (k : ℕ) → k < i + 1 → HasDesk desks (first + k)
+pub one_more_has : (desks : List Replica) (first i : ℕ) → ((k : ℕ) → k < i → HasDesk desks (first + k)) → HasDesk desks (first + i) → (k : ℕ) → k < i + 1
+    → HasDesk desks (first + k)
 one_more_has desks first i so_far here k lt = elim (cases_lt k i) [
   | inl below ↦ so_far k below
   | inr above ↦ let same : first + i ≡ first + k = omega arith in subst (HasDesk desks) same here
 ]
 
 -- each number is
-pub all_have : (desks : List Replica) (first count i : ℕ) → count ≤ i → ((k : ℕ) → k < i → HasDesk desks (first + k)) → (who : ℕ) → Contains (numbers_from first count) who → HasDesk desks who
+pub all_have : (desks : List Replica) (first count i : ℕ) → count ≤ i → ((k : ℕ) → k < i → HasDesk desks (first + k)) → (who : ℕ)
+    → Contains (numbers_from first count) who → HasDesk desks who
 all_have desks first count i le so_far who member =
     let within = number_within first count who member in
     let same : first + (who - first) ≡ who = omega (arith, within.0) in
@@ -70,10 +76,12 @@ of_map f (x ∷ xs) y found =
     (get_or (x ∷ xs) k x, Contains-get_or (x ∷ xs) k x lt, sym (get_or-map f (x ∷ xs) k x y lt) ∙ found.2)
 
 -- a desk by its number and what it has seen
-by_number : (desks : List Replica) (who : ℕ) (seen : List Event) → Contains (map numbered desks) (who, seen) → (d : Replica) × Contains desks d × (numbered d ≡ (who, seen))
+by_number : (desks : List Replica) (who : ℕ) (seen : List Event) → Contains (map numbered desks) (who, seen) → (d : Replica) × Contains desks d
+    × (numbered d ≡ (who, seen))
 by_number desks who seen found = let pair : ℕ × List Event = (who, seen) in of_map numbered desks pair found
 
-found_by_number : (numbers : List ℕ) (log : List Event) (desks : List Replica) → All (finds numbers log) desks → (who : ℕ) (seen : List Event) → Contains (map numbered desks) (who, seen) → IsFound numbers who seen log
+found_by_number : (numbers : List ℕ) (log : List Event) (desks : List Replica) → All (finds numbers log) desks → (who : ℕ) (seen : List Event)
+    → Contains (map numbered desks) (who, seen) → IsFound numbers who seen log
 found_by_number numbers log desks all who seen found =
     let d = by_number desks who seen found in
     subst (λ (p : ℕ × List Event). IsFound numbers p.0 p.1 log) d.2 (All-contains (finds numbers log) desks d.0 all d.1)
@@ -88,16 +96,20 @@ never_foreign numbers who seen log f (inl wrong) = wrong f.member
 never_foreign numbers who seen log f (inr differs) = never_differs who seen log f.continues differs
 
 -- a desk doesn't find the log
-pub desk_differs : (board : Board) (log : List Event) (desks : List Replica) → (d : Replica) × Contains desks d × IsForeign board.numbers d.who d.seen log → IsMismatch board log (map numbered desks)
+pub desk_differs : (board : Board) (log : List Event) (desks : List Replica) → (d : Replica) × Contains desks d × IsForeign board.numbers d.who d.seen log
+    → IsMismatch board log (map numbered desks)
 desk_differs board log desks (d, found, foreign) = inl (d.who, d.seen, in_map numbered desks d found, foreign)
 
 -- all desks find the log, whose events after the base are the board's
-pub no_mismatch : (board : Board) (log : List Event) (desks : List Replica) → All (finds board.numbers log) desks → AreMembers board log → IsMismatch board log (map numbered desks) → ⊥
-no_mismatch board log desks all ours (inl (who, seen, found, foreign)) = never_foreign board.numbers who seen log (found_by_number board.numbers log desks all who seen found) foreign
+pub no_mismatch : (board : Board) (log : List Event) (desks : List Replica) → All (finds board.numbers log) desks → AreMembers board log
+    → IsMismatch board log (map numbered desks) → ⊥
+no_mismatch board log desks all ours (inl (who, seen, found, foreign)) =
+    never_foreign board.numbers who seen log (found_by_number board.numbers log desks all who seen found) foreign
 no_mismatch board log desks all ours (inr wrong) = wrong ours
 
 -- a number that is no desk's
-pub no_desk : (board : Board) (desks : List Replica) → (who : ℕ) × Contains board.numbers who × (HasDesk desks who → ⊥) → IsMissingDesk board (map numbered desks)
+pub no_desk : (board : Board) (desks : List Replica) → (who : ℕ) × Contains board.numbers who × (HasDesk desks who → ⊥)
+    → IsMissingDesk board (map numbered desks)
 no_desk board desks (who, member, never) = (
   who,
   member,
@@ -106,7 +118,8 @@ no_desk board desks (who, member, never) = (
       never (d.0, d.1, ap (λ (p : ℕ × List Event). p.0) d.2),
 )
 
-pub closes : (board : Board) (log : List Event) (desks : List Replica) → All (finds board.numbers log) desks → AreMembers board log → ((who : ℕ) → Contains board.numbers who → HasDesk desks who) → Closes board log (map numbered desks)
+pub closes : (board : Board) (log : List Event) (desks : List Replica) → All (finds board.numbers log) desks → AreMembers board log
+    → ((who : ℕ) → Contains board.numbers who → HasDesk desks who) → Closes board log (map numbered desks)
 closes board log desks all ours have = record {
   complete = λ a member.
       let has = have a member in

@@ -1,5 +1,6 @@
 -- A desk's state on the way to what the desk has seen.
-use Rattle.std.proofs.Common.{◌≡◌, ◌∙◌, ℕ, ◌+◌, ◌<◌, ◌≤◌, List, [], ◌∷◌, ◌++◌, length, take, drop, length-append, Option, None, Some, Result, slice_get, subst, refl, sym, ap, arith}
+use Rattle.std.proofs.Common.{◌≡◌, ◌∙◌, ℕ, ◌+◌, ◌<◌, ◌≤◌, List, [], ◌∷◌, ◌++◌, length, take, drop, length-append, Option, None, Some, Result, slice_get, subst}
+use Rattle.std.proofs.Common.{refl, sym, ap, arith}
 use Rattle.std.specs.Result.{IsErr, OnErr}
 use Rattle.std.proofs.lemmas.Result.{MatchResult-from_err}
 use Rattle.std.proofs.lemmas.List.{length-take-le, take-append-drop}
@@ -23,7 +24,8 @@ no_fault front e None is law = refl
 no_fault front e (Some f) is law = absurd (refuses front e f is law)
 
 pub takes_next : (log front : List Event) (e : Event) → IsLawful log → begins_with log front → IsEvent log (length front) e → log_fault front e ≡ None
-takes_next log front e law begins next = no_fault front e (log_fault front e) refl (lawful_beginning log (with_event front e) (begins_next log front e begins next) law)
+takes_next log front e law begins next =
+    no_fault front e (log_fault front e) refl (lawful_beginning log (with_event front e) (begins_next log front e begins next) law)
 
 -- the log of a state with the next event of what was seen, where that is all that was seen
 all-next : (log front more : List Event) → IsLawful log → log ≡ front ++ more → length more ≡ 1 → IsNextLog front log
@@ -82,9 +84,11 @@ pub record IsOnTheWay (old new : Replica) (count : ℕ) : Type 0 where
 pub sets_out : (old : Replica) (count : ℕ) → length old.front ≤ count → IsOnTheWay old old count
 sets_out old count le = record { at = is_at_itself old; reached = begins_itself old.front; most = le }
 
-pub goes_on : (old mid new : Replica) (count : ℕ) (done : Done) → IsOnTheWay old mid count → length mid.front < count → StepsOnce mid new done → IsOnTheWay old new count
+pub goes_on : (old mid new : Replica) (count : ℕ) (done : Done) → IsOnTheWay old mid count → length mid.front < count → StepsOnce mid new done
+    → IsOnTheWay old new count
 goes_on old mid new count done way lt step =
-    let longer : begins_with new.front mid.front = subst (λ (f : List Event). begins_with f mid.front) (sym step.at.front) (begins_event mid.front step.event) in
+    let longer : begins_with new.front mid.front = subst (λ (f : List Event). begins_with f mid.front) (sym step.at.front)
+    (begins_event mid.front step.event) in
     let len : length new.front ≡ length mid.front + 1 = ap length step.at.front ∙ length-append mid.front (step.event ∷ []) in
     record {
       at = record { who = step.at.who ∙ way.at.who; dump = step.at.dump ∙ way.at.dump; seen = step.at.seen ∙ way.at.seen; front = refl };
@@ -93,15 +97,21 @@ goes_on old mid new count done way lt step =
     }
 
 -- a desk has seen a longer log, and its state has come to all of it but the last event
-pub comes : (old seeing mid new : Replica) (log : List Event) (last : ℕ) (done : Done) → IsAt old seeing log old.front → IsAt seeing mid seeing.seen (take last seeing.seen) → StepsOnce mid new done → last + 1 ≡ length log → (before : List Event) (event : Event) → log ≡ with_event before event → ComesTo old new before event done
+pub comes : (old seeing mid new : Replica) (log : List Event) (last : ℕ) (done : Done) → IsAt old seeing log old.front
+    → IsAt seeing mid seeing.seen (take last seeing.seen) → StepsOnce mid new done → last + 1 ≡ length log → (before : List Event) (event : Event)
+    → log ≡ with_event before event → ComesTo old new before event done
 comes old seeing mid new log last done sees at step len before event is =
     let count : last ≡ length before = omega (arith, len, ap length is, length-append before (event ∷ [])) in
     let seen : mid.seen ≡ with_event before event = at.seen ∙ (sees.seen ∙ is) in
-    let front : mid.front ≡ before = at.front ∙ (ap (take last) (sees.seen ∙ is) ∙ (ap (λ (k : ℕ). take k (with_event before event)) count ∙ take-append_seam before (event ∷ []))) in
-    let next : Some event ≡ Some step.event = sym (get-last before event) ∙ (ap (slice_get (with_event before event)) (sym (ap length front)) ∙ (ap (λ (s : List Event). slice_get s (length mid.front)) (sym seen) ∙ step.next)) in
+    let front : mid.front ≡ before = at.front
+    ∙ (ap (take last) (sees.seen ∙ is) ∙ (ap (λ (k : ℕ). take k (with_event before event)) count ∙ take-append_seam before (event ∷ []))) in
+    let next : Some event ≡ Some step.event = sym (get-last before event)
+    ∙ (ap (slice_get (with_event before event)) (sym (ap length front))
+    ∙ (ap (λ (s : List Event). slice_get s (length mid.front)) (sym seen) ∙ step.next)) in
     let same : step.event ≡ event = cc in
     let dump : mid.dump ≡ old.dump = at.dump ∙ sees.dump in
-    let last_is : with_event mid.front step.event ≡ with_event before event = ap (λ (f : List Event). with_event f step.event) front ∙ ap (with_event before) same in
+    let last_is : with_event mid.front step.event ≡ with_event before event = ap (λ (f : List Event). with_event f step.event) front
+    ∙ ap (with_event before) same in
     record {
       at = record { who = step.at.who ∙ (at.who ∙ sees.who); dump = step.at.dump ∙ dump; seen = step.at.seen ∙ seen; front = step.at.front ∙ last_is };
       done_is =
@@ -111,7 +121,8 @@ comes old seeing mid new log last done sees at step len before event is =
     }
 
 -- it hasn't come so far
-pub stays_behind : (old seeing new : Replica) (log : List Event) → IsAt old seeing log old.front → IsBehindAt seeing new seeing.seen seeing.front → IsBehindAt old new log old.front
+pub stays_behind : (old seeing new : Replica) (log : List Event) → IsAt old seeing log old.front → IsBehindAt seeing new seeing.seen seeing.front
+    → IsBehindAt old new log old.front
 stays_behind old seeing new log sees behind = record {
   who = behind.who ∙ sees.who;
   dump = behind.dump ∙ sees.dump;
@@ -122,7 +133,9 @@ stays_behind old seeing new log sees behind = record {
 }
 
 -- or only so far
-pub one_behind : (old seeing mid new : Replica) (log : List Event) (last : ℕ) → IsAt old seeing log old.front → begins_with log old.front → IsAt seeing mid seeing.seen (take last seeing.seen) → IsAt mid new mid.seen mid.front → length old.front < length log → last + 1 ≡ length log → IsBehindAt old new log old.front
+pub one_behind : (old seeing mid new : Replica) (log : List Event) (last : ℕ) → IsAt old seeing log old.front → begins_with log old.front
+    → IsAt seeing mid seeing.seen (take last seeing.seen) → IsAt mid new mid.seen mid.front → length old.front < length log → last + 1 ≡ length log
+    → IsBehindAt old new log old.front
 one_behind old seeing mid new log last sees begins at stays longer len =
     let front : new.front ≡ take last log = stays.front ∙ (at.front ∙ ap (take last) sees.seen) in
     let le : last ≤ length log = omega (arith, len) in
@@ -132,7 +145,8 @@ one_behind old seeing mid new log last sees begins at stays longer len =
       who = stays.who ∙ (at.who ∙ sees.who);
       dump = stays.dump ∙ (at.dump ∙ sees.dump);
       seen = stays.seen ∙ (at.seen ∙ sees.seen);
-      front = subst (λ (f : List Event). begins_with f old.front) (sym front) (begins_shorter log (take last log) old.front (begins_take log last) begins least);
+      front = subst (λ (f : List Event). begins_with f old.front) (sym front)
+          (begins_shorter log (take last log) old.front (begins_take log last) begins least);
       within = subst (begins_with log) (sym front) (begins_take log last);
       behind = subst (λ (f : List Event). length f < length log) (sym front) (omega (arith, count, len));
     }

@@ -14,11 +14,13 @@ module _ {F : Type 0} (g : Shared F (ℕ × (MutBor (List ℕ) × Unit {0})) (Un
   nothing-filled (x ∷ xs) none = absurd (omega arith)
 
   -- one more run, at the place where the bytes before it end
-  pub more-filled : (xs ys : List ℕ) (n : ℕ) → n ≡ length xs → FilledFrom g f start xs → ChangesAt g f (start + n) (replicate (length ys) 0) ys → FilledFrom g f start (xs ++ ys)
+  pub more-filled : (xs ys : List ℕ) (n : ℕ) → n ≡ length xs → FilledFrom g f start xs → ChangesAt g f (start + n) (replicate (length ys) 0) ys
+      → FilledFrom g f start (xs ++ ys)
   more-filled xs ys n long filled call = one_more xs ys filled (subst (λ k. ChangesAt g f (start + k) (replicate (length ys) 0) ys) long call)
 
   -- bytes directly after others
-  pub both-filled : (xs : List ℕ) (n : ℕ) → n ≡ length xs → FilledFrom g f start xs → (ys : List ℕ) → FilledFrom g f (start + n) ys → FilledFrom g f start (xs ++ ys)
+  pub both-filled : (xs : List ℕ) (n : ℕ) → n ≡ length xs → FilledFrom g f start xs → (ys : List ℕ) → FilledFrom g f (start + n) ys
+      → FilledFrom g f start (xs ++ ys)
   both-filled xs n long filled _ no_run = subst (FilledFrom g f start) (sym (append-nil xs)) filled
   both-filled xs n long filled _ (one_more ys zs before call) =
       let sum = length-append xs ys in

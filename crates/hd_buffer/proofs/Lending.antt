@@ -38,7 +38,8 @@ module _ {M : Type 1} {𝓤 : Ura M} (𝓛 : Logic 𝓤) (t : Ty → Ptr → Fml
   apart (suc c) =
       let Held = block_with_items t u8 (block_ptr b o) 0 (suc c) [] in
       let Right = t (ty_array byte (suc c)) (block_ptr b o) in
-      qed 𝓛 (‵ (whole (suc c)) ∷ []) ∵ rewrite ! 0 (λ y. ‵ (owns_if y Held)) (live c) refl $ fsplit ! $ move ! (1 ∷ []) $ fsplit ! $ move ! (2 ∷ 0 ∷ []) $ fjoin ! $
+      qed 𝓛 (‵ (whole (suc c)) ∷ []) ∵ rewrite ! 0 (λ y. ‵ (owns_if y Held)) (live c) refl $ fsplit ! $ move ! (1 ∷ []) $ fsplit ! $ move !
+      (2 ∷ 0 ∷ []) $ fjoin ! $
       move ! (1 ∷ []) $ rewrite ! 0 (λ y. ‵ (owns_if y Right)) (sym (live c)) refl $ move ! (1 ∷ 0 ∷ []) $ done !
 
   together : (c : ℕ) → ent 𝓤 (sep 𝓤 (sem 𝓛 (space_owns (block_ptr b o) c [])) (sem 𝓛 (right c))) (sem 𝓛 (whole c))
@@ -46,11 +47,13 @@ module _ {M : Type 1} {𝓤 : Ura M} (𝓛 : Logic 𝓤) (t : Ty → Ptr → Fml
   together (suc c) =
       let Held = block_with_items t u8 (block_ptr b o) 0 (suc c) [] in
       let Right = t (ty_array byte (suc c)) (block_ptr b o) in
-      qed 𝓛 (‵ (space_owns (block_ptr b o) (suc c) []) ∷ ‵ (right (suc c)) ∷ []) ∵ move ! (1 ∷ []) $ rewrite ! 0 (λ y. ‵ (owns_if y Right)) (live c) refl $ move ! (1 ∷ []) $ fsplit ! $
+      qed 𝓛 (‵ (space_owns (block_ptr b o) (suc c) []) ∷ ‵ (right (suc c)) ∷ []) ∵ move ! (1 ∷ []) $ rewrite ! 0 (λ y. ‵ (owns_if y Right))
+      (live c) refl $ move ! (1 ∷ []) $ fsplit ! $
       move ! (1 ∷ 2 ∷ []) $ fjoin ! $ move ! (1 ∷ 0 ∷ []) $ fjoin ! $ rewrite ! 0 (λ y. ‵ (owns_if y Held)) (sym (live c)) refl $ done !
 
 module _ (P : RattleType) (g : Ghosts P.Denot) {M : Type 1} {𝓤 : Ura M} (𝓛 : Logic 𝓤) (v : Vec ℕ P.Denot) (u : Val) where
-  pub carve : v.len ≡ 0 → ent 𝓤 (sem 𝓛 ((V.the_row u8 P g).own_val v (u ∷ []))) (sep 𝓤 (sem 𝓛 (space_owns v.ptr v.cap [])) (sem 𝓛 (Lender.the_own P g (record { ptr = v.ptr; capacity = v.cap }) (one u ∷ []))))
+  pub carve : v.len ≡ 0 → ent 𝓤 (sem 𝓛 ((V.the_row u8 P g).own_val v (u ∷ [])))
+      (sep 𝓤 (sem 𝓛 (space_owns v.ptr v.cap [])) (sem 𝓛 (Lender.the_own P g (record { ptr = v.ptr; capacity = v.cap }) (one u ∷ []))))
   carve empty =
       let t = g.dealloc_token v.alloc in
       let Held = space_owns v.ptr v.cap [] in

@@ -30,7 +30,18 @@ byte = ty_int w8
 
 -- a byte, where an element's type is asked for
 abbrev E : El
-E = record { row = u8; laws = byte_laws; al = record { row = u8; laws = byte_laws; g = record { dealloc_token = λ _ _ _. ftrue }; d = dict_at 0; drops = dict_at 0 } }
+E = record {
+  row = u8;
+  laws = byte_laws;
+  al = record {
+    row = u8;
+    laws = byte_laws;
+    g = record { dealloc_token = λ _ _ _. ftrue };
+    d = dict_at 0;
+    drops =
+        dict_at 0;
+  };
+}
 
 module _ {M : Type 1} {𝓤 : Ura M} (𝓛 : Logic 𝓤) where
   -- room for n bytes, from the o-th of a block on
@@ -52,8 +63,10 @@ module _ {M : Type 1} {𝓤 : Ura M} (𝓛 : Logic 𝓤) where
   glue xs ys b o =
       let at = o + length xs in
       qed 𝓛 (‵ (array xs b o) ∷ ‵ (array ys b at) ∷ []) ∵
-      use1 𝓛 (‵ (fsep (feq ℕ (length xs) (length xs)) (bytes full_share xs b o))) (bytes_apart 𝓛 full_share (length xs) xs b o) $ fsplit ! $ drop ! $ move ! (1 ∷ []) $
-      use1 𝓛 (‵ (fsep (feq ℕ (length ys) (length ys)) (bytes full_share ys b at))) (bytes_apart 𝓛 full_share (length ys) ys b at) $ fsplit ! $ drop ! $ move ! (1 ∷ 0 ∷ []) $
+      use1 𝓛 (‵ (fsep (feq ℕ (length xs) (length xs)) (bytes full_share xs b o))) (bytes_apart 𝓛 full_share (length xs) xs b o) $ fsplit ! $ drop ! $ move !
+      (1 ∷ []) $
+      use1 𝓛 (‵ (fsep (feq ℕ (length ys) (length ys)) (bytes full_share ys b at))) (bytes_apart 𝓛 full_share (length ys) ys b at) $ fsplit ! $ drop ! $ move !
+      (1 ∷ 0 ∷ []) $
       use2 𝓛 (‵ (bytes full_share (xs ++ ys) b o)) (bytes_glue 𝓛 full_share xs ys b o) $
       feq_i ! ℕ (length (xs ++ ys)) (length (xs ++ ys)) refl $ fjoin ! $ by ! (bytes_whole 𝓛 full_share (length (xs ++ ys)) (xs ++ ys) b o)
 
@@ -82,18 +95,23 @@ module _ {M : Type 1} {𝓤 : Ura M} (𝓛 : Logic 𝓤) where
       use1 𝓛 (‵ (room k b o) ⊛ ‵ (room (n - k) b (o + k * 1))) (room_split E 𝓛 k n b o le) $ split ! $
       rewrite ! 1 (λ i. ‵ (room (n - k) b i)) place refl $
       use1 𝓛 (‵ (space_owns (block_ptr b o) k [])) (closed k b o) $ rewrite ! 0 (λ r. ‵ (space_owns r k [])) (sym at) refl $ move ! (1 ∷ []) $
-      use1 𝓛 (‵ (space_owns (block_ptr b (o + k)) (n - k) [])) (closed (n - k) b (o + k)) $ rewrite ! 0 (λ r. ‵ (space_owns (r +ₚ k) (n - k) [])) (sym at) refl $ move ! (1 ∷ 0 ∷ []) $ done !)
+      use1 𝓛 (‵ (space_owns (block_ptr b (o + k)) (n - k) [])) (closed (n - k) b (o + k)) $ rewrite ! 0 (λ r. ‵ (space_owns (r +ₚ k) (n - k) []))
+      (sym at) refl $ move ! (1 ∷ 0 ∷ []) $ done !)
 
   -- bytes side by side, and the room after them
-  pub united : (p : Ptr) (n m : ℕ) (xs ys : List ℕ) → length xs ≡ n → ent 𝓤 (sep 𝓤 (sem 𝓛 (space_owns p n xs)) (sem 𝓛 (space_owns (p +ₚ n) m ys))) (sem 𝓛 (space_owns p (n + m) (xs ++ ys)))
+  pub united : (p : Ptr) (n m : ℕ) (xs ys : List ℕ) → length xs ≡ n → ent 𝓤 (sep 𝓤 (sem 𝓛 (space_owns p n xs)) (sem 𝓛 (space_owns (p +ₚ n) m ys)))
+      (sem 𝓛 (space_owns p (n + m) (xs ++ ys)))
   united p n m xs ys long =
-      qed 𝓛 (‵ (space_owns p n xs) ∷ ‵ (space_owns (p +ₚ n) m ys) ∷ []) ∵ fsplit ! $ in_a_block ! p (λ r. lies_at (Array u8 (length xs)) full_share r xs) (id⊢ 𝓤 (never 𝓤)) (λ b o at.
+      qed 𝓛 (‵ (space_owns p n xs) ∷ ‵ (space_owns (p +ₚ n) m ys) ∷ []) ∵ fsplit ! $ in_a_block ! p (λ r. lies_at (Array u8 (length xs)) full_share r xs)
+      (id⊢ 𝓤 (never 𝓤)) (λ b o at.
       let sum = length-append xs ys in
       let count : m - length ys ≡ n + m - length (xs ++ ys) = omega arith in
       let place : o + length xs + length ys ≡ o + length (xs ++ ys) = omega arith in
-      move ! (2 ∷ []) $ rewrite ! 0 (λ r. ‵ (space_owns (r +ₚ n) m ys)) at refl $ rewrite ! 0 (λ i. ‵ (space_owns (block_ptr b (o + i)) m ys)) (sym long) refl $ fsplit ! $
+      move ! (2 ∷ []) $ rewrite ! 0 (λ r. ‵ (space_owns (r +ₚ n) m ys)) at refl $ rewrite ! 0 (λ i. ‵ (space_owns (block_ptr b (o + i)) m ys))
+      (sym long) refl $ fsplit ! $
       keep ! (2 ∷ 0 ∷ 1 ∷ []) $ use2 𝓛 (‵ (array (xs ++ ys) b o)) (glue xs ys b o) $
-      rewrite ! 1 (λ i. ‵ (room i b (o + length xs + length ys))) count refl $ rewrite ! 1 (λ i. ‵ (room (n + m - length (xs ++ ys)) b i)) place refl $ fjoin ! $
+      rewrite ! 1 (λ i. ‵ (room i b (o + length xs + length ys))) count refl $ rewrite ! 1
+      (λ i. ‵ (room (n + m - length (xs ++ ys)) b i)) place refl $ fjoin ! $
       rewrite ! 0 (λ r. ‵ (space_owns r (n + m) (xs ++ ys))) (sym at) refl $ done !)
 
   -- the bytes are let go

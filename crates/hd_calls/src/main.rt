@@ -7,8 +7,9 @@
 ghost use Rattle.std.specs.Prelude.{◌≡◌};
 
 use hd_decode::NoGate;
-use hd_graph::{Graph, open_dump};
+use hd_graph::Graph;
 use hd_log::Front;
+use hd_opening::open_dump;
 use hd_settled::is_settled;
 use hd_spell::spell;
 use hd_state::{Mark, State};

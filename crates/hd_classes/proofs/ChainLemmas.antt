@@ -1,5 +1,6 @@
 -- Lemmas on the chains of classes: a class's is that of its super class, with the class before it.
-use Rattle.std.proofs.Common.{◌≡◌, ◌≢◌, ◌∙◌, ◌⊎◌, inl, inr, ℕ, zero, suc, List, [], ◌∷◌, ◌++◌, length, Option, Some, None, Bool, true, false, cond, eqb, refl, sym, ap, subst, arith, ne_eqb}
+use Rattle.std.proofs.Common.{◌≡◌, ◌≢◌, ◌∙◌, ◌⊎◌, inl, inr, ℕ, zero, suc, List, [], ◌∷◌, ◌++◌, length, Option, Some, None, Bool, true, false, cond, eqb, refl}
+use Rattle.std.proofs.Common.{sym, ap, subst, arith, ne_eqb}
 use Rattle.std.specs.List.{find}
 use Rattle.std.specs.Option.{is_some}
 use Rattle.std.proofs.lemmas.Bool.Decides.{eqb_tells}
@@ -38,21 +39,25 @@ module _ (classes : List ClassItem) where
   found-id id [] c is = cc
   found-id id (d ∷ cs) c is = by (eqb id d.id) (eqb_tells id d.id) (found-id id cs c) is
     where
-      by : (b : Bool) → ((b ≡ true) × (id ≡ d.id)) ⊎ ((b ≡ false) × (id ≢ d.id)) → (find (λ (x : ClassItem). eqb id x.id) cs ≡ Some c → id ≡ c.id) → cond b (Some d) (find (λ (x : ClassItem). eqb id x.id) cs) ≡ Some c → id ≡ c.id
+      by : (b : Bool) → ((b ≡ true) × (id ≡ d.id)) ⊎ ((b ≡ false) × (id ≢ d.id)) → (find (λ (x : ClassItem). eqb id x.id) cs ≡ Some c → id ≡ c.id)
+          → cond b (Some d) (find (λ (x : ClassItem). eqb id x.id) cs) ≡ Some c → id ≡ c.id
       by true (inl (e, same)) rest h = same ∙ ap (λ (x : ClassItem). x.id) (one-class (Some d) d c refl h)
       by true (inr (e, other)) rest h = absurd (true-false true refl e)
       by false t rest h = rest h
 
   pub class-id : (id : ℕ) (c : ClassItem) → class_at classes id ≡ Some c → c.id ≡ id
-  class-id id c at = sym (found-id id classes c (sym (ap (λ (b : Bool). cond b None (find (λ (d : ClassItem). eqb id d.id) classes)) (ne_eqb id 0 (class-some id c at))) ∙ at))
+  class-id id c at = sym (found-id id classes c
+      (sym (ap (λ (b : Bool). cond b None (find (λ (d : ClassItem). eqb id d.id) classes)) (ne_eqb id 0 (class-some id c at))) ∙ at))
 
   -- one class more at the end of a path
-  pub lead-push : (up : List ClassItem) (id end : ℕ) (c : ClassItem) → LeadUp classes id up end → class_at classes end ≡ Some c → LeadUp classes id (up ++ c ∷ []) c.super
+  pub lead-push : (up : List ClassItem) (id end : ℕ) (c : ClassItem) → LeadUp classes id up end → class_at classes end ≡ Some c
+      → LeadUp classes id (up ++ c ∷ []) c.super
   lead-push [] id end c h at = (ap (class_at classes) h ∙ at, refl)
   lead-push (u ∷ up) id end c h at = (h.0, lead-push up u.super end c h.1 at)
 
   -- and without the one at its end
-  pub lead-last : (up : List ClassItem) (id end : ℕ) (c : ClassItem) → LeadUp classes id (up ++ c ∷ []) end → (mid : ℕ) × LeadUp classes id up mid × (class_at classes mid ≡ Some c) × (c.super ≡ end)
+  pub lead-last : (up : List ClassItem) (id end : ℕ) (c : ClassItem) → LeadUp classes id (up ++ c ∷ []) end → (mid : ℕ) × LeadUp classes id up mid
+      × (class_at classes mid ≡ Some c) × (c.super ≡ end)
   lead-last [] id end c h = (id, refl, h.0, h.1)
   lead-last (u ∷ up) id end c h = let rest = lead-last up u.super end c h.1 in (rest.0, (h.0, rest.1), rest.2, rest.3)
 
@@ -64,18 +69,21 @@ module _ (classes : List ClassItem) where
       ∙ ap (λ (t : ChainPrefix). let v : ChainPrefix = record { classes = u ∷ t.classes; end = t.end } in v) (lead-prefix up u.super end h.1)
 
   -- so a path with as many classes as there are, which goes on, never ends
-  pub path-cycle : (up : List ClassItem) (id end : ℕ) (c : ClassItem) → LeadUp classes id up end → length up ≡ length classes → class_at classes end ≡ Some c → never_ends classes id ≡ true
+  pub path-cycle : (up : List ClassItem) (id end : ℕ) (c : ClassItem) → LeadUp classes id up end → length up ≡ length classes → class_at classes end ≡ Some c
+      → never_ends classes id ≡ true
   path-cycle up id end c h long at =
       ap (λ (n : ℕ). is_some (class_at classes (chain_prefix n classes id).end)) (sym long)
       ∙ ap (λ (t : ChainPrefix). is_some (class_at classes t.end)) (lead-prefix up id end h)
       ∙ ap is_some at
 
   -- the chain of a class whose super class has one, or that has no super class
-  pub whole-up : Found → (id : ℕ) (c : ClassItem) (chain : List ClassItem) → class_at classes id ≡ Some c → LeadUp classes c.super chain 0 → chain_of classes id ≡ Some (c ∷ chain)
+  pub whole-up : Found → (id : ℕ) (c : ClassItem) (chain : List ClassItem) → class_at classes id ≡ Some c → LeadUp classes c.super chain 0
+      → chain_of classes id ≡ Some (c ∷ chain)
   whole-up found id c chain at lead = found classes id (c ∷ chain) (record { some = class-some id c at; whole = (at, lead) })
 
   -- a class whose super class has no chain has none
-  pub broken-up : Found → IsFound → (id : ℕ) (c : ClassItem) → class_at classes id ≡ Some c → c.super ≢ 0 → chain_of classes c.super ≡ None → chain_of classes id ≡ None
+  pub broken-up : Found → IsFound → (id : ℕ) (c : ClassItem) → class_at classes id ≡ Some c → c.super ≢ 0 → chain_of classes c.super ≡ None
+      → chain_of classes id ≡ None
   broken-up found is_found id c at some none = by (chain_of classes id) refl
     where
       on : (chain : List ClassItem) → LeadUp classes id chain 0 → ⊥
@@ -93,7 +101,8 @@ module _ (classes : List ClassItem) where
   pub ends-up : Told → IsTold → (id : ℕ) (c : ClassItem) → class_at classes id ≡ Some c → never_ends classes c.super ≡ false → never_ends classes id ≡ false
   ends-up told is_told id c at ends = by (never_ends classes id) refl
     where
-      rest : (n : ℕ) (up : List ClassItem) (end : ℕ) → length up ≡ suc n → LeadUp classes id up end → (vp : List ClassItem) × (to : ℕ) × (length vp ≡ n) × LeadUp classes c.super vp to
+      rest : (n : ℕ) (up : List ClassItem) (end : ℕ) → length up ≡ suc n → LeadUp classes id up end → (vp : List ClassItem) × (to : ℕ) × (length vp ≡ n)
+          × LeadUp classes c.super vp to
       rest n [] end long lead = absurd (omega (arith, long))
       rest n (d ∷ up) end long lead =
           let same : d ≡ c = one-class (class_at classes id) d c lead.0 at in
@@ -103,7 +112,8 @@ module _ (classes : List ClassItem) where
       by false e = refl
       by true e =
           let never = is_told classes id e in
-          absurd (true-false (never_ends classes c.super) (told classes c.super (λ (n : ℕ). let longer = never (suc n) in rest n longer.0 longer.1 longer.2 longer.3)) ends)
+          absurd (true-false (never_ends classes c.super)
+          (told classes c.super (λ (n : ℕ). let longer = never (suc n) in rest n longer.0 longer.1 longer.2 longer.3)) ends)
 
   -- a chain that is whole ends
   pub whole-ends : (id : ℕ) (chain : List ClassItem) → chain_of classes id ≡ Some chain → never_ends classes id ≡ false
@@ -114,7 +124,8 @@ module _ (classes : List ClassItem) where
       none-here false true cs e = absurd (true-false true refl e)
       none-here false false cs e = refl
 
-      by : ((eqb (longest_prefix classes id).end 0 ≡ true) × ((longest_prefix classes id).end ≡ 0)) ⊎ ((eqb (longest_prefix classes id).end 0 ≡ false) × ((longest_prefix classes id).end ≢ 0)) → never_ends classes id ≡ false
+      by : ((eqb (longest_prefix classes id).end 0 ≡ true) × ((longest_prefix classes id).end ≡ 0))
+          ⊎ ((eqb (longest_prefix classes id).end 0 ≡ false) × ((longest_prefix classes id).end ≢ 0)) → never_ends classes id ≡ false
       by (inl (e, null)) = ap (λ (n : ℕ). is_some (class_at classes n)) null
       by (inr (e, other)) =
           absurd (some-none (chain_of classes id) chain is (none-here (eqb id 0) (eqb (longest_prefix classes id).end 0) (longest_prefix classes id).classes e))
@@ -133,7 +144,8 @@ module _ (classes : List ClassItem) where
       by : (b : Bool) → eqb id 0 ≡ b → cond b None (cond (eqb (longest_prefix classes id).end 0) (Some (longest_prefix classes id).classes) None) ≡ None
       by true e = refl
       by false e =
-          ap (λ (n : ℕ). let o : Option (List ClassItem) = cond (eqb n 0) (Some (longest_prefix classes id).classes) None in o) (chain_prefix-none (length classes) id none)
+          ap (λ (n : ℕ). let o : Option (List ClassItem) = cond (eqb n 0) (Some (longest_prefix classes id).classes) None in o)
+          (chain_prefix-none (length classes) id none)
           ∙ ap (λ (b : Bool). let o : Option (List ClassItem) = cond b (Some (longest_prefix classes id).classes) None in o) e
 
   pub null-ends : (id : ℕ) → id ≡ 0 → never_ends classes id ≡ false

@@ -10,7 +10,8 @@ use Rattle.hd_classes.specs.declared.known.LayoutField.{LayoutField}
 use Rattle.hd_classes.specs.Fields.{field_view}
 
 -- the bytes of one field before others
-pub layout_len-cons : (size : IdSize) (f : classes_of.LayoutField) (fs : List classes_of.LayoutField) → layout_len size (f ∷ fs) ≡ value_len size f.code + layout_len size fs
+pub layout_len-cons : (size : IdSize) (f : classes_of.LayoutField) (fs : List classes_of.LayoutField)
+    → layout_len size (f ∷ fs) ≡ value_len size f.code + layout_len size fs
 layout_len-cons size f fs = sum_by-cons (λ (x : classes_of.LayoutField). value_len size x.code) f fs
 
 -- the first fields, as the definitions say them
@@ -18,7 +19,8 @@ abbrev pub first_fields : List LayoutField → ℕ → List classes_of.LayoutFie
 first_fields xs i = map field_view (take i xs)
 
 -- one more field
-pub one-more : (xs : List LayoutField) (i : ℕ) (d : LayoutField) → i < length xs → first_fields xs (i + 1) ≡ first_fields xs i ++ field_view (get_or xs i d) ∷ []
+pub one-more : (xs : List LayoutField) (i : ℕ) (d : LayoutField) → i < length xs → first_fields xs (i + 1) ≡ first_fields xs i
+    ++ field_view (get_or xs i d) ∷ []
 one-more xs i d lt = ap (map field_view) (take_more xs i d lt) ∙ map-append field_view (take i xs) (get_or xs i d ∷ [])
 
 -- all of them
@@ -36,7 +38,8 @@ pub len-one : (size : IdSize) (f : classes_of.LayoutField) → layout_len size (
 len-one size f = layout_len-cons size f [] ∙ add-zero (value_len size f.code)
 
 -- one more field's
-pub bytes-more : (size : IdSize) (xs : List LayoutField) (i : ℕ) (d : LayoutField) → i < length xs → layout_len size (first_fields xs (i + 1)) ≡ layout_len size (first_fields xs i) + value_len size (get_or xs i d).code
+pub bytes-more : (size : IdSize) (xs : List LayoutField) (i : ℕ) (d : LayoutField) → i < length xs → layout_len size (first_fields xs (i + 1)) ≡ layout_len size
+    (first_fields xs i) + value_len size (get_or xs i d).code
 bytes-more size xs i d lt =
     ap (layout_len size) (one-more xs i d lt)
     ∙ len-append size (first_fields xs i) (field_view (get_or xs i d) ∷ [])

@@ -1,5 +1,6 @@
 -- Lemmas on the classes that stand.
-use Rattle.std.proofs.Common.{◌≡◌, ◌∙◌, ℕ, suc, List, [], ◌∷◌, ◌++◌, length, map, take, drop, Option, Some, None, Bool, true, false, ◌||◌, cond, not, eqb, eqb-true, ne_eqb, refl, sym, ap}
+use Rattle.std.proofs.Common.{◌≡◌, ◌∙◌, ℕ, suc, List, [], ◌∷◌, ◌++◌, length, map, take, drop, Option, Some, None, Bool, true, false, ◌||◌, cond, not, eqb}
+use Rattle.std.proofs.Common.{eqb-true, ne_eqb, refl, sym, ap}
 use Rattle.std.specs.List.{list_any, filter_map, cons_option, find}
 use Rattle.std.specs.Option.{option_map, option_map_or}
 use Rattle.std.specs.Map.{lookup}
@@ -70,7 +71,8 @@ module _ (id : ℕ) where
   case-found true x o p e = refl
   case-found false x o p e = e
 
-  found-place : (xs : List PlacedClass) → option_map (λ (x : PlacedClass). x.class) (lookup (λ (k : ℕ). eqb id k) (map entry_of xs)) ≡ find (λ (c : ClassItem). eqb id c.id) (map (λ (x : PlacedClass). x.class) xs)
+  found-place : (xs : List PlacedClass) → option_map (λ (x : PlacedClass). x.class) (lookup (λ (k : ℕ). eqb id k) (map entry_of xs)) ≡ find
+      (λ (c : ClassItem). eqb id c.id) (map (λ (x : PlacedClass). x.class) xs)
   found-place [] = refl
   found-place (x ∷ xs) = case-found (eqb id x.class.id) x _ _ (found-place xs)
 
@@ -80,10 +82,12 @@ module _ (id : ℕ) where
 
   -- the class that is kept by an ID is the definition's
   pub class-found : (list : List Sub) (entries : List (ℕ × declared_first.FirstClass)) → HasFirstClasses list entries
-      → option_map (λ (s : declared_first.FirstClass). (first_class_view s).class) (lookup (λ (k : ℕ). eqb id k) entries) ≡ find (λ (c : ClassItem). eqb id c.id) (first_classes list)
+      → option_map (λ (s : declared_first.FirstClass). (first_class_view s).class) (lookup (λ (k : ℕ). eqb id k) entries) ≡ find
+      (λ (c : ClassItem). eqb id c.id) (first_classes list)
   class-found list entries kept =
       sym (case-map first_class_view (λ (x : PlacedClass). x.class) (lookup (λ (k : ℕ). eqb id k) entries))
-      ∙ ap (option_map (λ (x : PlacedClass). x.class)) (sym (lookup-map_values first_class_view (λ (k : ℕ). eqb id k) entries) ∙ ap (lookup (λ (k : ℕ). eqb id k)) kept)
+      ∙ ap (option_map (λ (x : PlacedClass). x.class)) (sym (lookup-map_values first_class_view (λ (k : ℕ). eqb id k) entries)
+      ∙ ap (lookup (λ (k : ℕ). eqb id k)) kept)
       ∙ found-place (placed_classes list)
       ∙ ap (find (λ (c : ClassItem). eqb id c.id)) (sym (first_classes-places list))
 
@@ -118,24 +122,28 @@ module _ (id : ℕ) where
   abbrev kept_by : List PlacedClass → Option PlacedClass
   kept_by xs = lookup (λ (k : ℕ). eqb id k) (map entry_of xs)
 
-  case-absent : (p : Entry) (o : Option ClassItem) → class_of_item p.1.item ≡ o → id_of_item p.1.item ≡ Some p.0 → eqb id p.0 ≡ false → (rest : List PlacedClass) → kept_by rest ≡ None
+  case-absent : (p : Entry) (o : Option ClassItem) → class_of_item p.1.item ≡ o → id_of_item p.1.item ≡ Some p.0 → eqb id p.0 ≡ false
+      → (rest : List PlacedClass) → kept_by rest ≡ None
       → kept_by (cons_option (option_map (λ (c : ClassItem). record { class = c; offset = p.1.offset }) o) rest) ≡ None
   case-absent p None is tied other rest h = h
   case-absent p (Some c) is tied other rest h =
-      ap (λ (b : Bool). cond b (Some (record { class = c; offset = p.1.offset })) (kept_by rest)) (ap (λ (n : ℕ). eqb id n) (class-id p.1.item c p.0 is tied) ∙ other) ∙ h
+      ap (λ (b : Bool). cond b (Some (record { class = c; offset = p.1.offset })) (kept_by rest)) (ap (λ (n : ℕ). eqb id n) (class-id p.1.item c p.0 is tied)
+      ∙ other) ∙ h
 
   case-known : (p : Entry) (b : Bool) (rest : List Entry) → id_of_item p.1.item ≡ Some p.0 → eqb id p.0 ≡ false → kept_by (filter_map place_of rest) ≡ None
       → kept_by (filter_map place_of (cond b rest (p ∷ rest))) ≡ None
   case-known p true rest tied other h = h
   case-known p false rest tied other h = case-absent p (class_of_item p.1.item) refl tied other (filter_map place_of rest) h
 
-  absent-from : (before ps : List Entry) → AreTied ps → list_any (λ (p : Entry). eqb id p.0) ps ≡ false → kept_by (filter_map place_of (firsts_from id_of before ps)) ≡ None
+  absent-from : (before ps : List Entry) → AreTied ps → list_any (λ (p : Entry). eqb id p.0) ps ≡ false
+      → kept_by (filter_map place_of (firsts_from id_of before ps)) ≡ None
   absent-from before [] tied none = refl
   absent-from before (p ∷ ps) tied none =
       let parts = or_parts (eqb id p.0) (list_any (λ (q : Entry). eqb id q.0) ps) none in
       case-known p (is_known id_of before p) (firsts_from id_of (before ++ p ∷ []) ps) tied.0 parts.0 (absent-from (before ++ p ∷ []) ps tied.1 parts.1)
 
-  pub absent : (list : List Sub) (entries : List (ℕ × declared_first.FirstClass)) → HasFirstClasses list entries → list_any (λ (p : Entry). eqb id p.0) (objects list) ≡ false
+  pub absent : (list : List Sub) (entries : List (ℕ × declared_first.FirstClass)) → HasFirstClasses list entries
+      → list_any (λ (p : Entry). eqb id p.0) (objects list) ≡ false
       → lookup (λ (k : ℕ). eqb id k) entries ≡ None
   absent list entries kept none =
       none-from_map first_class_view (lookup (λ (k : ℕ). eqb id k) entries)
@@ -150,8 +158,10 @@ module _ (id : ℕ) (ids : List ℕ) where
   case-or false true h = h refl
   case-or false false h = refl
 
-  pub known-noted : (q : ℕ) (b : Bool) → list_any (λ (k : ℕ). eqb id k) ids ≡ b → list_any (λ (k : ℕ). eqb q k) (cond b ids (ids ++ id ∷ [])) ≡ (list_any (λ (k : ℕ). eqb q k) ids || (eqb q id || false))
-  known-noted q true e = case-or (list_any (λ (k : ℕ). eqb q k) ids) (eqb q id) (λ (same_id : eqb q id ≡ true). ap (λ (n : ℕ). list_any (λ (k : ℕ). eqb n k) ids) (eqb-true q id same_id) ∙ e)
+  pub known-noted : (q : ℕ) (b : Bool) → list_any (λ (k : ℕ). eqb id k) ids ≡ b → list_any (λ (k : ℕ). eqb q k) (cond b ids (ids ++ id ∷ [])) ≡
+      (list_any (λ (k : ℕ). eqb q k) ids || (eqb q id || false))
+  known-noted q true e = case-or (list_any (λ (k : ℕ). eqb q k) ids) (eqb q id)
+      (λ (same_id : eqb q id ≡ true). ap (λ (n : ℕ). list_any (λ (k : ℕ). eqb n k) ids) (eqb-true q id same_id) ∙ e)
   known-noted q false e = list_any-append (λ (k : ℕ). eqb q k) ids (id ∷ [])
 
 abbrev Standings : Type 0
@@ -159,7 +169,8 @@ Standings = List (ℕ × declared_first.FirstClass)
 
 -- an entry of a new key stands last
 case-inserts : {X : Type 0} (k : ℕ) (x : X) (e : ℕ × X) (es : List (ℕ × X)) (b : Bool) → cond b (Some e.1) (lookup (λ (y : ℕ). eqb k y) es) ≡ None
-    → (lookup (λ (y : ℕ). eqb k y) es ≡ None → insert_entry eqb es k x ≡ es ++ (k, x) ∷ []) → cond b ((e.0, x) ∷ es) (e ∷ insert_entry eqb es k x) ≡ e ∷ (es ++ (k, x) ∷ [])
+    → (lookup (λ (y : ℕ). eqb k y) es ≡ None → insert_entry eqb es k x ≡ es ++ (k, x) ∷ [])
+    → cond b ((e.0, x) ∷ es) (e ∷ insert_entry eqb es k x) ≡ e ∷ (es ++ (k, x) ∷ [])
 case-inserts k x e es true none more = absurd (none-some e.1 (sym none))
 case-inserts {X} k x e es false none more = ap (λ (ys : List (ℕ × X)). e ∷ ys) (more none)
 
@@ -176,15 +187,18 @@ is-new false r e t = refl
 is-new true r e t = absurd (false≢true (sym e ∙ t))
 
 -- one sub-record more: of no object
-pub plain-push : (front : List Sub) (s : Sub) (ids : List ℕ) (entries : Standings) → object_sub s ≡ None → AreFirstClasses front ids entries → AreFirstClasses (front ++ s ∷ []) ids entries
+pub plain-push : (front : List Sub) (s : Sub) (ids : List ℕ) (entries : Standings) → object_sub s ≡ None → AreFirstClasses front ids entries
+    → AreFirstClasses (front ++ s ∷ []) ids entries
 plain-push front s ids entries none h =
-    let same : objects (front ++ s ∷ []) ≡ objects front = filter_map-append object_sub front (s ∷ []) ∙ ap (λ (o : Option Entry). objects front ++ cons_option o []) none ∙ append-nil (objects front) in
+    let same : objects (front ++ s ∷ []) ≡ objects front = filter_map-append object_sub front (s ∷ [])
+    ∙ ap (λ (o : Option Entry). objects front ++ cons_option o []) none ∙ append-nil (objects front) in
     record {
       noted = λ (q : ℕ). h.noted q ∙ ap (list_any (λ (p : Entry). eqb q p.0)) (sym same);
       kept = h.kept ∙ ap (λ (ps : List Entry). map entry_of (filter_map place_of (first_of_each id_of ps))) (sym same);
     }
 
-module _ (front : List Sub) (s : Sub) (id : ℕ) (ids : List ℕ) (entries : Standings) (is : object_sub s ≡ Some (id, s)) (h : AreFirstClasses front ids entries) where
+module _ (front : List Sub) (s : Sub) (id : ℕ) (ids : List ℕ) (entries : Standings) (is : object_sub s ≡ Some (id, s))
+    (h : AreFirstClasses front ids entries) where
   more : objects (front ++ s ∷ []) ≡ objects front ++ (id, s) ∷ []
   more = filter_map-append object_sub front (s ∷ []) ∙ ap (λ (o : Option Entry). objects front ++ cons_option o []) is
 
@@ -197,7 +211,8 @@ module _ (front : List Sub) (s : Sub) (id : ℕ) (ids : List ℕ) (entries : Sta
       ∙ sym (list_any-append (λ (p : Entry). eqb q p.0) (objects front) ((id, s) ∷ []))
       ∙ ap (list_any (λ (p : Entry). eqb q p.0)) (sym more)
 
-  places-push : (known : Bool) → list_any (λ (k : ℕ). eqb id k) ids ≡ known → placed_classes (front ++ s ∷ []) ≡ placed_classes front ++ filter_map place_of (if_new id_of known (id, s))
+  places-push : (known : Bool) → list_any (λ (k : ℕ). eqb id k) ids ≡ known → placed_classes (front ++ s ∷ []) ≡ placed_classes front
+      ++ filter_map place_of (if_new id_of known (id, s))
   places-push known e =
       ap (λ (ps : List Entry). filter_map place_of (first_of_each id_of ps)) more
       ∙ ap (filter_map place_of) (first_of_each-append id_of (objects front) ((id, s) ∷ []))
@@ -209,17 +224,20 @@ module _ (front : List Sub) (s : Sub) (id : ℕ) (ids : List ℕ) (entries : Sta
   case-other true none = refl
   case-other false none = ap (λ (o : Option PlacedClass). cons_option o []) none
 
-  kept-same : (added : List PlacedClass) → placed_classes (front ++ s ∷ []) ≡ placed_classes front ++ added → added ≡ [] → HasFirstClasses (front ++ s ∷ []) entries
+  kept-same : (added : List PlacedClass) → placed_classes (front ++ s ∷ []) ≡ placed_classes front ++ added → added ≡ []
+      → HasFirstClasses (front ++ s ∷ []) entries
   kept-same added e none =
       h.kept ∙ ap (map entry_of) (sym (e ∙ ap (λ (xs : List PlacedClass). placed_classes front ++ xs) none ∙ append-nil (placed_classes front)))
 
-  pub other-push : (ids' : List ℕ) → ids' ≡ cond (list_any (λ (k : ℕ). eqb id k) ids) ids (ids ++ id ∷ []) → placed_class s ≡ None → AreFirstClasses (front ++ s ∷ []) ids' entries
+  pub other-push : (ids' : List ℕ) → ids' ≡ cond (list_any (λ (k : ℕ). eqb id k) ids) ids (ids ++ id ∷ []) → placed_class s ≡ None
+      → AreFirstClasses (front ++ s ∷ []) ids' entries
   other-push ids' e none = record {
     noted = noted-push ids' e;
     kept = kept-same _ (places-push (list_any (λ (k : ℕ). eqb id k) ids) refl) (case-other (list_any (λ (k : ℕ). eqb id k) ids) none);
   }
 
-  pub known-push : (ids' : List ℕ) → ids' ≡ cond (list_any (λ (k : ℕ). eqb id k) ids) ids (ids ++ id ∷ []) → list_any (λ (k : ℕ). eqb id k) ids ≡ true → AreFirstClasses (front ++ s ∷ []) ids' entries
+  pub known-push : (ids' : List ℕ) → ids' ≡ cond (list_any (λ (k : ℕ). eqb id k) ids) ids (ids ++ id ∷ []) → list_any (λ (k : ℕ). eqb id k) ids ≡ true
+      → AreFirstClasses (front ++ s ∷ []) ids' entries
   known-push ids' e known = record { noted = noted-push ids' e; kept = kept-same _ (places-push true known) refl }
 
   -- the ID of a new object is none of those that are kept
@@ -228,7 +246,8 @@ module _ (front : List Sub) (s : Sub) (id : ℕ) (ids : List ℕ) (entries : Sta
 
   -- of a class with a new ID
   pub class-push : (ids' : List ℕ) → ids' ≡ cond (list_any (λ (k : ℕ). eqb id k) ids) ids (ids ++ id ∷ []) → list_any (λ (k : ℕ). eqb id k) ids ≡ false
-      → (x : declared_first.FirstClass) → placed_class s ≡ Some (first_class_view x) → (first_class_view x).class.id ≡ id → (entries' : Standings) → entries' ≡ insert_entry eqb entries id x
+      → (x : declared_first.FirstClass) → placed_class s ≡ Some (first_class_view x) → (first_class_view x).class.id ≡ id → (entries' : Standings)
+      → entries' ≡ insert_entry eqb entries id x
       → AreFirstClasses (front ++ s ∷ []) ids' entries'
   class-push ids' e new x place same_id entries' grown = record {
     noted = noted-push ids' e;
@@ -254,7 +273,8 @@ module _ (s : Sub) (list : List Sub) (none : placed_class s ≡ None) where
   case-behind : (o : Option ℕ) → ((before : List Entry) → filter_map place_of (firsts_from id_of before (objects list)) ≡ []) → (before : List Entry)
       → filter_map place_of (firsts_from id_of before (cons_option (option_map (λ (id : ℕ). (id, s)) o) (objects list))) ≡ []
   case-behind None more before = more before
-  case-behind (Some id) more before = case-nil (is_known id_of before (id, s)) (id, s) (firsts_from id_of (before ++ (id, s) ∷ []) (objects list)) none (more (before ++ (id, s) ∷ []))
+  case-behind (Some id) more before = case-nil (is_known id_of before (id, s)) (id, s) (firsts_from id_of (before ++ (id, s) ∷ []) (objects list)) none
+      (more (before ++ (id, s) ∷ []))
 
 none-behind : (list : List Sub) → filter_map placed_class list ≡ [] → (before : List Entry) → filter_map place_of (firsts_from id_of before (objects list)) ≡ []
 none-behind [] e before = refl
@@ -279,7 +299,8 @@ pub none-placed : (list : List Sub) → filter_map class_of_sub list ≡ [] → 
 none-placed [] none = refl
 none-placed (s ∷ list) none =
     let parts = case-nothing (class_of_sub s) (filter_map class_of_sub list) none in
-    ap (λ (o : Option ClassItem). cons_option (option_map (λ (c : ClassItem). record { class = c; offset = s.offset }) o) (filter_map placed_class list)) parts.0
+    ap (λ (o : Option ClassItem). cons_option (option_map (λ (c : ClassItem). record { class = c; offset = s.offset }) o) (filter_map placed_class list))
+    parts.0
     ∙ none-placed list parts.1
 
 -- they are as many as the definition's
@@ -289,11 +310,13 @@ length-map f (x ∷ xs) = ap suc (length-map f xs)
 
 pub length-places : (list : List Sub) (entries : Standings) → HasFirstClasses list entries → length entries ≡ length (placed_classes list)
 length-places list entries kept =
-    sym (length-map (λ (y : ℕ × declared_first.FirstClass). (y.0, first_class_view y.1)) entries) ∙ ap (λ (ys : List (ℕ × PlacedClass)). length ys) kept ∙ length-map entry_of (placed_classes list)
+    sym (length-map (λ (y : ℕ × declared_first.FirstClass). (y.0, first_class_view y.1)) entries) ∙ ap (λ (ys : List (ℕ × PlacedClass)). length ys) kept
+    ∙ length-map entry_of (placed_classes list)
 
 pub length-standing : (list : List Sub) (entries : Standings) → HasFirstClasses list entries → length entries ≡ length (first_classes list)
 length-standing list entries kept =
-    length-places list entries kept ∙ sym (ap (λ (cs : List ClassItem). length cs) (first_classes-places list) ∙ length-map (λ (x : PlacedClass). x.class) (placed_classes list))
+    length-places list entries kept
+    ∙ sym (ap (λ (cs : List ClassItem). length cs) (first_classes-places list) ∙ length-map (λ (x : PlacedClass). x.class) (placed_classes list))
 
 pub class_at-some : (classes : List ClassItem) (id : ℕ) → (id ≡ 0 → ⊥) → class_at classes id ≡ find (λ (c : ClassItem). eqb id c.id) classes
 class_at-some classes id some = ap (λ (b : Bool). cond b None (find (λ (c : ClassItem). eqb id c.id) classes)) (ne_eqb id 0 some)

@@ -1,5 +1,6 @@
 -- Lemmas on the first of each key.
-use Rattle.std.proofs.Common.{◌≡◌, ◌∙◌, ℕ, suc, ◌+◌, ◌≤◌, List, [], ◌∷◌, ◌++◌, length, map, Option, Some, None, Bool, true, false, ◌||◌, cond, eqb, refl, sym, ap, arith, append_assoc, length-append}
+use Rattle.std.proofs.Common.{◌≡◌, ◌∙◌, ℕ, suc, ◌+◌, ◌≤◌, List, [], ◌∷◌, ◌++◌, length, map, Option, Some, None, Bool, true, false, ◌||◌, cond, eqb, refl, sym}
+use Rattle.std.proofs.Common.{ap, arith, append_assoc, length-append}
 use Rattle.std.specs.List.{list_any, filter_map, cons_option, enumerate_from}
 use Rattle.std.proofs.lemmas.List.{append-nil, map-append}
 use Rattle.std.proofs.Math.Seq.{take-append_seam}
@@ -24,11 +25,14 @@ module _ {X : Type 0} (key : X → ℕ) where
   case-nil false x = refl
 
   -- one more at the end
-  pub firsts_from-push : (before xs : List X) (x : X) → firsts_from key before (xs ++ x ∷ []) ≡ firsts_from key before xs ++ if_new (is_known (before ++ xs) x) x
+  pub firsts_from-push : (before xs : List X) (x : X) → firsts_from key before (xs ++ x ∷ []) ≡ firsts_from key before xs
+      ++ if_new (is_known (before ++ xs) x) x
   firsts_from-push before [] x = case-nil (is_known before x) x ∙ ap (λ (b : List X). [] ++ if_new (is_known b x) x) (sym (append-nil before))
   firsts_from-push before (a ∷ xs) x =
-      case-push (is_known before a) a (firsts_from key (before ++ a ∷ []) (xs ++ x ∷ [])) (firsts_from key (before ++ a ∷ []) xs) (if_new (is_known (before ++ a ∷ xs) x) x)
-      (firsts_from-push (before ++ a ∷ []) xs x ∙ ap (λ (b : List X). firsts_from key (before ++ a ∷ []) xs ++ if_new (is_known b x) x) (append_assoc before (a ∷ []) xs))
+      case-push (is_known before a) a (firsts_from key (before ++ a ∷ []) (xs ++ x ∷ [])) (firsts_from key (before ++ a ∷ []) xs)
+      (if_new (is_known (before ++ a ∷ xs) x) x)
+      (firsts_from-push (before ++ a ∷ []) xs x ∙ ap (λ (b : List X). firsts_from key (before ++ a ∷ []) xs ++ if_new (is_known b x) x)
+      (append_assoc before (a ∷ []) xs))
 
   pub firsts-push : (xs : List X) (x : X) → firsts key (xs ++ x ∷ []) ≡ firsts key xs ++ if_new (is_known xs x) x
   firsts-push xs x = firsts_from-push [] xs x
@@ -37,8 +41,10 @@ module _ {X : Type 0} (key : X → ℕ) where
   pub firsts_from-append : (before xs ys : List X) → firsts_from key before (xs ++ ys) ≡ firsts_from key before xs ++ firsts_from key (before ++ xs) ys
   firsts_from-append before [] ys = ap (λ (b : List X). firsts_from key b ys) (sym (append-nil before))
   firsts_from-append before (a ∷ xs) ys =
-      case-push (is_known before a) a (firsts_from key (before ++ a ∷ []) (xs ++ ys)) (firsts_from key (before ++ a ∷ []) xs) (firsts_from key (before ++ a ∷ xs) ys)
-      (firsts_from-append (before ++ a ∷ []) xs ys ∙ ap (λ (b : List X). firsts_from key (before ++ a ∷ []) xs ++ firsts_from key b ys) (append_assoc before (a ∷ []) xs))
+      case-push (is_known before a) a (firsts_from key (before ++ a ∷ []) (xs ++ ys)) (firsts_from key (before ++ a ∷ []) xs)
+      (firsts_from key (before ++ a ∷ xs) ys)
+      (firsts_from-append (before ++ a ∷ []) xs ys ∙ ap (λ (b : List X). firsts_from key (before ++ a ∷ []) xs ++ firsts_from key b ys)
+      (append_assoc before (a ∷ []) xs))
 
   -- the same at other items of the same keys
   case-map : {Y : Type 0} (f : Y → X) (known : Bool) (y : Y) (R : List X) (S : List Y) → R ≡ map f S → cond known R (f y ∷ R) ≡ map f (cond known S (y ∷ S))
@@ -49,10 +55,12 @@ module _ {X : Type 0} (key : X → ℕ) where
   known-map f [] y = refl
   known-map f (z ∷ before) y = ap (λ (b : Bool). eqb (key (f y)) (key (f z)) || b) (known-map f before y)
 
-pub firsts_from-map : {X Y : Type 0} (key : X → ℕ) (f : Y → X) (before ys : List Y) → firsts_from key (map f before) (map f ys) ≡ map f (firsts_from (λ y. key (f y)) before ys)
+pub firsts_from-map : {X Y : Type 0} (key : X → ℕ) (f : Y → X) (before ys : List Y) → firsts_from key (map f before) (map f ys) ≡ map f
+    (firsts_from (λ y. key (f y)) before ys)
 firsts_from-map key f before [] = refl
 firsts_from-map key f before (y ∷ ys) =
-    ap (λ b. cond b (firsts_from key (map f before ++ f y ∷ []) (map f ys)) (f y ∷ firsts_from key (map f before ++ f y ∷ []) (map f ys))) (known-map key f before y)
+    ap (λ b. cond b (firsts_from key (map f before ++ f y ∷ []) (map f ys)) (f y ∷ firsts_from key (map f before ++ f y ∷ []) (map f ys)))
+    (known-map key f before y)
     ∙ case-map key f (is_known (λ y. key (f y)) before y) y _ _
     (ap (λ b. firsts_from key b (map f ys)) (sym (map-append f before (y ∷ []))) ∙ firsts_from-map key f (before ++ y ∷ []) ys)
 
@@ -73,7 +81,8 @@ module _ {X : Type 0} (key : X → ℕ) where
       ap (λ (ys : List X). filter_map (first_one key ys) (enumerate_from (length before + 1) xs)) (sym (append_assoc before (x ∷ []) xs))
       ∙ ap (λ (n : ℕ). filter_map (first_one key ((before ++ x ∷ []) ++ xs)) (enumerate_from n xs)) (sym (length-append before (x ∷ [])))
       ∙ stands-from (before ++ x ∷ []) xs in
-      ap (λ (ys : List X). cons_option (cond (list_any (λ (y : X). eqb (key x) (key y)) ys) None (Some x)) (filter_map (first_one key all) (enumerate_from (length before + 1) xs))) (take-append_seam before (x ∷ xs))
+      ap (λ (ys : List X). cons_option (cond (list_any (λ (y : X). eqb (key x) (key y)) ys) None (Some x))
+      (filter_map (first_one key all) (enumerate_from (length before + 1) xs))) (take-append_seam before (x ∷ xs))
       ∙ case-stands (list_any (λ (y : X). eqb (key x) (key y)) before) x _ _ rest
 
   -- the definition's first of each key are these

@@ -1,5 +1,6 @@
 -- The classes of a dump by their IDs and by their numbers, and the bytes of their layouts.
-use Rattle.std.proofs.Common.{◌≡◌, ◌≢◌, ◌∙◌, ◌⊎◌, ℕ, zero, suc, ◌+◌, ◌-◌, ◌<◌, ◌≤◌, ◌^◌, inl, inr, List, [], ◌∷◌, length, get_or, set, length-set, Option, Some, None, Bool, true, false, cond, eqb, refl, sym, ap, arith, All}
+use Rattle.std.proofs.Common.{◌≡◌, ◌≢◌, ◌∙◌, ◌⊎◌, ℕ, zero, suc, ◌+◌, ◌-◌, ◌<◌, ◌≤◌, ◌^◌, inl, inr, List, [], ◌∷◌, length, get_or, set, length-set, Option, Some}
+use Rattle.std.proofs.Common.{None, Bool, true, false, cond, eqb, refl, sym, ap, arith, All}
 use Rattle.std.specs.Option.{option_map, option_map_or}
 use Rattle.std.specs.List.{position_or_len, find, slice_get, slice_index_or}
 use Rattle.std.specs.Map.{lookup}
@@ -27,7 +28,8 @@ lookup-find : (id : ℕ) (es : List (ℕ × ResolvedClass)) → lookup (λ (x : 
 lookup-find id [] = refl
 lookup-find id (e ∷ es) = by_id (eqb id e.0) (lookup-find id es)
   where
-    by_id : (b : Bool) → lookup (λ (x : ℕ). eqb id x) es ≡ option_map second (find (has_id id) es) → cond b (Some e.1) (lookup (λ (x : ℕ). eqb id x) es) ≡ option_map second (cond b (Some e) (find (has_id id) es))
+    by_id : (b : Bool) → lookup (λ (x : ℕ). eqb id x) es ≡ option_map second (find (has_id id) es)
+        → cond b (Some e.1) (lookup (λ (x : ℕ). eqb id x) es) ≡ option_map second (cond b (Some e) (find (has_id id) es))
     by_id true is = refl
     by_id false is = is
 
@@ -42,7 +44,8 @@ numbered k id i is =
     let d : ℕ × ResolvedClass = (0, record { chain = []; layout = []; referent = None; kind = kinds.Strong }) in
     let at = position-Some (has_id id) k.classes i d is in
     let first : position_or_len (has_id id) k.classes ≡ i = position_or_len_is (has_id id) k.classes i d (omega (arith, at.0)) at.2 (λ lt. at.1) in
-    ap (λ (n : ℕ). option_map second (slice_get k.classes n)) (sym first) ∙ ap (option_map second) (sym (find_at (has_id id) k.classes)) ∙ sym (lookup-find id k.classes)
+    ap (λ (n : ℕ). option_map second (slice_get k.classes n)) (sym first) ∙ ap (option_map second) (sym (find_at (has_id id) k.classes))
+    ∙ sym (lookup-find id k.classes)
 
 pub number-within : (k : Known) (id i : ℕ) → number_of k id ≡ Some i → i < length k.classes
 number-within k id i is =
@@ -72,13 +75,15 @@ pub at-number : (k : Known) (i : ℕ) → i < length k.classes → known_by_numb
 at-number k i lt = ap (option_map second) (slice_get-get_or k.classes i any_class lt)
 
 -- the fields of a class of a number are few
-pub few-fields : (es : List (ℕ × ResolvedClass)) (i : ℕ) (x : ResolvedClass) → All (λ (p : ℕ × ResolvedClass). length p.1.layout < 2 ^ 29) es → option_map second (slice_get es i) ≡ Some x → length x.layout < 2 ^ 29
+pub few-fields : (es : List (ℕ × ResolvedClass)) (i : ℕ) (x : ResolvedClass) → All (λ (p : ℕ × ResolvedClass). length p.1.layout < 2 ^ 29) es
+    → option_map second (slice_get es i) ≡ Some x → length x.layout < 2 ^ 29
 few-fields [] i x all is = absurd cc
 few-fields (e ∷ es) zero x all is = let same : e.1 ≡ x = cc in rw (← same) (All-head (λ (p : ℕ × ResolvedClass). length p.1.layout < 2 ^ 29) e es all)
 few-fields (e ∷ es) (suc i) x all is = few-fields es i x (All-tail (λ (p : ℕ × ResolvedClass). length p.1.layout < 2 ^ 29) e es all) is
 
 -- bytes that are kept of a class
-pub kept-bytes : (size : IdSize) (k : Known) (sums : List ℕ) (i n : ℕ) → AreSums size k sums → 0 < slice_index_or sums i 0 → n ≡ slice_index_or sums i 0 - 1 → n ≡ length_by_number size k i
+pub kept-bytes : (size : IdSize) (k : Known) (sums : List ℕ) (i n : ℕ) → AreSums size k sums → 0 < slice_index_or sums i 0 → n ≡ slice_index_or sums i 0 - 1
+    → n ≡ length_by_number size k i
 kept-bytes size k sums i n h some less = by_number (slice_index_or sums i 0) refl some less
   where
     by_number : (m : ℕ) → slice_index_or sums i 0 ≡ m → 0 < m → n ≡ m - 1 → n ≡ length_by_number size k i
@@ -96,7 +101,8 @@ set-sum (x ∷ xs) (suc i) (suc j) v m is = elim (set-sum xs i j v m is) [
   | inr old ↦ inr old
 ]
 
-pub keep-bytes : (size : IdSize) (k : Known) (sums : List ℕ) (i n : ℕ) → AreSums size k sums → n ≡ length_by_number size k i → AreSums size k (set sums i (n + 1))
+pub keep-bytes : (size : IdSize) (k : Known) (sums : List ℕ) (i n : ℕ) → AreSums size k sums → n ≡ length_by_number size k i
+    → AreSums size k (set sums i (n + 1))
 keep-bytes size k sums i n h is = record {
   count = length-set sums i (n + 1) ∙ h.count;
   short = h.short;
@@ -107,11 +113,13 @@ keep-bytes size k sums i n h is = record {
 }
 
 -- what is known of the class of an ID by its number
-pub class-by-number : (size : IdSize) (k : Known) (i : ℕ) (x : ResolvedClass) → known_by_number k i ≡ Some x → layout_len size x.layout ≡ length_by_number size k i
+pub class-by-number : (size : IdSize) (k : Known) (i : ℕ) (x : ResolvedClass) → known_by_number k i ≡ Some x
+    → layout_len size x.layout ≡ length_by_number size k i
 class-by-number size k i x is = ap (λ (o : Option ResolvedClass). option_map_or (λ (y : ResolvedClass). layout_len size y.layout) o 0) (sym is)
 
 -- values of `n` bytes, where the class of an ID has a number
-pub fits-class : (size : IdSize) (k : Known) (id i len n : ℕ) → number_of k id ≡ Some i → n ≡ length_by_number size k i → n ≡ len → FitsClass size len (known_at k id) (known_by_number k i)
+pub fits-class : (size : IdSize) (k : Known) (id i len n : ℕ) → number_of k id ≡ Some i → n ≡ length_by_number size k i → n ≡ len
+    → FitsClass size len (known_at k id) (known_by_number k i)
 fits-class size k id i len n number bytes same =
     let is = at-number k i (number-within k id i number) in
     record {

@@ -1,5 +1,6 @@
 -- Lemmas on keeping one class more.
-use Rattle.std.proofs.Common.{◌≡◌, ◌∙◌, ◌⊎◌, inl, inr, ℕ, ◌+◌, ◌<◌, ◌≤◌, ◌^◌, List, [], ◌∷◌, ◌++◌, length, map, Option, Some, None, Bool, true, false, cond, eqb, eqb-true, eq-eqb, refl, sym, ap, subst, arith, All}
+use Rattle.std.proofs.Common.{◌≡◌, ◌∙◌, ◌⊎◌, inl, inr, ℕ, ◌+◌, ◌<◌, ◌≤◌, ◌^◌, List, [], ◌∷◌, ◌++◌, length, map, Option, Some, None, Bool, true, false, cond}
+use Rattle.std.proofs.Common.{eqb, eqb-true, eq-eqb, refl, sym, ap, subst, arith, All}
 use Rattle.std.specs.Prelude.{unwrap_or, nat_eq}
 use Rattle.std.specs.List.{slice_get, IsDistinct}
 use Rattle.std.specs.Option.{option_map, option_map_or, option_or, is_some}
@@ -13,7 +14,8 @@ use Rattle.std.proofs.lemmas.Map.Made.{is_some-lookup}
 use Rattle.std.proofs.lemmas.Option.{slice_get_within}
 use Rattle.hd_terms.specs.declared.EdgeKind.{EdgeKind}
 use Rattle.hd_terms.specs.SubRecords.{ClassItem, FieldItem}
-use Rattle.hd_terms.specs.Classes.{ClassTable, LayoutField, ResolvedClass, LeadUp, class_at, fields_of, is_referent, referent_in, reference_kind, resolved_class, resolved_by}
+use Rattle.hd_terms.specs.Classes.{ClassTable, LayoutField, ResolvedClass, LeadUp, class_at, fields_of, is_referent, referent_in, reference_kind}
+use Rattle.hd_terms.specs.Classes.{resolved_class, resolved_by}
 use Rattle.hd_classes.specs.declared.known.LayoutField as declared_field
 use Rattle.hd_classes.specs.declared.linked.LinkedClass.{LinkedClass}
 use Rattle.hd_classes.specs.declared.linking.Inherited.{Inherited}
@@ -25,7 +27,8 @@ use Rattle.hd_classes.proofs.ChainLemmas.{Found, IsFound, whole-up}
 use Rattle.hd_classes.proofs.ResolvedLemmas.{position-within, known_under, resolved-cons, resolved-nil, resolved-chain, resolved-some}
 
 -- what is kept by an ID is known by it
-case-kept : (o : Option ResolvedClass) (q : Option LinkedClass) → option_map view_facts o ≡ option_map row_facts q → is_some q ≡ true → (k : ResolvedClass) × (o ≡ Some k)
+case-kept : (o : Option ResolvedClass) (q : Option LinkedClass) → option_map view_facts o ≡ option_map row_facts q → is_some q ≡ true → (k : ResolvedClass)
+    × (o ≡ Some k)
 case-kept (Some k) q e some = (k, refl)
 case-kept None (Some l) e some = absurd (none-some (row_facts l) e)
   where
@@ -37,10 +40,12 @@ case-kept None None e some = absurd (false-true some)
     false-true h = cc
 
 pub kept-known : (rows : List Row) (id : ℕ) → is_kept rows id ≡ true → (k : ResolvedClass) × (lookup (λ (x : ℕ). eqb id x) (views rows) ≡ Some k)
-kept-known rows id kept = case-kept (lookup (λ (x : ℕ). eqb id x) (views rows)) (lookup (λ (x : ℕ). eqb id x) rows) (lookup-facts (λ (x : ℕ). eqb id x) rows) kept
+kept-known rows id kept = case-kept (lookup (λ (x : ℕ). eqb id x) (views rows)) (lookup (λ (x : ℕ). eqb id x) rows)
+    (lookup-facts (λ (x : ℕ). eqb id x) rows) kept
 
 -- what holds of all holds of one that is looked up
-case-found : {V : Type 0} (P : ℕ × V → Type 0) (b : Bool) (e : ℕ × V) (o : Option V) (v : V) → P e → (o ≡ Some v → (id : ℕ) × P (id, v)) → cond b (Some e.1) o ≡ Some v → (id : ℕ) × P (id, v)
+case-found : {V : Type 0} (P : ℕ × V → Type 0) (b : Bool) (e : ℕ × V) (o : Option V) (v : V) → P e → (o ≡ Some v → (id : ℕ) × P (id, v))
+    → cond b (Some e.1) o ≡ Some v → (id : ℕ) × P (id, v)
 case-found {V} P true e o v here there is = let same : e.1 ≡ v = cc in (e.0, subst (λ (x : V). P (e.0, x)) same here)
 case-found P false e o v here there is = there is
 
@@ -49,7 +54,8 @@ all-looked P test [] v all is = cc
 all-looked P test (e ∷ es) v all is = case-found P (test e.0) e (lookup test es) v (All-head P e es all) (all-looked P test es v (All-tail P e es all)) is
 
 -- a look-up behind one entry more
-case-last : {V : Type 0} (b : Bool) (w v : V) (o q : Option V) (A : Type 0) → (q ≡ Some v → (o ≡ Some v) ⊎ A) → cond b (Some w) q ≡ Some v → (cond b (Some w) o ≡ Some v) ⊎ A
+case-last : {V : Type 0} (b : Bool) (w v : V) (o q : Option V) (A : Type 0) → (q ≡ Some v → (o ≡ Some v) ⊎ A) → cond b (Some w) q ≡ Some v
+    → (cond b (Some w) o ≡ Some v) ⊎ A
 case-last true w v o q A more is = inl is
 case-last false w v o q A more is = more is
 
@@ -57,11 +63,13 @@ case-one : {V : Type 0} (b : Bool) (w v : V) → cond b (Some w) None ≡ Some v
 case-one true w v is = let same : w ≡ v = cc in (refl, same)
 case-one false w v is = cc
 
-pub lookup-last : {V : Type 0} (test : ℕ → Bool) (es : List (ℕ × V)) (e : ℕ × V) (v : V) → lookup test (es ++ e ∷ []) ≡ Some v → (lookup test es ≡ Some v) ⊎ ((test e.0 ≡ true) × (e.1 ≡ v))
+pub lookup-last : {V : Type 0} (test : ℕ → Bool) (es : List (ℕ × V)) (e : ℕ × V) (v : V) → lookup test (es ++ e ∷ []) ≡ Some v → (lookup test es ≡ Some v)
+    ⊎ ((test e.0 ≡ true) × (e.1 ≡ v))
 lookup-last test [] e v is = inr (case-one (test e.0) e.1 v is)
 lookup-last test (d ∷ es) e v is = case-last (test d.0) d.1 v (lookup test es) (lookup test (es ++ e ∷ [])) _ (lookup-last test es e v) is
 
-case-more : {V : Type 0} (b : Bool) (w : V) (o q : Option V) → (is_some o ≡ true → is_some q ≡ true) → is_some (cond b (Some w) o) ≡ true → is_some (cond b (Some w) q) ≡ true
+case-more : {V : Type 0} (b : Bool) (w : V) (o q : Option V) → (is_some o ≡ true → is_some q ≡ true) → is_some (cond b (Some w) o) ≡ true
+    → is_some (cond b (Some w) q) ≡ true
 case-more true w o q more some = refl
 case-more false w o q more some = more some
 
@@ -86,7 +94,8 @@ module _ (rows : List Row) (row : Row) where
   numbered-keep None below = refl
   numbered-keep (Some i) below =
       ap (λ (known : List View). numbered known (Some i)) (views-push rows [] row)
-      ∙ ap (λ (o : Option View). option_map_or (λ (p : View). p.1) o nothing) (get-front (views rows) (view_of (views rows) row) i (omega (arith, below, views-length rows [])))
+      ∙ ap (λ (o : Option View). option_map_or (λ (p : View). p.1) o nothing)
+      (get-front (views rows) (view_of (views rows) row) i (omega (arith, below, views-length rows [])))
 
   none-fields : (o : Option Row) → o ≡ None → 0 < length (option_map_or (λ (r : Row). r.1.fields.items) o []) → ⊥
   none-fields None e lt = omega (arith, lt)
@@ -112,13 +121,15 @@ module _ (rows : List Row) (row : Row) where
 
   row-keep : (i : ℕ) (class : LinkedClass) → i ≤ length rows → IsLinkedRow rows i class → IsLinkedRow more i class
   row-keep i class le h =
-      let above : numbered (views more) class.super_number ≡ numbered (views rows) class.super_number = numbered-keep class.super_number (below-le i (length rows) class.super_number le h.earlier) in
+      let above : numbered (views more) class.super_number ≡ numbered (views rows) class.super_number =
+      numbered-keep class.super_number (below-le i (length rows) class.super_number le h.earlier) in
       record {
         earlier = h.earlier;
         nearer = h.nearer;
         declares = declares-keep class.fields_above h.declares;
         skips =
-            ap (λ (k : ResolvedClass). k.layout) (numbered-keep class.fields_above (declares-below class.fields_above h.declares)) ∙ h.skips ∙ sym (ap (λ (k : ResolvedClass). k.layout) above);
+            ap (λ (k : ResolvedClass). k.layout) (numbered-keep class.fields_above (declares-below class.fields_above h.declares)) ∙ h.skips
+            ∙ sym (ap (λ (k : ResolvedClass). k.layout) above);
         counted = ap (λ (k : ResolvedClass). length class.fields.items + length k.layout) above ∙ h.counted;
       }
 
@@ -129,7 +140,8 @@ module _ (rows : List Row) (row : Row) where
         let within = slice_get_within more i r at in
         let last : i ≡ length rows = omega (arith, most, within, length_push rows row) in
         let same : row ≡ r = one-row row r (sym (get-last rows row) ∙ ap (slice_get more) (sym last) ∙ at) in
-        subst (λ (n : ℕ). IsLinkedRow more n r.1) (sym last) (subst (λ (x : Row). IsLinkedRow more (length rows) x.1) same (row-keep (length rows) row.1 (omega arith) here))
+        subst (λ (n : ℕ). IsLinkedRow more n r.1) (sym last)
+        (subst (λ (x : Row). IsLinkedRow more (length rows) x.1) same (row-keep (length rows) row.1 (omega arith) here))
   ]
     where
       one-row : (a b : Row) → Some a ≡ Some b → a ≡ b
@@ -178,13 +190,19 @@ module _ (t : ClassTable) (rows : List Row) (kept : AreKept t rows) (id : ℕ) (
     where
       by : (chain : List ClassItem) → k ≡ resolved_by t chain → (j : ℕ) → k.referent ≡ Some j → j < length k.layout
       by chain same j at =
-          omega (arith, position-within (is_referent t) (resolved_by t chain).layout j (sym (ap (λ (x : ResolvedClass). x.referent) same) ∙ at), ap (λ (x : ResolvedClass). length x.layout) same)
+          omega (
+            arith,
+            position-within (is_referent t) (resolved_by t chain).layout j (sym (ap (λ (x : ResolvedClass). x.referent) same) ∙ at),
+            ap
+                (λ (x : ResolvedClass). length x.layout) same,
+          )
 
   pub above-referent : IsBelow (2 ^ 29) a.referent
   above-referent = subst (IsBelow (2 ^ 29)) (sym (ap (λ (k : ResolvedClass). k.referent) is.is) ∙ is.referent) (case-referent looked refl)
 
 -- one class more
-module _ (t : ClassTable) (rows : List Row) (kept : AreKept t rows) (c : ClassItem) (at : class_at t.classes c.id ≡ Some c) (top : IsTop rows c.super) (a : Inherited) (is : IsInherited rows c.super a) (l : LinkedClass)
+module _ (t : ClassTable) (rows : List Row) (kept : AreKept t rows) (c : ClassItem) (at : class_at t.classes c.id ≡ Some c) (top : IsTop rows c.super)
+    (a : Inherited) (is : IsInherited rows c.super a) (l : LinkedClass)
     (under : IsLinkedUnder t c a l) (found : Found) (is_found : IsFound) where
   abbrev row : Row
   row = (c.id, l)
@@ -204,7 +222,8 @@ module _ (t : ClassTable) (rows : List Row) (kept : AreKept t rows) (c : ClassIt
 
   class-known : class_under row above ≡ known_under t c above
   class-known =
-      let of : List LayoutField → Option ℕ → EdgeKind → ResolvedClass = λ (fs : List LayoutField) (r : Option ℕ) (k : EdgeKind). record { chain = c.id ∷ above.chain; layout = fs ++ above.layout; referent = r; kind = k } in
+      let of : List LayoutField → Option ℕ → EdgeKind → ResolvedClass =
+      λ (fs : List LayoutField) (r : Option ℕ) (k : EdgeKind). record { chain = c.id ∷ above.chain; layout = fs ++ above.layout; referent = r; kind = k } in
       let referent : a.referent ≡ above.referent = sym is.referent ∙ ap (λ (k : ResolvedClass). k.referent) (sym same-above) in
       let kind : a.kind ≡ above.kind = sym is.kind ∙ ap (λ (k : ResolvedClass). k.kind) (sym same-above) in
       ap (λ (fs : List LayoutField). of fs l.referent l.kind) under.fields
@@ -234,15 +253,18 @@ module _ (t : ClassTable) (rows : List Row) (kept : AreKept t rows) (c : ClassIt
   owns : OwnsFields row
   owns = kept-owned l.fields.items (subst (All (λ (f : LayoutField). f.owner ≡ c.id)) (sym under.fields) (own-owned c.fields))
     where
-      own-owned : (fs : List FieldItem) → All (λ (f : LayoutField). f.owner ≡ c.id) (map (λ (f : FieldItem). record { owner = c.id; name = f.name; code = f.code }) fs)
+      own-owned : (fs : List FieldItem)
+          → All (λ (f : LayoutField). f.owner ≡ c.id) (map (λ (f : FieldItem). record { owner = c.id; name = f.name; code = f.code }) fs)
       own-owned [] = All-nil (λ (f : LayoutField). f.owner ≡ c.id)
       own-owned (f ∷ fs) = All-cons (λ (f : LayoutField). f.owner ≡ c.id) (record { owner = c.id; name = f.name; code = f.code }) _ refl (own-owned fs)
 
-      kept-owned : (fs : List declared_field.LayoutField) → All (λ (f : LayoutField). f.owner ≡ c.id) (map field_view fs) → All (λ (f : declared_field.LayoutField). f.owner ≡ c.id) fs
+      kept-owned : (fs : List declared_field.LayoutField) → All (λ (f : LayoutField). f.owner ≡ c.id) (map field_view fs)
+          → All (λ (f : declared_field.LayoutField). f.owner ≡ c.id) fs
       kept-owned [] all = All-nil (λ (f : declared_field.LayoutField). f.owner ≡ c.id)
       kept-owned (f ∷ fs) all =
           let P : LayoutField → Type 0 = λ (g : LayoutField). g.owner ≡ c.id in
-          All-cons (λ (g : declared_field.LayoutField). g.owner ≡ c.id) f fs (All-head P (field_view f) (map field_view fs) all) (kept-owned fs (All-tail P (field_view f) (map field_view fs) all))
+          All-cons (λ (g : declared_field.LayoutField). g.owner ≡ c.id) f fs (All-head P (field_view f) (map field_view fs) all)
+          (kept-owned fs (All-tail P (field_view f) (map field_view fs) all))
 
   keys-push : (rs : List Row) → keys_of (rs ++ row ∷ []) ≡ keys_of rs ++ c.id ∷ []
   keys-push [] = refl
@@ -257,11 +279,14 @@ module _ (t : ClassTable) (rows : List Row) (kept : AreKept t rows) (c : ClassIt
         linked = linked-push rows row kept.linked here;
         owned = All-push OwnsFields rows row kept.owned owns;
         known = λ q k at_q. right q k (lookup-last (λ (x : ℕ). eqb q x) (views rows) v k (ap (lookup (λ (x : ℕ). eqb q x)) (sym all) ∙ at_q));
-        short = subst (All P) (sym all) (All-push P (views rows) v kept.short (omega (arith, layout-length l.fields.items above.layout, here.counted, under.short)));
-        distinct = subst (IsDistinct nat_eq) (sym (keys-push rows)) (IsDistinct-push nat_eq_equiv (keys_of rows) c.id kept.distinct (sym (is_some-lookup (λ (x : ℕ). eqb c.id x) rows) ∙ ap is_some absent));
+        short = subst (All P) (sym all)
+            (All-push P (views rows) v kept.short (omega (arith, layout-length l.fields.items above.layout, here.counted, under.short)));
+        distinct = subst (IsDistinct nat_eq) (sym (keys-push rows))
+            (IsDistinct-push nat_eq_equiv (keys_of rows) c.id kept.distinct (sym (is_some-lookup (λ (x : ℕ). eqb c.id x) rows) ∙ ap is_some absent));
       }
     where
-      right : (q : ℕ) (k : ResolvedClass) → (lookup (λ (x : ℕ). eqb q x) (views rows) ≡ Some k) ⊎ ((eqb q c.id ≡ true) × (class_under row above ≡ k)) → resolved_class t q ≡ Some k
+      right : (q : ℕ) (k : ResolvedClass) → (lookup (λ (x : ℕ). eqb q x) (views rows) ≡ Some k) ⊎ ((eqb q c.id ≡ true) × (class_under row above ≡ k))
+          → resolved_class t q ≡ Some k
       right q k (inl old) = kept.known q k old
       right q k (inr (e, same)) = ap (resolved_class t) (eqb-true q c.id e) ∙ class-right ∙ ap (λ (x : ResolvedClass). Some x) same
 

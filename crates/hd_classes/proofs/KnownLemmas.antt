@@ -1,5 +1,6 @@
 -- Lemmas on what is known of all classes.
-use Rattle.std.proofs.Common.{◌≡◌, ◌∙◌, ◌⊎◌, inl, inr, ℕ, ◌+◌, ◌≤◌, List, [], ◌∷◌, ◌++◌, length, map, take, Option, Some, None, Bool, true, false, ◌||◌, cond, eqb, eqb-true, refl, sym, ap, subst, arith}
+use Rattle.std.proofs.Common.{◌≡◌, ◌∙◌, ◌⊎◌, inl, inr, ℕ, ◌+◌, ◌≤◌, List, [], ◌∷◌, ◌++◌, length, map, take, Option, Some, None, Bool, true, false, ◌||◌, cond}
+use Rattle.std.proofs.Common.{eqb, eqb-true, refl, sym, ap, subst, arith}
 use Rattle.std.specs.List.{filter_map, find, list_any, slice_get}
 use Rattle.std.specs.Option.{option_map, option_and_then}
 use Rattle.std.specs.Map.{lookup, keys_of, values_of}
@@ -45,7 +46,8 @@ map-same : {X : Type 0} (xs : List X) → map (λ (x : X). x) xs ≡ xs
 map-same [] = refl
 map-same {X} (x ∷ xs) = ap (λ (ys : List X). x ∷ ys) (map-same xs)
 
-pub place-at : (list : List Sub) (entries : List (ℕ × declared_first.FirstClass)) (i : ℕ) (x : declared_first.FirstClass) → HasFirstClasses list entries → slice_get (values_of entries) i ≡ Some x
+pub place-at : (list : List Sub) (entries : List (ℕ × declared_first.FirstClass)) (i : ℕ) (x : declared_first.FirstClass) → HasFirstClasses list entries
+    → slice_get (values_of entries) i ≡ Some x
     → slice_get (placed_classes list) i ≡ Some (first_class_view x)
 place-at list entries i x kept at =
     let snd : ℕ × PlacedClass → PlacedClass = λ (p : ℕ × PlacedClass). p.1 in
@@ -70,7 +72,8 @@ module _ (t : ClassTable) (before : List PlacedClass) (x : PlacedClass) (rows ro
           ap (is_kept rows') same ∙ more.settled k (sym (ap (resolved_class t) same) ∙ is)
 
 pub resolved-next : (s : Source) (i : ℕ) (x : PlacedClass) (rows rows' : List Row) (ids ids' : List ℕ) → slice_get (placed_classes s.list.now) i ≡ Some x
-    → AreResolved (table_of s) (take i (placed_classes s.list.now)) rows ids → AddsClass (table_of s) x rows rows' ids' → AreResolved (table_of s) (take (i + 1) (placed_classes s.list.now)) rows' ids'
+    → AreResolved (table_of s) (take i (placed_classes s.list.now)) rows ids → AddsClass (table_of s) x rows rows' ids'
+    → AreResolved (table_of s) (take (i + 1) (placed_classes s.list.now)) rows' ids'
 resolved-next s i x rows rows' ids ids' at h more =
     let t = table_of s in
     let before = take i (placed_classes s.list.now) in
@@ -83,7 +86,8 @@ resolved-next s i x rows rows' ids ids' at h more =
     }
 
 -- one fault is the first of all
-pub fault-first : (s : Source) (i : ℕ) (x : PlacedClass) (f : ReadFault) → slice_get (placed_classes s.list.now) i ≡ Some x → filter_map (cycle_at (table_of s)) (take i (placed_classes s.list.now)) ≡ []
+pub fault-first : (s : Source) (i : ℕ) (x : PlacedClass) (f : ReadFault) → slice_get (placed_classes s.list.now) i ≡ Some x
+    → filter_map (cycle_at (table_of s)) (take i (placed_classes s.list.now)) ≡ []
     → IsCycleOrMemory (table_of s) x f → IsFirstCycleOrMemory s f
 fault-first s i x f at none (inl memory) = inl memory
 fault-first s i x f at none (inr cycle) = inr (first-at (cycle_at (table_of s)) (placed_classes s.list.now) i x at f none cycle)
@@ -105,7 +109,8 @@ unknown s id none =
     ap (find (λ (c : ClassItem). eqb id c.id)) (first_classes-places s.list.now) ∙ none-among id (placed_classes s.list.now) none in
     resolved-none (table_of s) id (absent-chain (first_classes s.list.now) id (absent-class (eqb id 0) _ missing))
 
-among-known : (s : Source) (id : ℕ) (k : ResolvedClass) → resolved_class (table_of s) id ≡ Some k → (b : Bool) → is_among (placed_classes s.list.now) id ≡ b → b ≡ true
+among-known : (s : Source) (id : ℕ) (k : ResolvedClass) → resolved_class (table_of s) id ≡ Some k → (b : Bool) → is_among (placed_classes s.list.now) id ≡ b
+    → b ≡ true
 among-known s id k is true e = refl
 among-known s id k is false e = absurd (none-some k (sym (unknown s id e) ∙ is))
 
@@ -127,7 +132,8 @@ module _ (s : Source) (rows : List Row) (ids : List ℕ) (h : AreResolved (table
 pub known-all : (s : Source) (i : ℕ) (rows : List Row) (ids : List ℕ) → length s.classes.entries ≤ i → HasFirstClasses s.list.now s.classes.entries
     → AreResolved (table_of s) (take i (placed_classes s.list.now)) rows ids → HasAllKnown s rows
 known-all s i rows ids le kept h =
-    let all : take i (placed_classes s.list.now) ≡ placed_classes s.list.now = take_all i (placed_classes s.list.now) (omega (arith, length-places s.list.now s.classes.entries kept, le)) in
+    let all : take i (placed_classes s.list.now) ≡ placed_classes s.list.now =
+    take_all i (placed_classes s.list.now) (omega (arith, length-places s.list.now s.classes.entries kept, le)) in
     let P : List PlacedClass → Type 0 = λ (xs : List PlacedClass). AreResolved (table_of s) xs rows ids in
     all-known s rows ids (subst P all h)
 
@@ -144,7 +150,8 @@ module _ (s : Source) (rows : List Row) (is : IsSource s) (h : HasAllKnown s row
   length-map f [] = refl
   length-map f (x ∷ xs) = omega (arith, length-map f xs)
 
-  member : (id : ℕ) → list_any (λ (x : ℕ). eqb id x) (keys_of rows) ≡ true → list_any (λ (x : ℕ). eqb id x) (map (λ (x : PlacedClass). x.class.id) places) ≡ true
+  member : (id : ℕ) → list_any (λ (x : ℕ). eqb id x) (keys_of rows) ≡ true
+      → list_any (λ (x : ℕ). eqb id x) (map (λ (x : PlacedClass). x.class.id) places) ≡ true
   member id there =
       let known = kept-known rows id (is_some-lookup (λ (x : ℕ). eqb id x) rows ∙ there) in
       among-ids id places ∙ among-known s id known.0 (h.kept.known id known.0 known.1) (is_among places id) refl
@@ -160,14 +167,16 @@ module _ (s : Source) (rows : List Row) (is : IsSource s) (h : HasAllKnown s row
     length-map (λ (x : PlacedClass). x.class) places,
   )
 
-  case-name : (o : Option Load) → option_and_then (λ (name : ℕ). lookup (λ (x : ℕ). eqb name x) s.texts) (option_map (λ (l : Load). l.name) o) ≡ option_and_then (λ (l : Load). text_of_id (table_of s) l.name) o
+  case-name : (o : Option Load) → option_and_then (λ (name : ℕ). lookup (λ (x : ℕ). eqb name x) s.texts) (option_map (λ (l : Load). l.name) o) ≡ option_and_then
+      (λ (l : Load). text_of_id (table_of s) l.name) o
   case-name None = refl
   case-name (Some l) = is.texts l.name
 
   pub are-classes : AreClassesOf (table_of s) (record { texts = s.texts; names = s.names.entries; classes = views rows; repeated = s.repeated })
   are-classes = record {
     names = λ (id : ℕ).
-        ap (option_and_then (λ (name : ℕ). lookup (λ (x : ℕ). eqb name x) s.texts)) (is.names id) ∙ case-name (find (λ (l : Load). eqb id l.class) s.records.now.loads);
+        ap (option_and_then (λ (name : ℕ). lookup (λ (x : ℕ). eqb name x) s.texts)) (is.names id)
+        ∙ case-name (find (λ (l : Load). eqb id l.class) s.records.now.loads);
     known = h.known;
     few = few;
     short = h.kept.short;
@@ -189,9 +198,11 @@ module _ (bytes : List ℕ) (records : Records) (list : List Sub) (s : Source) (
   faults-are =
       sym (class_faults-places (table_of s) s.list.now) ∙ ap (λ (t : ClassTable). class_faults t s.list.now) table-is ∙ ap (class_faults table) is.of_list
 
-  pub classes-of_file : (rows : List Row) → HasAllKnown s rows → AreClassesOf table (record { texts = s.texts; names = s.names.entries; classes = views rows; repeated = s.repeated })
+  pub classes-of_file : (rows : List Row) → HasAllKnown s rows
+      → AreClassesOf table (record { texts = s.texts; names = s.names.entries; classes = views rows; repeated = s.repeated })
   classes-of_file rows h =
-      let P : ClassTable → Type 0 = λ (t : ClassTable). AreClassesOf t (record { texts = s.texts; names = s.names.entries; classes = views rows; repeated = s.repeated }) in
+      let P : ClassTable → Type 0 =
+      λ (t : ClassTable). AreClassesOf t (record { texts = s.texts; names = s.names.entries; classes = views rows; repeated = s.repeated }) in
       subst P table-is (are-classes s rows is.kept h)
 
   pub names-of_file : named_classes_of (table_of s) ≡ named_classes_of table

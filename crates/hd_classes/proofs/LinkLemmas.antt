@@ -1,5 +1,6 @@
 -- Lemmas on linked classes.
-use Rattle.std.proofs.Common.{◌≡◌, ◌∙◌, ◌⊎◌, inl, inr, ℕ, zero, suc, ◌+◌, ◌<◌, ◌≤◌, List, [], ◌∷◌, ◌++◌, length, map, Option, Some, None, Bool, true, false, not, cond, eqb, ltb, refl, sym, ap, subst, arith, add-zero, append_assoc}
+use Rattle.std.proofs.Common.{◌≡◌, ◌∙◌, ◌⊎◌, inl, inr, ℕ, zero, suc, ◌+◌, ◌<◌, ◌≤◌, List, [], ◌∷◌, ◌++◌, length, map, Option, Some, None, Bool, true, false}
+use Rattle.std.proofs.Common.{not, cond, eqb, ltb, refl, sym, ap, subst, arith, add-zero, append_assoc}
 use Rattle.std.specs.List.{slice_get, position, prefix_len}
 use Rattle.std.specs.Option.{option_map, option_map_or}
 use Rattle.std.specs.Map.{lookup, keys_of, values_of}
@@ -12,7 +13,8 @@ use Rattle.hd_terms.specs.Classes.{LayoutField, ResolvedClass}
 use Rattle.hd_classes.specs.declared.known.LayoutField as declared_field
 use Rattle.hd_classes.specs.declared.linked.LinkedClass.{LinkedClass}
 use Rattle.hd_classes.specs.Fields.{field_view}
-use Rattle.hd_classes.specs.Links.{Row, View, nothing, numbered, class_under, view_of, views_from, views, IsBelow, fields_at, Declares, IsLinked, first_declaring}
+use Rattle.hd_classes.specs.Links.{Row, View, nothing, numbered, class_under, view_of, views_from, views, IsBelow, fields_at, Declares, IsLinked}
+use Rattle.hd_classes.specs.Links.{first_declaring}
 
 -- elements of a list with one more at its end
 pub get-front : {X : Type 0} (xs : List X) (x : X) (j : ℕ) → j < length xs → slice_get (xs ++ x ∷ []) j ≡ slice_get xs j
@@ -31,12 +33,14 @@ views-front (row ∷ rows) known j lt =
     let v = view_of known row in
     views-front rows (known ++ v ∷ []) j (omega (arith, length_push known v)) ∙ get-front known v j lt
 
-pub numbered-front : (rows : List Row) (known : List View) (number : Option ℕ) → IsBelow (length known) number → numbered (views_from known rows) number ≡ numbered known number
+pub numbered-front : (rows : List Row) (known : List View) (number : Option ℕ) → IsBelow (length known) number
+    → numbered (views_from known rows) number ≡ numbered known number
 numbered-front rows known None below = refl
 numbered-front rows known (Some i) below = ap (λ (o : Option View). option_map_or (λ (p : View). p.1) o nothing) (views-front rows known i below)
 
 -- one row more makes one view more
-pub views-push : (rows : List Row) (known : List View) (row : Row) → views_from known (rows ++ row ∷ []) ≡ views_from known rows ++ view_of (views_from known rows) row ∷ []
+pub views-push : (rows : List Row) (known : List View) (row : Row) → views_from known (rows ++ row ∷ []) ≡ views_from known rows
+    ++ view_of (views_from known rows) row ∷ []
 views-push [] known row = refl
 views-push (r ∷ rows) known row = views-push rows (known ++ view_of known r ∷ []) row
 
@@ -60,7 +64,8 @@ views-keys (row ∷ rows) known =
     views-keys rows (known ++ v ∷ []) ∙ ap (λ (ks : List ℕ). ks ++ keys_of rows) (keys-push known v) ∙ append_assoc (keys_of known) (row.0 ∷ []) (keys_of rows)
 
 -- the view of the row at a place is made from all views, where its super class stands before it
-view-same : (row : Row) (known known' : List View) → numbered known row.1.super_number ≡ numbered known' row.1.super_number → view_of known row ≡ view_of known' row
+view-same : (row : Row) (known known' : List View) → numbered known row.1.super_number ≡ numbered known' row.1.super_number
+    → view_of known row ≡ view_of known' row
 view-same row known known' e = ap (λ (above : ResolvedClass). let v : View = (row.0, class_under row above) in v) e
 
 pub view-at : (rows : List Row) (known : List View) (i : ℕ) (row : Row) → slice_get rows i ≡ Some row → IsBelow (length known + i) row.1.super_number
@@ -92,7 +97,8 @@ module _ (rows : List Row) (linked : IsLinked rows) (i : ℕ) (row : Row) (at : 
   pub view-here : slice_get (views rows) i ≡ Some (view_of (views rows) row)
   view-here =
       let e : length {A = View} [] + i ≡ i = omega arith in
-      subst (λ (n : ℕ). slice_get (views rows) n ≡ Some (view_of (views rows) row)) e (view-at rows [] i row at (subst (λ (n : ℕ). IsBelow n row.1.super_number) (sym e) (linked i row at).earlier))
+      subst (λ (n : ℕ). slice_get (views rows) n ≡ Some (view_of (views rows) row)) e
+      (view-at rows [] i row at (subst (λ (n : ℕ). IsBelow n row.1.super_number) (sym e) (linked i row at).earlier))
 
   pub class-here : numbered (views rows) (Some i) ≡ class_under row (numbered (views rows) row.1.super_number)
   class-here = ap (λ (o : Option View). option_map_or (λ (p : View). p.1) o nothing) view-here
@@ -109,10 +115,12 @@ module _ (rows : List Row) (linked : IsLinked rows) (i : ℕ) (row : Row) (at : 
 
   -- from its first class that declares fields its layout is the same
   case-first : (b : Bool) → ((b ≡ true) × (length row.1.fields.items ≡ 0)) ⊎ ((b ≡ false) × (length row.1.fields.items ≡ 0 → ⊥))
-      → ((numbered (views rows) (cond b row.1.fields_above (Some i))).layout ≡ (numbered (views rows) (Some i)).layout) × Declares rows (cond b row.1.fields_above (Some i))
+      → ((numbered (views rows) (cond b row.1.fields_above (Some i))).layout ≡ (numbered (views rows) (Some i)).layout)
+      × Declares rows (cond b row.1.fields_above (Some i))
   case-first true (inl (e, nil)) = (sym (layout-here ∙ none row.1.fields.items nil), (linked i row at).declares)
     where
-      none : (fs : List declared_field.LayoutField) → length fs ≡ 0 → map field_view fs ++ (numbered (views rows) row.1.fields_above).layout ≡ (numbered (views rows) row.1.fields_above).layout
+      none : (fs : List declared_field.LayoutField) → length fs ≡ 0 → map field_view fs ++ (numbered (views rows) row.1.fields_above).layout ≡
+          (numbered (views rows) row.1.fields_above).layout
       none [] z = refl
       none (f ∷ fs) z = absurd (omega arith)
   case-first true (inr (e, some)) = cc
@@ -127,11 +135,13 @@ module _ (rows : List Row) (linked : IsLinked rows) (i : ℕ) (row : Row) (at : 
 
   pub layout-counted : length (numbered (views rows) (Some i)).layout ≡ row.1.layout_len
   layout-counted =
-      ap (λ (k : ResolvedClass). length k.layout) class-here ∙ layout-length row.1.fields.items (numbered (views rows) row.1.super_number).layout ∙ (linked i row at).counted
+      ap (λ (k : ResolvedClass). length k.layout) class-here ∙ layout-length row.1.fields.items (numbered (views rows) row.1.super_number).layout
+      ∙ (linked i row at).counted
 
 -- behind the last row there is nothing
 pub numbered-past : (rows : List Row) (i : ℕ) → length rows ≤ i → numbered (views rows) (Some i) ≡ nothing
-numbered-past rows i past = ap (λ (o : Option View). option_map_or (λ (p : View). p.1) o nothing) (slice_get_past (views rows) i (omega (arith, views-length rows [], past)))
+numbered-past rows i past = ap (λ (o : Option View). option_map_or (λ (p : View). p.1) o nothing)
+    (slice_get_past (views rows) i (omega (arith, views-length rows [], past)))
 
 -- where none is found, there is none
 pub none-past : (rows : List Row) (i : ℕ) → None ≡ slice_get rows i → numbered (views rows) (Some i) ≡ nothing
@@ -143,12 +153,14 @@ none-past rows i none = numbered-past rows i (past rows i (sym none))
     past (row ∷ rows) (suc i) e = let rest = past rows i e in omega arith
 
 -- what is found by an ID is at the ID's place
-lookup-prefix : {X : Type 0} (test : ℕ → Bool) (es : List (ℕ × X)) → lookup test es ≡ option_map (λ (e : ℕ × X). e.1) (slice_get es (prefix_len (λ (x : ℕ). not (test x)) (keys_of es)))
+lookup-prefix : {X : Type 0} (test : ℕ → Bool) (es : List (ℕ × X)) → lookup test es ≡ option_map (λ (e : ℕ × X). e.1)
+    (slice_get es (prefix_len (λ (x : ℕ). not (test x)) (keys_of es)))
 lookup-prefix test [] = refl
 lookup-prefix {X} test (e ∷ es) = by (test e.0) (lookup-prefix test es)
   where
     by : (b : Bool) → lookup test es ≡ option_map (λ (e : ℕ × X). e.1) (slice_get es (prefix_len (λ (x : ℕ). not (test x)) (keys_of es)))
-        → cond b (Some e.1) (lookup test es) ≡ option_map (λ (e : ℕ × X). e.1) (slice_get (e ∷ es) (cond (not b) (1 + prefix_len (λ (x : ℕ). not (test x)) (keys_of es)) 0))
+        → cond b (Some e.1) (lookup test es) ≡ option_map (λ (e : ℕ × X). e.1)
+        (slice_get (e ∷ es) (cond (not b) (1 + prefix_len (λ (x : ℕ). not (test x)) (keys_of es)) 0))
     by true h = refl
     by false h =
         let n = prefix_len (λ (x : ℕ). not (test x)) (keys_of es) in
@@ -159,7 +171,8 @@ case-place : (b : Bool) (n i : ℕ) → Some i ≡ cond b (Some n) None → i �
 case-place true n i e = cc
 case-place false n i e = cc
 
-pub lookup-place : {X : Type 0} (test : ℕ → Bool) (es : List (ℕ × X)) (i : ℕ) → Some i ≡ position test (keys_of es) → lookup test es ≡ option_map (λ (e : ℕ × X). e.1) (slice_get es i)
+pub lookup-place : {X : Type 0} (test : ℕ → Bool) (es : List (ℕ × X)) (i : ℕ) → Some i ≡ position test (keys_of es)
+    → lookup test es ≡ option_map (λ (e : ℕ × X). e.1) (slice_get es i)
 lookup-place {X} test es i is =
     let n = prefix_len (λ (x : ℕ). not (test x)) (keys_of es) in
     lookup-prefix test es ∙ ap (λ (k : ℕ). option_map (λ (e : ℕ × X). e.1) (slice_get es k)) (sym (case-place (ltb n (length (keys_of es))) n i is))
@@ -203,7 +216,8 @@ lookup-facts test rows =
     sym (lookup-map_values view_facts test (views rows)) ∙ ap (lookup test) (views-facts rows []) ∙ lookup-map_values row_facts test rows
 
 -- what is left of a layout is shorter than it
-pub rest-shorter : (fs : List declared_field.LayoutField) (rest whole : List LayoutField) → whole ≡ map field_view fs ++ rest → 0 < length fs → length rest < length whole
+pub rest-shorter : (fs : List declared_field.LayoutField) (rest whole : List LayoutField) → whole ≡ map field_view fs ++ rest → 0 < length fs
+    → length rest < length whole
 rest-shorter fs rest whole is some = omega (arith, ap (λ (xs : List LayoutField). length xs) is, longer fs, some)
   where
     longer : (gs : List declared_field.LayoutField) → length (map field_view gs ++ rest) ≡ length gs + length rest

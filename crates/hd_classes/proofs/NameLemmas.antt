@@ -1,5 +1,6 @@
 -- Lemmas on what the first of each key says.
-use Rattle.std.proofs.Common.{◌≡◌, ◌≢◌, ◌∙◌, ◌⊎◌, inl, inr, ℕ, ◌+◌, ◌<◌, ◌≤◌, List, [], ◌∷◌, ◌++◌, length, get_or, take, Option, Some, None, Bool, true, false, ◌||◌, cond, eqb, refl, sym, ap, arith, subst, ne_eqb, eq-eqb}
+use Rattle.std.proofs.Common.{◌≡◌, ◌≢◌, ◌∙◌, ◌⊎◌, inl, inr, ℕ, ◌+◌, ◌<◌, ◌≤◌, List, [], ◌∷◌, ◌++◌, length, get_or, take, Option, Some, None, Bool, true, false}
+use Rattle.std.proofs.Common.{◌||◌, cond, eqb, refl, sym, ap, arith, subst, ne_eqb, eq-eqb}
 use Rattle.std.specs.List.{find, list_any, slice_get}
 use Rattle.std.specs.Option.{option_map, option_or, is_some}
 use Rattle.std.specs.Map.{lookup}
@@ -61,7 +62,8 @@ module _ {V : Type 0} (id : ℕ) (value : V) (before : List (ℕ × V)) where
       ∙ sym (option_or-none (kept_by before k))
       ∙ ap (λ (b : Bool). option_or (kept_by before k) (cond b (Some value) None)) (sym (ne_eqb k id (λ (e : k ≡ id). ne (sym e))))
 
-  pub first-known : (first : V) (between after : List (ℕ × V)) → kept_by before id ≡ Some first → IsUpdated before value between → IsUpdated between first after → KeepsFirst id value before after
+  pub first-known : (first : V) (between after : List (ℕ × V)) → kept_by before id ≡ Some first → IsUpdated before value between → IsUpdated between first after
+      → KeepsFirst id value before after
   first-known first between after there more back = λ (k : ℕ).
       back k ∙ ap (λ (o : Option V). cond (eqb id k) (Some first) o) (more k) ∙ case-known k first there (eqb_tells id k)
 
@@ -76,13 +78,16 @@ module _ {X V : Type 0} (key : X → ℕ) (val : X → V) where
   case-or None false x = refl
 
   -- one more
-  pub first-next : (xs : List X) (x : X) (entries entries' : List (ℕ × V)) → KeepsFirst (key x) (val x) entries entries' → HasFirst xs entries → HasFirst (xs ++ x ∷ []) entries'
+  pub first-next : (xs : List X) (x : X) (entries entries' : List (ℕ × V)) → KeepsFirst (key x) (val x) entries entries' → HasFirst xs entries
+      → HasFirst (xs ++ x ∷ []) entries'
   first-next xs x entries entries' more h = λ (id : ℕ).
       let test : X → Bool = λ (z : X). eqb id (key z) in
-      more id ∙ ap (λ (o : Option V). option_or o (cond (test x) (Some (val x)) None)) (h id) ∙ case-or (find test xs) (test x) x ∙ ap (option_map val) (sym (find-append test xs (x ∷ [])))
+      more id ∙ ap (λ (o : Option V). option_or o (cond (test x) (Some (val x)) None)) (h id) ∙ case-or (find test xs) (test x) x
+      ∙ ap (option_map val) (sym (find-append test xs (x ∷ [])))
 
   -- the element at a place, after those before it
-  pub next-first : (xs : List X) (i : ℕ) (d : X) (entries entries' : List (ℕ × V)) → i < length xs → KeepsFirst (key (get_or xs i d)) (val (get_or xs i d)) entries entries'
+  pub next-first : (xs : List X) (i : ℕ) (d : X) (entries entries' : List (ℕ × V)) → i < length xs
+      → KeepsFirst (key (get_or xs i d)) (val (get_or xs i d)) entries entries'
       → HasFirst (take i xs) entries → HasFirst (take (i + 1) xs) entries'
   next-first xs i d entries entries' lt more h =
       let P : List X → Type 0 = λ (ys : List X). HasFirst ys entries' in
@@ -111,7 +116,8 @@ module _ {X V : Type 0} (key : X → ℕ) (val : X → V) where
       ∙ sym (repeats-push key xs x)
 
   -- how many are repeated, with the element at a place
-  pub next-repeated : (xs : List X) (i : ℕ) (d : X) (entries : List (ℕ × V)) (known : Bool) (repeated : ℕ) → i < length xs → known ≡ is_some (lookup (λ (y : ℕ). eqb (key (get_or xs i d)) y) entries)
+  pub next-repeated : (xs : List X) (i : ℕ) (d : X) (entries : List (ℕ × V)) (known : Bool) (repeated : ℕ) → i < length xs
+      → known ≡ is_some (lookup (λ (y : ℕ). eqb (key (get_or xs i d)) y) entries)
       → HasFirst (take i xs) entries → repeated ≡ repeats key (take i xs) → repeated + cond known 1 0 ≡ repeats key (take (i + 1) xs)
   next-repeated xs i d entries known repeated lt is h count =
       more-repeated (take i xs) (get_or xs i d) entries known repeated is h count ∙ ap (repeats key) (sym (take_more xs i d lt))

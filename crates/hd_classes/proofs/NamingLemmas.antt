@@ -1,5 +1,6 @@
 -- Lemmas on numbering the names of fields and statics.
-use Rattle.std.proofs.Common.{◌≡◌, ◌≢◌, ◌∙◌, ◌⊎◌, inl, inr, ℕ, zero, suc, ◌+◌, ◌<◌, ◌≤◌, ◌^◌, List, [], ◌∷◌, ◌++◌, length, get_or, map, take, Option, Some, None, Bool, true, false, not, cond, eqb, ltb, refl, sym, ap, subst, arith, append_assoc}
+use Rattle.std.proofs.Common.{◌≡◌, ◌≢◌, ◌∙◌, ◌⊎◌, inl, inr, ℕ, zero, suc, ◌+◌, ◌<◌, ◌≤◌, ◌^◌, List, [], ◌∷◌, ◌++◌, length, get_or, map, take, Option, Some}
+use Rattle.std.proofs.Common.{None, Bool, true, false, not, cond, eqb, ltb, refl, sym, ap, subst, arith, append_assoc}
 use Rattle.std.specs.List.{slice_get, position, prefix_len}
 use Rattle.std.specs.Map.{lookup, keys_of}
 use Rattle.std.proofs.lemmas.Bool.Decides.{eqb_tells}

@@ -1,5 +1,6 @@
 -- Lemmas on paths up the chains, and on the classes along them.
-use Rattle.std.proofs.Common.{◌≡◌, ◌∙◌, ◌⊎◌, inl, inr, ℕ, List, [], ◌∷◌, ◌++◌, length, Option, Some, None, Bool, true, false, ◌||◌, cond, eqb, eqb-true, Bor, Result, Ok, Err, OnOk, refl, sym, ap, subst, arith}
+use Rattle.std.proofs.Common.{◌≡◌, ◌∙◌, ◌⊎◌, inl, inr, ℕ, List, [], ◌∷◌, ◌++◌, length, Option, Some, None, Bool, true, false, ◌||◌, cond, eqb, eqb-true, Bor}
+use Rattle.std.proofs.Common.{Result, Ok, Err, OnOk, refl, sym, ap, subst, arith}
 use Rattle.std.specs.List.{list_any}
 use Rattle.std.specs.Option.{option_map, is_some}
 use Rattle.std.proofs.lemmas.List.{map-append}
@@ -16,19 +17,23 @@ use Rattle.hd_classes.specs.declared.path.Path.{Path}
 use Rattle.hd_classes.specs.Paths.{path_view, IsPath}
 use Rattle.hd_classes.specs.Building.{IsBroken, AreBroken, ArePathBroken, AddsClass, cycle_at}
 use Rattle.hd_classes.proofs.FirstClassLemmas.{known-noted}
-use Rattle.hd_classes.proofs.ChainLemmas.{Found, IsFound, Told, IsTold, class-some, lead-last, path-cycle, broken-up, ends-up, whole-ends, absent-ends, absent-chain, null-ends}
+use Rattle.hd_classes.proofs.ChainLemmas.{Found, IsFound, Told, IsTold, class-some, lead-last, path-cycle, broken-up, ends-up, whole-ends, absent-ends}
+use Rattle.hd_classes.proofs.ChainLemmas.{absent-chain, null-ends}
 use Rattle.hd_classes.proofs.ResolvedLemmas.{resolved-chain, resolved-none}
 use Rattle.hd_classes.proofs.KeptLemmas.{kept-known}
 
 -- a path without its last class
-pub path-down : (classes : List ClassItem) (items before : List (Bor ClassDump)) (class : Bor ClassDump) (start mid : ℕ) → items ≡ before ++ class ∷ [] → LeadUp classes start (path_view items) mid
+pub path-down : (classes : List ClassItem) (items before : List (Bor ClassDump)) (class : Bor ClassDump) (start mid : ℕ) → items ≡ before ++ class ∷ []
+    → LeadUp classes start (path_view items) mid
     → (low : ℕ) × LeadUp classes start (path_view before) low × (class_at classes low ≡ Some (class_view class.now)) × ((class_view class.now).super ≡ mid)
 path-down classes items before class start mid is lead =
-    let seen : path_view items ≡ path_view before ++ class_view class.now ∷ [] = ap path_view is ∙ map-append (λ (b : Bor ClassDump). class_view b.now) before (class ∷ []) in
+    let seen : path_view items ≡ path_view before ++ class_view class.now ∷ [] = ap path_view is ∙ map-append (λ (b : Bor ClassDump). class_view b.now) before
+    (class ∷ []) in
     lead-last classes (path_view before) start mid (class_view class.now) (subst (λ (cs : List ClassItem). LeadUp classes start cs mid) seen lead)
 
 -- a class whose super class has a broken chain has one
-pub broken-step : Found → IsFound → Told → IsTold → (t : ClassTable) (id : ℕ) (c : ClassItem) → class_at t.classes id ≡ Some c → IsBroken t c.super → IsBroken t id
+pub broken-step : Found → IsFound → Told → IsTold → (t : ClassTable) (id : ℕ) (c : ClassItem) → class_at t.classes id ≡ Some c → IsBroken t c.super
+    → IsBroken t id
 broken-step found is_found told is_told t id c at h = record {
   some = class-some t.classes id c at;
   none = broken-up t.classes found is_found id c at h.some h.none;
@@ -41,9 +46,11 @@ or-cases true b e = inl refl
 or-cases false true e = inr refl
 or-cases false false e = cc
 
-pub noted-push : (t : ClassTable) (ids ids' : List ℕ) (id : ℕ) → AreBroken t ids → IsBroken t id → ids' ≡ cond (list_any (λ (k : ℕ). eqb id k) ids) ids (ids ++ id ∷ []) → AreBroken t ids'
+pub noted-push : (t : ClassTable) (ids ids' : List ℕ) (id : ℕ) → AreBroken t ids → IsBroken t id → ids' ≡ cond (list_any (λ (k : ℕ). eqb id k) ids) ids
+    (ids ++ id ∷ []) → AreBroken t ids'
 noted-push t ids ids' id all broken grown q there =
-    by (or-cases (list_any (λ (k : ℕ). eqb q k) ids) (eqb q id) (sym (ap (list_any (λ (k : ℕ). eqb q k)) grown ∙ known-noted id ids q (list_any (λ (k : ℕ). eqb id k) ids) refl) ∙ there))
+    by (or-cases (list_any (λ (k : ℕ). eqb q k) ids) (eqb q id)
+    (sym (ap (list_any (λ (k : ℕ). eqb q k)) grown ∙ known-noted id ids q (list_any (λ (k : ℕ). eqb id k) ids) refl) ∙ there))
   where
     by : (list_any (λ (k : ℕ). eqb q k) ids ≡ true) ⊎ (eqb q id ≡ true) → IsBroken t q
     by (inl old) = all q old
@@ -61,7 +68,8 @@ none-some : (k : ResolvedClass) → ◌≡◌ {A = Option ResolvedClass} None (S
 none-some k e = cc
 
 -- a class that is kept, or that has the ID 0
-pub adds-kept : (t : ClassTable) (x : PlacedClass) (start : ℕ) (rows rows' : List Row) (ids : List ℕ) → start ≡ x.class.id → AreBroken t ids → KeepsPath t start rows rows' → AddsClass t x rows rows' ids
+pub adds-kept : (t : ClassTable) (x : PlacedClass) (start : ℕ) (rows rows' : List Row) (ids : List ℕ) → start ≡ x.class.id → AreBroken t ids
+    → KeepsPath t start rows rows' → AddsClass t x rows rows' ids
 adds-kept t x start rows rows' ids same broken h =
     let top : IsTop rows' x.class.id = subst (IsTop rows') same h.top in
     record { kept = h.kept; more = h.more; broken = broken; ends = ends top; settled = λ k is. settled k is top }
@@ -78,7 +86,8 @@ adds-kept t x start rows rows' ids same broken h =
     settled k is (inr there) = there
 
 -- a class with a broken chain
-pub adds-broken : (t : ClassTable) (x : PlacedClass) (start : ℕ) (rows : List Row) (ids : List ℕ) → start ≡ x.class.id → AreKept t rows → ArePathBroken t start ids → AddsClass t x rows rows ids
+pub adds-broken : (t : ClassTable) (x : PlacedClass) (start : ℕ) (rows : List Row) (ids : List ℕ) → start ≡ x.class.id → AreKept t rows
+    → ArePathBroken t start ids → AddsClass t x rows rows ids
 adds-broken t x start rows ids same kept h =
     let broken : IsBroken t x.class.id = subst (IsBroken t) same h.broken in
     record {
@@ -90,16 +99,20 @@ adds-broken t x start rows ids same kept h =
     }
 
 -- a class whose chain never ends
-case-class : (o : Option (Bor ClassDump)) (q : Option ClassItem) → option_map (λ (b : Bor ClassDump). class_view b.now) o ≡ q → is_some o ≡ true → (c : ClassItem) × (q ≡ Some c)
+case-class : (o : Option (Bor ClassDump)) (q : Option ClassItem) → option_map (λ (b : Bor ClassDump). class_view b.now) o ≡ q → is_some o ≡ true
+    → (c : ClassItem) × (q ≡ Some c)
 case-class None q is some = cc
 case-class (Some b) q is some = (class_view b.now, sym is)
 
-pub never-ends : (t : ClassTable) (x : PlacedClass) (rows : List Row) (ids : List ℕ) (p : Path) (o : Option (Bor ClassDump)) → IsPath t rows ids x.class.id p → is_kept rows p.end ≡ false → list_any (λ (id : ℕ). eqb p.end id) ids ≡ false
-    → option_map (λ (b : Bor ClassDump). class_view b.now) o ≡ class_at t.classes p.end → is_some o ≡ true → cycle_at t x ≡ Some (fault causes.ClassCycle x.offset)
+pub never-ends : (t : ClassTable) (x : PlacedClass) (rows : List Row) (ids : List ℕ) (p : Path) (o : Option (Bor ClassDump)) → IsPath t rows ids x.class.id p
+    → is_kept rows p.end ≡ false → list_any (λ (id : ℕ). eqb p.end id) ids ≡ false
+    → option_map (λ (b : Bor ClassDump). class_view b.now) o ≡ class_at t.classes p.end → is_some o ≡ true
+    → cycle_at t x ≡ Some (fault causes.ClassCycle x.offset)
 never-ends t x rows ids p o is kept noted class some =
     let next = case-class o (class_at t.classes p.end) class some in
     let long : length (path_view p.classes.items) ≡ length t.classes = as-many p.classes.items ∙ is.stops kept noted next.0 next.1 in
-    let never : never_ends t.classes x.class.id ≡ true = ap (never_ends t.classes) (sym is.starts) ∙ path-cycle t.classes (path_view p.classes.items) p.start p.end next.0 is.leads long next.1 in
+    let never : never_ends t.classes x.class.id ≡ true = ap (never_ends t.classes) (sym is.starts)
+    ∙ path-cycle t.classes (path_view p.classes.items) p.start p.end next.0 is.leads long next.1 in
     ap (λ (b : Bool). cond b (Some (fault causes.ClassCycle x.offset)) None) never
   where
     as-many : (bs : List (Bor ClassDump)) → length (path_view bs) ≡ length bs

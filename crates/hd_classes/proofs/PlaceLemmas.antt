@@ -1,5 +1,6 @@
 -- Where the references among the values of fields lie.
-use Rattle.std.proofs.Common.{◌≡◌, ◌∙◌, ℕ, suc, ◌+◌, ◌*◌, ◌<◌, ◌≤◌, List, [], ◌∷◌, ◌++◌, length, get_or, Bool, true, false, cond, eqb, refl, sym, ap, arith, add-zero}
+use Rattle.std.proofs.Common.{◌≡◌, ◌∙◌, ℕ, suc, ◌+◌, ◌*◌, ◌<◌, ◌≤◌, List, [], ◌∷◌, ◌++◌, length, get_or, Bool, true, false, cond, eqb, refl, sym, ap, arith}
+use Rattle.std.proofs.Common.{add-zero}
 use Rattle.hd_terms.specs.declared.IdSize.{IdSize}
 use Rattle.hd_terms.specs.declared.IdSize.TheVariants as sizes
 use Rattle.hd_terms.specs.Records.{id_len}
@@ -12,22 +13,27 @@ use Rattle.hd_classes.specs.Places.{reference_places}
 use Rattle.hd_classes.proofs.FieldLemmas.{first_fields, one-more, layout_len-cons}
 
 -- those of fields and of those behind them
-pub places-append : (size : IdSize) (at : ℕ) (xs ys : List classes_of.LayoutField) → reference_places size at (xs ++ ys) ≡ reference_places size at xs ++ reference_places size (at + layout_len size xs) ys
+pub places-append : (size : IdSize) (at : ℕ) (xs ys : List classes_of.LayoutField) → reference_places size at (xs ++ ys) ≡ reference_places size at xs
+    ++ reference_places size (at + layout_len size xs) ys
 places-append size at [] ys = ap (λ (n : ℕ). reference_places size n ys) (sym (add-zero at))
 places-append size at (x ∷ xs) ys =
     let next = at + value_len size x.code in
     let offset : next + layout_len size xs ≡ at + layout_len size (x ∷ xs) = omega (arith, layout_len-cons size x xs) in
     by_type (is_id_type x.code) (places-append size next xs ys ∙ ap (λ (n : ℕ). reference_places size next xs ++ reference_places size n ys) offset)
   where
-    by_type : (b : Bool) → reference_places size (at + value_len size x.code) (xs ++ ys) ≡ reference_places size (at + value_len size x.code) xs ++ reference_places size (at + layout_len size (x ∷ xs)) ys
+    by_type : (b : Bool) → reference_places size (at + value_len size x.code) (xs ++ ys) ≡ reference_places size (at + value_len size x.code) xs
+        ++ reference_places size (at + layout_len size (x ∷ xs)) ys
         → cond b (at ∷ reference_places size (at + value_len size x.code) (xs ++ ys)) (reference_places size (at + value_len size x.code) (xs ++ ys))
-        ≡ cond b (at ∷ reference_places size (at + value_len size x.code) xs) (reference_places size (at + value_len size x.code) xs) ++ reference_places size (at + layout_len size (x ∷ xs)) ys
+        ≡ cond b (at ∷ reference_places size (at + value_len size x.code) xs) (reference_places size (at + value_len size x.code) xs)
+        ++ reference_places size (at + layout_len size (x ∷ xs)) ys
     by_type true e = ap (λ (ps : List ℕ). at ∷ ps) e
     by_type false e = e
 
 -- one more place, or none
-pub places-more : (size : IdSize) (start : ℕ) (xs : List LayoutField) (i : ℕ) (d : LayoutField) → i < length xs → (b : Bool) → is_id_type (get_or xs i d).code ≡ b
-    → reference_places size start (first_fields xs (i + 1)) ≡ reference_places size start (first_fields xs i) ++ cond b ((start + layout_len size (first_fields xs i)) ∷ []) []
+pub places-more : (size : IdSize) (start : ℕ) (xs : List LayoutField) (i : ℕ) (d : LayoutField) → i < length xs → (b : Bool)
+    → is_id_type (get_or xs i d).code ≡ b
+    → reference_places size start (first_fields xs (i + 1)) ≡ reference_places size start (first_fields xs i)
+    ++ cond b ((start + layout_len size (first_fields xs i)) ∷ []) []
 places-more size start xs i d lt b is =
     ap (reference_places size start) (one-more xs i d lt)
     ∙ places-append size start (first_fields xs i) (field_view (get_or xs i d) ∷ [])

@@ -1,5 +1,6 @@
 -- How many elements have the key of an earlier one.
-use Rattle.std.proofs.Common.{◌≡◌, ◌∙◌, ℕ, ◌+◌, ◌≤◌, List, [], ◌∷◌, ◌++◌, length, map, Bool, true, false, ◌||◌, cond, eqb, eqb-true, refl, sym, ap, arith, append_assoc, length-append}
+use Rattle.std.proofs.Common.{◌≡◌, ◌∙◌, ℕ, ◌+◌, ◌≤◌, List, [], ◌∷◌, ◌++◌, length, map, Bool, true, false, ◌||◌, cond, eqb, eqb-true, refl, sym, ap, arith}
+use Rattle.std.proofs.Common.{append_assoc, length-append}
 use Rattle.std.specs.Prelude.{count_by}
 use Rattle.std.specs.List.{list_any, enumerate_from}
 use Rattle.std.proofs.lemmas.List.{append-nil, map-append}
@@ -26,7 +27,8 @@ module _ {X : Type 0} (key : X → ℕ) where
       ∙ ap (λ (n : ℕ). count_by (is_repeat key ((before ++ x ∷ []) ++ xs)) (enumerate_from n xs)) (sym (length-append before (x ∷ [])))
       ∙ repeats-from (before ++ x ∷ []) xs in
       sum_by-cons (λ p. cond (is_repeat key all p) 1 0) (length before, x) (enumerate_from (length before + 1) xs)
-      ∙ ap (λ (ys : List X). cond (is_known key ys x) 1 0 + count_by (is_repeat key all) (enumerate_from (length before + 1) xs)) (take-append_seam before (x ∷ xs))
+      ∙ ap (λ (ys : List X). cond (is_known key ys x) 1 0 + count_by (is_repeat key all) (enumerate_from (length before + 1) xs))
+      (take-append_seam before (x ∷ xs))
       ∙ ap (λ (n : ℕ). cond (is_known key before x) 1 0 + n) rest
 
   pub repeats-are : (xs : List X) → repeats key xs ≡ repeats_from [] xs
@@ -38,7 +40,8 @@ module _ {X : Type 0} (key : X → ℕ) where
       ap (λ (b : Bool). cond b 1 0 + 0) here ∙ omega arith
   repeats_from-push before (a ∷ xs) x =
       let more : repeats_from (before ++ a ∷ []) (xs ++ x ∷ []) ≡ repeats_from (before ++ a ∷ []) xs + cond (is_known key (before ++ a ∷ xs) x) 1 0 =
-      repeats_from-push (before ++ a ∷ []) xs x ∙ ap (λ (b : List X). repeats_from (before ++ a ∷ []) xs + cond (is_known key b x) 1 0) (append_assoc before (a ∷ []) xs) in
+      repeats_from-push (before ++ a ∷ []) xs x ∙ ap (λ (b : List X). repeats_from (before ++ a ∷ []) xs + cond (is_known key b x) 1 0)
+      (append_assoc before (a ∷ []) xs) in
       ap (λ (n : ℕ). cond (is_known key before a) 1 0 + n) more ∙ omega arith
 
   -- one more at the end
@@ -49,11 +52,13 @@ module _ {X : Type 0} (key : X → ℕ) where
   repeats-le xs = omega (arith, count_by-le-length (is_repeat key xs) (enumerate_from 0 xs), length-enumerate_from 0 xs)
 
 -- the same at other elements of the same keys
-repeats_from-map : {X Y : Type 0} (key : X → ℕ) (f : Y → X) (before ys : List Y) → repeats_from key (map f before) (map f ys) ≡ repeats_from (λ y. key (f y)) before ys
+repeats_from-map : {X Y : Type 0} (key : X → ℕ) (f : Y → X) (before ys : List Y) → repeats_from key (map f before) (map f ys) ≡ repeats_from
+    (λ y. key (f y)) before ys
 repeats_from-map key f before [] = refl
 repeats_from-map key f before (y ∷ ys) =
     ap (λ (b : Bool). cond b 1 0 + repeats_from key (map f before ++ f y ∷ []) (map f ys)) (known-map key f before y)
-    ∙ ap (λ (n : ℕ). cond (is_known (λ z. key (f z)) before y) 1 0 + n) (ap (λ b. repeats_from key b (map f ys)) (sym (map-append f before (y ∷ []))) ∙ repeats_from-map key f (before ++ y ∷ []) ys)
+    ∙ ap (λ (n : ℕ). cond (is_known (λ z. key (f z)) before y) 1 0 + n) (ap (λ b. repeats_from key b (map f ys)) (sym (map-append f before (y ∷ [])))
+    ∙ repeats_from-map key f (before ++ y ∷ []) ys)
 
 pub repeats-map : {X Y : Type 0} (key : X → ℕ) (f : Y → X) (ys : List Y) → repeats key (map f ys) ≡ repeats (λ y. key (f y)) ys
 repeats-map key f ys = repeats-are key (map f ys) ∙ repeats_from-map key f [] ys ∙ sym (repeats-are (λ y. key (f y)) ys)
@@ -64,7 +69,8 @@ module _ (id : ℕ) (ids : List ℕ) where
   case-or false true h = h refl
   case-or false false h = refl
 
-  pub known-noted : (q : ℕ) (b : Bool) → list_any (λ k. eqb id k) ids ≡ b → list_any (λ k. eqb q k) (cond b ids (ids ++ id ∷ [])) ≡ (list_any (λ k. eqb q k) ids || (eqb q id || false))
+  pub known-noted : (q : ℕ) (b : Bool) → list_any (λ k. eqb id k) ids ≡ b → list_any (λ k. eqb q k) (cond b ids (ids ++ id ∷ [])) ≡
+      (list_any (λ k. eqb q k) ids || (eqb q id || false))
   known-noted q true e = case-or (list_any (λ k. eqb q k) ids) (eqb q id) (λ same_id. ap (λ (n : ℕ). list_any (λ k. eqb n k) ids) (eqb-true q id same_id) ∙ e)
   known-noted q false e = list_any-append (λ k. eqb q k) ids (id ∷ [])
 

@@ -1,5 +1,6 @@
 -- Lemmas on what is first in a list.
-use Rattle.std.proofs.Common.{◌≡◌, ◌∙◌, ℕ, zero, suc, ◌+◌, ◌<◌, ◌≤◌, List, [], ◌∷◌, ◌++◌, length, get_or, map, take, drop, Option, Some, None, Bool, true, false, not, cond, eqb, ltb, refl, sym, ap, subst, arith, All}
+use Rattle.std.proofs.Common.{◌≡◌, ◌∙◌, ℕ, zero, suc, ◌+◌, ◌<◌, ◌≤◌, List, [], ◌∷◌, ◌++◌, length, get_or, map, take, drop, Option, Some, None, Bool, true}
+use Rattle.std.proofs.Common.{false, not, cond, eqb, ltb, refl, sym, ap, subst, arith, All}
 use Rattle.std.specs.List.{filter_map, cons_option, find, position, prefix_len, slice_get}
 use Rattle.std.specs.Option.{option_map}
 use Rattle.std.specs.Str.{bytes_eq}
@@ -56,7 +57,8 @@ module _ {X : Type 0} (p : X → Bool) where
       ap (λ (b : Bool). cond (not b) (1 + prefix_len (λ (y : X). not (p y)) xs) 0) (before zero z (omega arith) refl)
       ∙ ap (λ (n : ℕ). 1 + n) rest ∙ omega arith
 
-  pub position-is : (xs : List X) (i : ℕ) (x : X) → slice_get xs i ≡ Some x → p x ≡ true → ((k : ℕ) (y : X) → k < i → slice_get xs k ≡ Some y → p y ≡ false) → position p xs ≡ Some i
+  pub position-is : (xs : List X) (i : ℕ) (x : X) → slice_get xs i ≡ Some x → p x ≡ true → ((k : ℕ) (y : X) → k < i → slice_get xs k ≡ Some y → p y ≡ false)
+      → position p xs ≡ Some i
   position-is xs i x at passes before =
       ap (λ (n : ℕ). cond (ltb n (length xs)) (Some n) None) (prefix-is xs i x at passes before)
       ∙ ap (λ (b : Bool). cond b (Some i) None) (lt-ltb i (length xs) (slice_get_within xs i x at))
@@ -100,7 +102,8 @@ module _ (f : ℕ → ℕ) where
   all-alike [] (y ∷ ys) e same = absurd (omega arith)
   all-alike (x ∷ xs) [] e same = absurd (omega arith)
   all-alike (x ∷ xs) (y ∷ ys) e same =
-      ap (λ (z : ℕ). z ∷ map f xs) (same zero (omega arith)) ∙ ap (λ (zs : List ℕ). y ∷ zs) (all-alike xs ys (omega arith) (λ (k : ℕ) lt. same (suc k) (omega arith)))
+      ap (λ (z : ℕ). z ∷ map f xs) (same zero (omega arith))
+      ∙ ap (λ (zs : List ℕ). y ∷ zs) (all-alike xs ys (omega arith) (λ (k : ℕ) lt. same (suc k) (omega arith)))
 
   alike-at : (xs : List ℕ) (i : ℕ) → i < length xs → f (get_or xs i 0) ≡ get_or (map f xs) i 0
   alike-at [] i lt = absurd (omega arith)
@@ -126,7 +129,8 @@ pub all-found : {X : Type 0} (P : X → Type 0) (p : X → Bool) (xs : List X) (
 all-found P p [] x all is = cc
 all-found P p (z ∷ xs) x all is = found-by P (p z) z x (find p xs) (All-head P z xs all) (all-found P p xs x (All-tail P z xs all)) is
 
-text-by : (n : ℕ) (o : Option Text) (span : Span) → ((x : Text) → o ≡ Some x → IsTextWithin n x) → Some span ≡ option_map (λ (x : Text). x.text) o → span.start + span.len ≤ n
+text-by : (n : ℕ) (o : Option Text) (span : Span) → ((x : Text) → o ≡ Some x → IsTextWithin n x) → Some span ≡ option_map (λ (x : Text). x.text) o
+    → span.start + span.len ≤ n
 text-by n None span all is = absurd (none-some (sym is))
   where
     none-some : ◌≡◌ {A = Option Span} None (Some span) → ⊥
@@ -134,6 +138,7 @@ text-by n None span all is = absurd (none-some (sym is))
 text-by n (Some x) span all is = let same : x.text ≡ span = cc in let P : Span → Type 0 = λ (s : Span). s.start + s.len ≤ n in subst P same (all x refl)
 
 -- a text that is found lies within the file
-pub text-within : (n : ℕ) (texts : List Text) (id : ℕ) (span : Span) → All (IsTextWithin n) texts → Some span ≡ option_map (λ (x : Text). x.text) (find (λ (x : Text). eqb id x.id) texts) → span.start + span.len ≤ n
+pub text-within : (n : ℕ) (texts : List Text) (id : ℕ) (span : Span) → All (IsTextWithin n) texts
+    → Some span ≡ option_map (λ (x : Text). x.text) (find (λ (x : Text). eqb id x.id) texts) → span.start + span.len ≤ n
 text-within n texts id span all is =
     text-by n (find (λ (x : Text). eqb id x.id) texts) span (λ (x : Text) e. all-found (IsTextWithin n) (λ (y : Text). eqb id y.id) texts x all e) is

@@ -1,5 +1,6 @@
 -- Lemmas on the texts of two sides: what is found by the texts of both, and how many of them are repeated.
-use Rattle.std.proofs.Common.{◌≡◌, ◌∙◌, ℕ, ◌+◌, ◌<◌, ◌≤◌, ◌/◌, ◌%◌, List, [], ◌∷◌, ◌++◌, length, get_or, take, Option, Some, None, Bool, true, false, cond, eqb, eqb-true, refl, sym, ap, arith, subst}
+use Rattle.std.proofs.Common.{◌≡◌, ◌∙◌, ℕ, ◌+◌, ◌<◌, ◌≤◌, ◌/◌, ◌%◌, List, [], ◌∷◌, ◌++◌, length, get_or, take, Option, Some, None, Bool, true, false, cond, eqb}
+use Rattle.std.proofs.Common.{eqb-true, refl, sym, ap, arith, subst}
 use Rattle.std.specs.Prelude.{not, is_some}
 use Rattle.std.specs.List.{find, filter}
 use Rattle.std.specs.Option.{option_map, option_or}
@@ -40,7 +41,8 @@ module _ {X : Type 0} (test p : X → Bool) (b : Bool) (same : (x : X) → test 
   case-same o true = refl
   case-same o false = refl
 
-  case-find : (x : X) (xs : List X) (found : Option X) (t q c : Bool) → test x ≡ t → (t ≡ true → q ≡ c) → find test xs ≡ cond c found None → find test (cond q (x ∷ xs) xs) ≡ cond c (cond t (Some x) found) None
+  case-find : (x : X) (xs : List X) (found : Option X) (t q c : Bool) → test x ≡ t → (t ≡ true → q ≡ c) → find test xs ≡ cond c found None
+      → find test (cond q (x ∷ xs) xs) ≡ cond c (cond t (Some x) found) None
   case-find x xs found false true c e h is = ap (λ (t : Bool). cond t (Some x) (find test xs)) e ∙ is
   case-find x xs found false false c e h is = is
   case-find x xs found true true true e h is = ap (λ (t : Bool). cond t (Some x) (find test xs)) e
@@ -59,20 +61,25 @@ module _ {X : Type 0} (key : X → ℕ) (p : ℕ → Bool) where
 
   -- those of the part that are known are all of that key
   part-known : (before : List X) (x : X) → p (key x) ≡ true → is_known key (part before) x ≡ is_known key before x
-  part-known before x on = any-filter_same (λ (y : X). eqb (key x) (key y)) (λ (y : X). p (key y)) true (λ (y : X) e. ap p (sym (eqb-true (key x) (key y) e)) ∙ on) before
+  part-known before x on = any-filter_same (λ (y : X). eqb (key x) (key y)) (λ (y : X). p (key y)) true (λ (y : X) e. ap p (sym (eqb-true (key x) (key y) e))
+      ∙ on) before
 
   case-zero : (n : ℕ) → n ≡ 0 + n
   case-zero n = omega arith
 
   case-step : (before : List X) (x : X) (xs : List X) (b : Bool) → p (key x) ≡ b
-      → repeats_from key (part before) (cond b (x ∷ part xs) (part xs)) ≡ cond b (cond (is_known key before x) 1 0) 0 + repeats_from key (part before ++ cond b (x ∷ []) []) (part xs)
+      → repeats_from key (part before) (cond b (x ∷ part xs) (part xs)) ≡ cond b (cond (is_known key before x) 1 0) 0 + repeats_from key
+      (part before ++ cond b (x ∷ []) []) (part xs)
   case-step before x xs true on = ap (λ (k : Bool). cond k 1 0 + repeats_from key (part before ++ x ∷ []) (part xs)) (part-known before x on)
-  case-step before x xs false off = ap (λ (ys : List X). repeats_from key ys (part xs)) (sym (append-nil (part before))) ∙ case-zero (repeats_from key (part before ++ []) (part xs))
+  case-step before x xs false off = ap (λ (ys : List X). repeats_from key ys (part xs)) (sym (append-nil (part before)))
+      ∙ case-zero (repeats_from key (part before ++ []) (part xs))
 
-  part-step : (before : List X) (x : X) (xs : List X) → repeats_from key (part before) (part (x ∷ xs)) ≡ cond (p (key x)) (cond (is_known key before x) 1 0) 0 + repeats_from key (part (before ++ x ∷ [])) (part xs)
+  part-step : (before : List X) (x : X) (xs : List X) → repeats_from key (part before) (part (x ∷ xs)) ≡ cond (p (key x))
+      (cond (is_known key before x) 1 0) 0 + repeats_from key (part (before ++ x ∷ [])) (part xs)
   part-step before x xs =
       case-step before x xs (p (key x)) refl
-      ∙ ap (λ (ys : List X). cond (p (key x)) (cond (is_known key before x) 1 0) 0 + repeats_from key ys (part xs)) (sym (filter-append (λ (y : X). p (key y)) before (x ∷ [])))
+      ∙ ap (λ (ys : List X). cond (p (key x)) (cond (is_known key before x) 1 0) 0 + repeats_from key ys (part xs))
+      (sym (filter-append (λ (y : X). p (key y)) before (x ∷ [])))
 
 module _ {X : Type 0} (key : X → ℕ) (p : ℕ → Bool) where
   abbrev others : ℕ → Bool
@@ -82,7 +89,8 @@ module _ {X : Type 0} (key : X → ℕ) (p : ℕ → Bool) where
   case-sum true n m k = omega arith
   case-sum false n m k = omega arith
 
-  repeats_from-parts : (before xs : List X) → repeats_from key before xs ≡ repeats_from key (part key others before) (part key others xs) + repeats_from key (part key p before) (part key p xs)
+  repeats_from-parts : (before xs : List X) → repeats_from key before xs ≡ repeats_from key (part key others before) (part key others xs) + repeats_from key
+      (part key p before) (part key p xs)
   repeats_from-parts before [] = refl
   repeats_from-parts before (x ∷ xs) =
       let n : ℕ = cond (is_known key before x) 1 0 in
@@ -108,7 +116,8 @@ abbrev span_of : Text → Span
 span_of x = x.text
 
 -- one text after another, of a side
-module _ (odd : Bool) (xs : List Text) (i : ℕ) (d : Text) (entries : List (ℕ × Span)) (repeated : ℕ) (within : i < length xs) (before : AreFirstOfSide odd (take i xs) entries repeated) where
+module _ (odd : Bool) (xs : List Text) (i : ℕ) (d : Text) (entries : List (ℕ × Span)) (repeated : ℕ) (within : i < length xs)
+    (before : AreFirstOfSide odd (take i xs) entries repeated) where
   abbrev text : Text
   text = get_or xs i d
 
@@ -122,22 +131,30 @@ module _ (odd : Bool) (xs : List Text) (i : ℕ) (d : Text) (entries : List (ℕ
   -- a text of the other side changes nothing
   pub side-other : is_on_side odd text.id ≡ false → AreFirstOfSide odd (take (i + 1) xs) entries repeated
   side-other off =
-      let p = subst (λ (ys : List Text). IsFirst ys entries repeated) (sym (of_side false off ∙ append-nil (texts_of_side odd (take i xs)))) (before.texts, before.count) in
+      let p = subst (λ (ys : List Text). IsFirst ys entries repeated) (sym (of_side false off ∙ append-nil (texts_of_side odd (take i xs))))
+      (before.texts, before.count) in
       record { texts = p.0; count = p.1 }
 
   -- a text of the side is kept unless its ID is known, and counted if it is
-  side-next : is_on_side odd text.id ≡ true → (entries' : List (ℕ × Span)) (known : Bool) → known ≡ is_some (lookup (λ (y : ℕ). eqb text.id y) entries) → KeepsFirst text.id text.text entries entries'
+  side-next : is_on_side odd text.id ≡ true → (entries' : List (ℕ × Span)) (known : Bool) → known ≡ is_some (lookup (λ (y : ℕ). eqb text.id y) entries)
+      → KeepsFirst text.id text.text entries entries'
       → AreFirstOfSide odd (take (i + 1) xs) entries' (repeated + cond known 1 0)
   side-next on entries' known is more =
       let ys = texts_of_side odd (take i xs) in
-      let p = subst (λ (zs : List Text). IsFirst zs entries' (repeated + cond known 1 0)) (sym (of_side true on)) (first-next id_of span_of ys text entries entries' more before.texts, more-repeated id_of span_of ys text entries known repeated is before.texts before.count) in
+      let p = subst (λ (zs : List Text). IsFirst zs entries' (repeated + cond known 1 0)) (sym (of_side true on)) (
+        first-next id_of span_of ys text entries entries' more before.texts,
+        more-repeated id_of span_of ys text entries known repeated is before.texts
+            before.count,
+      ) in
       record { texts = p.0; count = p.1 }
 
-  pub side-known : is_on_side odd text.id ≡ true → (entries' : List (ℕ × Span)) → true ≡ is_some (lookup (λ (y : ℕ). eqb text.id y) entries) → KeepsFirst text.id text.text entries entries'
+  pub side-known : is_on_side odd text.id ≡ true → (entries' : List (ℕ × Span)) → true ≡ is_some (lookup (λ (y : ℕ). eqb text.id y) entries)
+      → KeepsFirst text.id text.text entries entries'
       → AreFirstOfSide odd (take (i + 1) xs) entries' (repeated + 1)
   side-known on entries' is more = side-next on entries' true is more
 
-  pub side-new : is_on_side odd text.id ≡ true → (entries' : List (ℕ × Span)) → false ≡ is_some (lookup (λ (y : ℕ). eqb text.id y) entries) → KeepsFirst text.id text.text entries entries'
+  pub side-new : is_on_side odd text.id ≡ true → (entries' : List (ℕ × Span)) → false ≡ is_some (lookup (λ (y : ℕ). eqb text.id y) entries)
+      → KeepsFirst text.id text.text entries entries'
       → AreFirstOfSide odd (take (i + 1) xs) entries' repeated
   side-new on entries' is more =
       let same : repeated + 0 ≡ repeated = omega arith in
@@ -147,7 +164,15 @@ module _ (odd : Bool) (xs : List Text) (i : ℕ) (d : Text) (entries : List (ℕ
 pub side-le : (odd : Bool) (xs : List Text) (i : ℕ) (entries : List (ℕ × Span)) (repeated : ℕ) → AreFirstOfSide odd (take i xs) entries repeated → repeated ≤ i
 side-le odd xs i entries repeated before =
     let p = λ (x : Text). is_on_side odd x.id in
-    omega (arith, before.count, repeats-le id_of (texts_of_side odd (take i xs)), length-filter p (take i xs), count_by-le-length p (take i xs), length-take i xs)
+    omega (
+      arith,
+      before.count,
+      repeats-le id_of (texts_of_side odd (take i xs)),
+      length-filter p (take i xs),
+      count_by-le-length p
+          (take i xs),
+      length-take i xs,
+    )
 
 -- the texts of both sides are all texts
 module _ (strings : List Text) where
@@ -158,10 +183,12 @@ module _ (strings : List Text) where
   case-sides true o = refl
   case-sides false o = option_or-none (option_map span_of o)
 
-  found-in : (odd : Bool) (id : ℕ) → find (λ (x : Text). eqb id x.id) (texts_of_side odd strings) ≡ cond (is_on_side odd id) (find (λ (x : Text). eqb id x.id) strings) None
+  found-in : (odd : Bool) (id : ℕ) → find (λ (x : Text). eqb id x.id) (texts_of_side odd strings) ≡ cond (is_on_side odd id)
+      (find (λ (x : Text). eqb id x.id) strings) None
   found-in odd id = find-filter (λ (x : Text). eqb id x.id) (λ (x : Text). is_on_side odd x.id) (is_on_side odd id) (side-same odd id) strings
 
-  pub both-texts : (even odd : List (ℕ × Span)) → HasFirstTexts (texts_of_side false strings) even → HasFirstTexts (texts_of_side true strings) odd → HasFirstTexts strings (even ++ odd)
+  pub both-texts : (even odd : List (ℕ × Span)) → HasFirstTexts (texts_of_side false strings) even → HasFirstTexts (texts_of_side true strings) odd
+      → HasFirstTexts strings (even ++ odd)
   both-texts even odd h k = λ (id : ℕ).
       let test : ℕ → Bool = λ (x : ℕ). eqb id x in
       let found = find (λ (x : Text). eqb id x.id) strings in
@@ -171,7 +198,8 @@ module _ (strings : List Text) where
       ∙ case-sides (eqb (id / 8 % 2) 1) found
 
   pub both-counts : (n m : ℕ) → n ≡ repeats id_of (texts_of_side false strings) → m ≡ repeats id_of (texts_of_side true strings) → n + m ≡ repeats id_of strings
-  both-counts n m is also = ap (λ (k : ℕ). k + m) is ∙ ap (λ (k : ℕ). repeats id_of (texts_of_side false strings) + k) also ∙ sym (repeats-parts id_of (λ (id : ℕ). eqb (id / 8 % 2) 1) strings)
+  both-counts n m is also = ap (λ (k : ℕ). k + m) is ∙ ap (λ (k : ℕ). repeats id_of (texts_of_side false strings) + k) also
+      ∙ sym (repeats-parts id_of (λ (id : ℕ). eqb (id / 8 % 2) 1) strings)
 
   -- so they are no more than there are texts
   pub both-le : (n m : ℕ) → n ≡ repeats id_of (texts_of_side false strings) → m ≡ repeats id_of (texts_of_side true strings) → n + m ≤ length strings

@@ -29,7 +29,8 @@ pub record IsCopy (bytes text : List ℕ) (span part : Span) : Type 0 where
 
 -- these parts of a text are copies of what lies at their offsets of the file
 abbrev pub AreCopies : List ℕ → List ℕ → List (ℕ × Span) → Type 0
-AreCopies bytes text copies = (offset : ℕ) (part : Span) → lookup (λ (x : ℕ). offset == x) copies ≡ Some part → IsCopy bytes text (record { start = offset; len = part.len }) part
+AreCopies bytes text copies = (offset : ℕ) (part : Span) → lookup (λ (x : ℕ). offset == x) copies ≡ Some part
+    → IsCopy bytes text (record { start = offset; len = part.len }) part
 
 -- a span is copied: the text goes on, and its copies are known
 pub record CopiesText (bytes : List ℕ) (span part : Span) (text text' : List ℕ) (copies' : List (ℕ × Span)) : Type 0 where
@@ -55,4 +56,5 @@ pub record HasNames (bytes : List ℕ) (k : Known) (loads : List Load) (c : Copi
 
 -- so is that of one class more, which lies there
 abbrev pub AddsName : List ℕ → ℕ → Option Span → CopiedNames → CopiedNames → Type 0
-AddsName bytes class name c c' = (k : Known) (loads : List Load) (l : Load) → l.class ≡ class → name_at k class ≡ name → HasNames bytes k loads c → HasNames bytes k (loads ++ l ∷ []) c'
+AddsName bytes class name c c' = (k : Known) (loads : List Load) (l : Load) → l.class ≡ class → name_at k class ≡ name → HasNames bytes k loads c
+    → HasNames bytes k (loads ++ l ∷ []) c'

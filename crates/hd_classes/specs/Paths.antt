@@ -21,4 +21,5 @@ Leads t p = LeadUp t.classes p.start (path_view p.classes.items) p.end
 pub record IsPath (t : ClassTable) (rows : List Row) (broken : List ℕ) (start : ℕ) (p : Path) : Type 0 where
   pub starts : p.start ≡ start
   pub leads : Leads t p
-  pub stops : is_kept rows p.end ≡ false → list_any (λ (id : ℕ). p.end == id) broken ≡ false → (c : ClassItem) → class_at t.classes p.end ≡ Some c → length p.classes.items ≡ length t.classes
+  pub stops : is_kept rows p.end ≡ false → list_any (λ (id : ℕ). p.end == id) broken ≡ false → (c : ClassItem) → class_at t.classes p.end ≡ Some c
+      → length p.classes.items ≡ length t.classes

@@ -10,7 +10,8 @@ use Rattle.hd_classes.specs.Known.{Known, known_by_number}
 -- where the references among the values of fields lie, if the first value lies at a place
 abbrev pub reference_places : IdSize → ℕ → List LayoutField → List ℕ
 reference_places size at [] = []
-reference_places size at (f ∷ fs) = if is_id_type f.code then at ∷ reference_places size (at + value_len size f.code) fs else reference_places size (at + value_len size f.code) fs
+reference_places size at (f ∷ fs) = if is_id_type f.code then at ∷ reference_places size (at + value_len size f.code) fs else reference_places size
+    (at + value_len size f.code) fs
 
 -- so of the class of a number, from the first value of an instance on
 abbrev pub places_by_number : IdSize → Known → ℕ → List ℕ

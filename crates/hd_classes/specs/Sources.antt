@@ -17,7 +17,8 @@ use Rattle.hd_classes.specs.FirstClass.{HasFirstClasses}
 
 -- a value is kept by an ID, unless one was kept by it already
 abbrev pub KeepsFirst : {V : Type 0} → ℕ → V → (before after : List (ℕ × V)) → Type 0
-KeepsFirst id value before after = (k : ℕ) → lookup (λ (x : ℕ). k == x) after ≡ option_or (lookup (λ (x : ℕ). k == x) before) (if k == id then Some value else None)
+KeepsFirst id value before after = (k : ℕ) → lookup (λ (x : ℕ). k == x) after ≡ option_or (lookup (λ (x : ℕ). k == x) before)
+    (if k == id then Some value else None)
 
 -- the first text of each ID is kept by the ID
 abbrev pub HasFirstTexts : List Text → List (ℕ × Span) → Type 0

@@ -5,7 +5,8 @@ use Rattle.std.proofs.lemmas.List.{length-take}
 use Rattle.std.proofs.lemmas.List.Sums.{sum_by-cons}
 use Rattle.hd_terms.specs.declared.IdSize.{IdSize}
 use Rattle.hd_terms.specs.declared.Span.{Span}
-use Rattle.hd_terms.specs.SubRecords.{SubRecord, AreSubRecords, RootOf, ClassDump, InstanceDump, ObjectArray, PrimitiveArray, Sub, sub_record_text, subs_at, dump_subs_at}
+use Rattle.hd_terms.specs.SubRecords.{SubRecord, AreSubRecords, RootOf, ClassDump, InstanceDump, ObjectArray, PrimitiveArray, Sub, sub_record_text, subs_at}
+use Rattle.hd_terms.specs.SubRecords.{dump_subs_at}
 use Rattle.hd_terms.specs.Classes.{bytes_of_span}
 use Rattle.hd_decode.specs.Bodies.{AreBodies, ReadsBodies, span_total}
 
@@ -29,7 +30,8 @@ module _ (size : IdSize) (bytes : List ℕ) where
   body-few : (span : Span) (subs : List SubRecord) → AreSubRecords size (bytes_of_span bytes span) subs → length subs ≤ span.len
   body-few span subs h = omega (arith, subs-le-bytes subs, ap (λ (xs : List ℕ). length xs) h.whole, length-take span.len (drop span.start bytes))
 
-  dump-few : (spans : List Span) (segments : List (List SubRecord)) → AreBodies size bytes spans segments → length (dump_subs_at size spans segments) ≤ span_total spans
+  dump-few : (spans : List Span) (segments : List (List SubRecord)) → AreBodies size bytes spans segments
+      → length (dump_subs_at size spans segments) ≤ span_total spans
   dump-few [] [] h = omega arith
   dump-few [] (s ∷ segments) h = absurd h
   dump-few (p ∷ spans) [] h = absurd h

@@ -19,7 +19,16 @@ joined-push lists part = flat_map-append (λ (l : List Sub). l) lists (part ∷ 
 
 subs-of-whole : (lists : List (List Sub)) → subs_in (whole_parts lists) ≡ length (joined lists)
 subs-of-whole [] = refl
-subs-of-whole (l ∷ lists) = omega (arith, sum_by-cons part_len (Ok l) (whole_parts lists), subs-of-whole lists, length-flat_map (λ (l : List Sub). l) (l ∷ lists), length-flat_map (λ (l : List Sub). l) lists, sum_by-cons (λ (l : List Sub). length l) l lists)
+subs-of-whole (l ∷ lists) =
+    omega (
+      arith,
+      sum_by-cons part_len (Ok l) (whole_parts lists),
+      subs-of-whole lists,
+      length-flat_map (λ (l : List Sub). l) (l ∷ lists),
+      length-flat_map
+          (λ (l : List Sub). l) lists,
+      sum_by-cons (λ (l : List Sub). length l) l lists,
+    )
 
 module _ (parts : List Part) where
   pub none-joined : (all_rest : List Part) (list : List Sub) → all_rest ≡ parts → list ≡ [] → AreJoinedSoFar parts all_rest list
@@ -40,7 +49,8 @@ module _ (parts : List Part) where
       pub next-joined : (new : List Sub) → new ≡ old ++ part → AreJoinedSoFar parts rest new
       next-joined new is = record {
         lists = h.lists ++ part ∷ [];
-        all = h.all ∙ ap (λ (xs : List Part). whole_parts h.lists ++ xs) next ∙ sym (append_assoc (whole_parts h.lists) (Ok part ∷ []) rest) ∙ ap (λ (xs : List Part). xs ++ rest) (sym (map_push (λ (l : List Sub). Ok l) h.lists part));
+        all = h.all ∙ ap (λ (xs : List Part). whole_parts h.lists ++ xs) next ∙ sym (append_assoc (whole_parts h.lists) (Ok part ∷ []) rest)
+            ∙ ap (λ (xs : List Part). xs ++ rest) (sym (map_push (λ (l : List Sub). Ok l) h.lists part));
         list_is = is ∙ ap (λ (l : List Sub). l ++ part) h.list_is ∙ sym (joined-push h.lists part);
       }
 

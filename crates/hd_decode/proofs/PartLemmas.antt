@@ -31,19 +31,23 @@ module _ (size : IdSize) (bytes : List ℕ) where
   abbrev pub AreParts : List (Bor (List Span)) → List Part → Type 0
   AreParts shares parts = AllZip (λ (share : Bor (List Span)) (part : Part). IsPart size bytes share.now part) shares parts
 
-  pub parts-by-number : (d : Part) (shares : List (Bor (List Span))) (parts : List Part) → length parts ≡ length shares → ((i : ℕ) → i < length shares → IsPart size bytes (share_at shares i) (get_or parts i d)) → AreParts shares parts
+  pub parts-by-number : (d : Part) (shares : List (Bor (List Span))) (parts : List Part) → length parts ≡ length shares
+      → ((i : ℕ) → i < length shares → IsPart size bytes (share_at shares i) (get_or parts i d)) → AreParts shares parts
   parts-by-number d [] [] len each = tt
   parts-by-number d [] (part ∷ parts) len each = absurd (omega arith)
   parts-by-number d (share ∷ shares) [] len each = absurd (omega arith)
-  parts-by-number d (share ∷ shares) (part ∷ parts) len each = (each 0 (omega arith), parts-by-number d shares parts (omega arith) (λ i lt. each (suc i) (omega arith)))
+  parts-by-number d (share ∷ shares) (part ∷ parts) len each =
+      (each 0 (omega arith), parts-by-number d shares parts (omega arith) (λ i lt. each (suc i) (omega arith)))
 
-  whole-reads : (shares : List (Bor (List Span))) (lists : List (List Sub)) → AreParts shares (whole_parts lists) → ReadsBodies size bytes (shared shares) (joined lists)
+  whole-reads : (shares : List (Bor (List Span))) (lists : List (List Sub)) → AreParts shares (whole_parts lists)
+      → ReadsBodies size bytes (shared shares) (joined lists)
   whole-reads [] [] h = record { segments = []; whole = tt; list_is = refl }
   whole-reads [] (l ∷ lists) h = absurd h
   whole-reads (share ∷ shares) [] h = absurd h
   whole-reads (share ∷ shares) (l ∷ lists) h = reads-append size bytes share.now (shared shares) l (joined lists) h.0 (whole-reads shares lists h.1)
 
-  fault-of-all : (shares : List (Bor (List Span))) (lists : List (List Sub)) (f : ReadFault) (after : List Part) → AreParts shares (whole_parts lists ++ Err f ∷ after) → IsBodiesFaultOrMemory size bytes (shared shares) f
+  fault-of-all : (shares : List (Bor (List Span))) (lists : List (List Sub)) (f : ReadFault) (after : List Part)
+      → AreParts shares (whole_parts lists ++ Err f ∷ after) → IsBodiesFaultOrMemory size bytes (shared shares) f
   fault-of-all [] [] f after h = absurd h
   fault-of-all [] (l ∷ lists) f after h = absurd h
   fault-of-all (share ∷ shares) [] f after h = fault-in-front size bytes share.now (shared shares) f h.0
@@ -58,9 +62,17 @@ module _ (size : IdSize) (bytes : List ℕ) where
   parts-few [] (part ∷ parts) h = absurd h
   parts-few (share ∷ shares) [] h = absurd h
   parts-few (share ∷ shares) (part ∷ parts) h =
-      omega (arith, sum_by-cons part_len part parts, sum_by-append (λ (s : Span). s.len) share.now (shared shares), part-few share.now part h.0, parts-few shares parts h.1)
+      omega (
+        arith,
+        sum_by-cons part_len part parts,
+        sum_by-append (λ (s : Span). s.len) share.now
+            (shared shares),
+        part-few share.now part h.0,
+        parts-few shares parts h.1,
+      )
 
-  module _ (spans : List Span) (workers : ℕ) (shares : List (Bor (List Span))) (are : AreShares spans workers shares) (parts : List Part) (h : AreParts shares parts) where
+  module _ (spans : List Span) (workers : ℕ) (shares : List (Bor (List Span))) (are : AreShares spans workers shares) (parts : List Part)
+      (h : AreParts shares parts) where
     pub joined-reads : (list : List Sub) → AreJoined parts list → ReadsBodies size bytes spans list
     joined-reads list j = rw (← are.all, j.list_is) (whole-reads shares j.lists (subst (AreParts shares) j.all h))
 

@@ -13,14 +13,17 @@ abbrev pub any_shape : ObjectShape
 any_shape = ObjectArray 0
 
 -- all columns but their first items
-pub rest-columns : (shape : ObjectShape) (shapes : List ObjectShape) (id : ℕ) (ids row : List ℕ) (rows : List (List ℕ)) → AreColumns (shape ∷ shapes) (id ∷ ids) (row ∷ rows) → AreColumns shapes ids rows
+pub rest-columns : (shape : ObjectShape) (shapes : List ObjectShape) (id : ℕ) (ids row : List ℕ) (rows : List (List ℕ))
+    → AreColumns (shape ∷ shapes) (id ∷ ids) (row ∷ rows) → AreColumns shapes ids rows
 rest-columns shape shapes id ids row rows h = record { rows = omega (arith, h.rows); shapes = omega (arith, h.shapes); fit = h.fit.1 }
 
-pub length-row_objects : (shapes : List ObjectShape) (ids : List ℕ) (rows : List (List ℕ)) → AreColumns shapes ids rows → length (row_objects shapes ids rows) ≡ length ids
+pub length-row_objects : (shapes : List ObjectShape) (ids : List ℕ) (rows : List (List ℕ)) → AreColumns shapes ids rows
+    → length (row_objects shapes ids rows) ≡ length ids
 length-row_objects shapes [] rows h = refl
 length-row_objects shapes (id ∷ ids) [] h = absurd (omega (arith, h.rows))
 length-row_objects [] (id ∷ ids) (row ∷ rows) h = absurd (omega (arith, h.shapes))
-length-row_objects (shape ∷ shapes) (id ∷ ids) (row ∷ rows) h = let rest = length-row_objects shapes ids rows (rest-columns shape shapes id ids row rows h) in omega (arith, rest)
+length-row_objects (shape ∷ shapes) (id ∷ ids) (row ∷ rows) h = let rest = length-row_objects shapes ids rows (rest-columns shape shapes id ids row rows h) in
+    omega (arith, rest)
 
 -- the array of a number
 pub row_objects-at : (shapes : List ObjectShape) (ids : List ℕ) (rows : List (List ℕ)) → AreColumns shapes ids rows → (d : ObjectShape) (o : ℕ) → o < length ids
@@ -29,7 +32,8 @@ row_objects-at shapes [] rows h d o lt = absurd (omega arith)
 row_objects-at shapes (id ∷ ids) [] h d o lt = absurd (omega (arith, h.rows))
 row_objects-at [] (id ∷ ids) (row ∷ rows) h d o lt = absurd (omega (arith, h.shapes))
 row_objects-at (shape ∷ shapes) (id ∷ ids) (row ∷ rows) h d zero lt = refl
-row_objects-at (shape ∷ shapes) (id ∷ ids) (row ∷ rows) h d (suc o) lt = row_objects-at shapes ids rows (rest-columns shape shapes id ids row rows h) d o (omega arith)
+row_objects-at (shape ∷ shapes) (id ∷ ids) (row ∷ rows) h d (suc o) lt = row_objects-at shapes ids rows (rest-columns shape shapes id ids row rows h) d o
+    (omega arith)
 
 prefix-row_objects : (wanted : ℕ) (shapes : List ObjectShape) (ids : List ℕ) (rows : List (List ℕ)) → AreColumns shapes ids rows
     → prefix_len (λ (x : Object). not (eqb wanted x.id)) (row_objects shapes ids rows) ≡ prefix_len (λ x. not (eqb wanted x)) ids
@@ -44,10 +48,12 @@ pub index_of-row_objects : (shapes : List ObjectShape) (wanted : ℕ) (ids : Lis
     → index_of (row_objects shapes ids rows) wanted ≡ position (λ x. eqb wanted x) ids
 index_of-row_objects shapes wanted ids rows h =
     ap (λ (n : ℕ). cond (ltb n (length (row_objects shapes ids rows))) (Some n) None) (prefix-row_objects wanted shapes ids rows h)
-    ∙ ap (λ (m : ℕ). cond (ltb (prefix_len (λ x. not (eqb wanted x)) ids) m) (Some (prefix_len (λ x. not (eqb wanted x)) ids)) None) (length-row_objects shapes ids rows h)
+    ∙ ap (λ (m : ℕ). cond (ltb (prefix_len (λ x. not (eqb wanted x)) ids) m) (Some (prefix_len (λ x. not (eqb wanted x)) ids)) None)
+    (length-row_objects shapes ids rows h)
 
 -- a shape fits its row
-pub fit-at : (shapes : List ObjectShape) (rows : List (List ℕ)) → AllZip HasShape shapes rows → (d : ObjectShape) (o : ℕ) → o < length rows → HasShape (get_or shapes o d) (get_or rows o [])
+pub fit-at : (shapes : List ObjectShape) (rows : List (List ℕ)) → AllZip HasShape shapes rows → (d : ObjectShape) (o : ℕ) → o < length rows
+    → HasShape (get_or shapes o d) (get_or rows o [])
 fit-at [] [] fit d o lt = absurd (omega arith)
 fit-at [] (row ∷ rows) fit d o lt = absurd fit
 fit-at (shape ∷ shapes) [] fit d o lt = absurd (omega arith)
@@ -55,12 +61,14 @@ fit-at (shape ∷ shapes) (row ∷ rows) fit d zero lt = fit.0
 fit-at (shape ∷ shapes) (row ∷ rows) fit d (suc o) lt = fit-at shapes rows fit.1 d o (omega arith)
 
 -- the slots of the object of a number
-pub slots-at : (shapes : List ObjectShape) (ids : List ℕ) (rows : List (List ℕ)) → AreColumns shapes ids rows → (d : ObjectShape) (o : ℕ) → o < length (row_objects shapes ids rows)
+pub slots-at : (shapes : List ObjectShape) (ids : List ℕ) (rows : List (List ℕ)) → AreColumns shapes ids rows → (d : ObjectShape) (o : ℕ)
+    → o < length (row_objects shapes ids rows)
     → (get_or (row_objects shapes ids rows) o no_object).slots ≡ shape_slots (get_or shapes o d) (get_or rows o [])
 slots-at shapes ids rows h d o lt = ap (λ (x : Object). x.slots) (row_objects-at shapes ids rows h d o (omega (arith, length-row_objects shapes ids rows h)))
 
 -- the object of a number has a slot for each ID of its row
-pub length-slots-at : (shapes : List ObjectShape) (ids : List ℕ) (rows : List (List ℕ)) → AreColumns shapes ids rows → (o : ℕ) → o < length (row_objects shapes ids rows)
+pub length-slots-at : (shapes : List ObjectShape) (ids : List ℕ) (rows : List (List ℕ)) → AreColumns shapes ids rows → (o : ℕ)
+    → o < length (row_objects shapes ids rows)
     → length (get_or (row_objects shapes ids rows) o no_object).slots ≡ length (get_or rows o [])
 length-slots-at shapes ids rows h o lt =
     let few = length-row_objects shapes ids rows h in
@@ -68,6 +76,8 @@ length-slots-at shapes ids rows h o lt =
     ∙ length-shape_slots (get_or shapes o any_shape) (get_or rows o []) (fit-at shapes rows h.fit any_shape o (omega (arith, h.rows)))
 
 -- the group of the object of a number
-pub group-at : (shapes : List ObjectShape) (ids : List ℕ) (rows : List (List ℕ)) → AreColumns shapes ids rows → (d : ObjectShape) (o : ℕ) → o < length (row_objects shapes ids rows)
+pub group-at : (shapes : List ObjectShape) (ids : List ℕ) (rows : List (List ℕ)) → AreColumns shapes ids rows → (d : ObjectShape) (o : ℕ)
+    → o < length (row_objects shapes ids rows)
     → shape_group (get_or shapes o d) (get_or rows o []) ≡ (get_or (row_objects shapes ids rows) o no_object).group
-group-at shapes ids rows h d o lt = sym (ap (λ (x : Object). x.group) (row_objects-at shapes ids rows h d o (omega (arith, length-row_objects shapes ids rows h))))
+group-at shapes ids rows h d o lt =
+    sym (ap (λ (x : Object). x.group) (row_objects-at shapes ids rows h d o (omega (arith, length-row_objects shapes ids rows h))))

@@ -1,5 +1,6 @@
 -- The class object of a CLASS DUMP at an offset of the file.
-use Rattle.std.proofs.Common.{◌≡◌, ◌∙◌, ℕ, suc, ◌+◌, ◌*◌, ◌≤◌, List, [], ◌∷◌, ◌++◌, length, drop, Bool, true, false, cond, Some, None, refl, sym, ap, subst, arith, append_assoc, length-append, All}
+use Rattle.std.proofs.Common.{◌≡◌, ◌∙◌, ℕ, suc, ◌+◌, ◌*◌, ◌≤◌, List, [], ◌∷◌, ◌++◌, length, drop, Bool, true, false, cond, Some, None, refl, sym, ap, subst}
+use Rattle.std.proofs.Common.{arith, append_assoc, length-append, All}
 use Rattle.std.specs.List.{AllByRecursion, flat_map}
 use Rattle.std.proofs.lemmas.List.{length-drop, drop-drop}
 use Rattle.std.proofs.lemmas.List.Elements.{All-nil, All-cons}
@@ -14,7 +15,8 @@ use Rattle.hd_terms.specs.declared.Slot.TheVariants as slots
 use Rattle.hd_terms.specs.declared.Group.TheVariants as groups
 use Rattle.hd_terms.specs.Types.{is_id_type, element_len, value_len}
 use Rattle.hd_terms.specs.Records.{id_len}
-use Rattle.hd_terms.specs.SubRecords.{ClassHead, ClassValue, ClassField, Counted, IsClassValue, ClassDump, IsSubRecord, StaticItem, ClassItem, class_head_text, counted_text, value_text, field_text, sub_record_text, constants_at, statics_at, class_item}
+use Rattle.hd_terms.specs.SubRecords.{ClassHead, ClassValue, ClassField, Counted, IsClassValue, ClassDump, IsSubRecord, StaticItem, ClassItem, class_head_text}
+use Rattle.hd_terms.specs.SubRecords.{counted_text, value_text, field_text, sub_record_text, constants_at, statics_at, class_item}
 use Rattle.hd_terms.specs.Slots.{strong_slot, value_slots, class_slots}
 use Rattle.hd_terms.specs.Groups.{class_bytes}
 use Rattle.hd_terms.specs.Classes.{ClassTable}
@@ -23,12 +25,14 @@ use Rattle.hd_terms.specs.Dump.{Object, SlotEntry}
 use Rattle.hd_slots.specs.Table.{id_at}
 use Rattle.hd_shapes.specs.Shapes.{ClassObject}
 use Rattle.hd_graph.specs.Shapes.{named_slots, row_object}
-use Rattle.hd_graph.specs.ArrayRows.{IsValueWithin, IsClassWithin, HasLinks, values_of_statics, values_of_constants, value_ids, value_names, static_bytes, class_row, class_names, class_weight}
+use Rattle.hd_graph.specs.ArrayRows.{IsValueWithin, IsClassWithin, HasLinks, values_of_statics, values_of_constants, value_ids, value_names, static_bytes}
+use Rattle.hd_graph.specs.ArrayRows.{class_row, class_names, class_weight}
 use Rattle.hd_graph.proofs.ArrayRowLemmas.{id-behind}
 use Rattle.hd_graph.proofs.RisingLemmas.{as-many-names}
 
 -- the slots of names and IDs that come in two parts
-named-append : (xs ys : List Slot) (ids more : List ℕ) → length xs ≡ length ids → named_slots (xs ++ ys) (ids ++ more) ≡ named_slots xs ids ++ named_slots ys more
+named-append : (xs ys : List Slot) (ids more : List ℕ) → length xs ≡ length ids → named_slots (xs ++ ys) (ids ++ more) ≡ named_slots xs ids
+    ++ named_slots ys more
 named-append [] ys [] more many = refl
 named-append [] ys (id ∷ ids) more many = absurd (omega arith)
 named-append (x ∷ xs) ys [] more many = absurd (omega arith)
@@ -50,15 +54,18 @@ module _ (bytes : List ℕ) (size : IdSize) where
   statics-located : (p : ℕ) (vs : List ClassValue) → values_of_statics (statics_at size p vs) ≡ located (id_len size) p vs
   unfolding located
   statics-located p [] = refl
-  statics-located p (v ∷ vs) = ap (λ (xs : List (ℕ × Span)). (v.code, record { start = p + id_len size + 1; len = value_len size v.code }) ∷ xs) (statics-located (p + length (value_text v)) vs)
+  statics-located p (v ∷ vs) = ap (λ (xs : List (ℕ × Span)). (v.code, record { start = p + id_len size + 1; len = value_len size v.code }) ∷ xs)
+      (statics-located (p + length (value_text v)) vs)
 
   constants-located : (p : ℕ) (vs : List ClassValue) → values_of_constants (constants_at size p vs) ≡ located 2 p vs
   unfolding located
   constants-located p [] = refl
   constants-located p (v ∷ vs) =
       let offset : p + 3 ≡ p + 2 + 1 = omega arith in
-      ap (λ (at : ℕ). (v.code, record { start = at; len = value_len size v.code }) ∷ values_of_constants (constants_at size (p + length (value_text v)) vs)) offset
-      ∙ ap (λ (xs : List (ℕ × Span)). (v.code, record { start = p + 2 + 1; len = value_len size v.code }) ∷ xs) (constants-located (p + length (value_text v)) vs)
+      ap (λ (at : ℕ). (v.code, record { start = at; len = value_len size v.code }) ∷ values_of_constants (constants_at size (p + length (value_text v)) vs))
+      offset
+      ∙ ap (λ (xs : List (ℕ × Span)). (v.code, record { start = p + 2 + 1; len = value_len size v.code }) ∷ xs)
+      (constants-located (p + length (value_text v)) vs)
 
   -- the value of one, and what stands behind it
   module _ (n p : ℕ) (v : ClassValue) (rest : List ℕ) (is : IsClassValue size n v) (whole : drop p bytes ≡ value_text v ++ rest) where
@@ -67,7 +74,8 @@ module _ (bytes : List ℕ) (size : IdSize) where
         let h : List ℕ = v.key ++ v.code ∷ [] in
         let long : length h ≡ n + 1 = omega (arith, length-append v.key (v.code ∷ []), is.key) in
         let offset : p + n + 1 ≡ p + length h = omega arith in
-        ap (λ (k : ℕ). drop k bytes) offset ∙ behind p h (v.value ++ rest) (whole ∙ append_assoc v.key (v.code ∷ v.value) rest ∙ sym (append_assoc v.key (v.code ∷ []) (v.value ++ rest)))
+        ap (λ (k : ℕ). drop k bytes) offset
+        ∙ behind p h (v.value ++ rest) (whole ∙ append_assoc v.key (v.code ∷ v.value) rest ∙ sym (append_assoc v.key (v.code ∷ []) (v.value ++ rest)))
 
     value-long : length (value_text v) ≡ n + 1 + value_len size v.code
     value-long = omega (arith, length-append v.key (v.code ∷ v.value), is.key, is.value)
@@ -81,7 +89,8 @@ module _ (bytes : List ℕ) (size : IdSize) where
         ap (big_number (id_len size)) value-there ∙ big_from-append (id_len size) v.value rest (omega (arith, long))
 
   -- the slots of values at an offset
-  slots-located : (slot : ℕ → Slot) (n i p : ℕ) (vs : List ClassValue) (rest : List ℕ) → drop p bytes ≡ flat_map value_text vs ++ rest → AllByRecursion (IsClassValue size n) vs
+  slots-located : (slot : ℕ → Slot) (n i p : ℕ) (vs : List ClassValue) (rest : List ℕ) → drop p bytes ≡ flat_map value_text vs ++ rest
+      → AllByRecursion (IsClassValue size n) vs
       → named_slots (value_names slot i (located n p vs)) (value_ids bytes size (located n p vs)) ≡ value_slots size slot i vs
   unfolding located
   slots-located slot n i p [] rest whole each = refl
@@ -90,17 +99,23 @@ module _ (bytes : List ℕ) (size : IdSize) where
       by_type (is_id_type v.code) refl (λ id. id-there n p v (flat_map value_text vs ++ rest) each.0 here id)
       (slots-located slot n (i + 1) (p + length (value_text v)) vs rest (behind p (value_text v) (flat_map value_text vs ++ rest) here) each.1)
     where
-      by_type : (b : Bool) → is_id_type v.code ≡ b → (is_id_type v.code ≡ true → big_number (id_len size) (drop (p + n + 1) bytes) ≡ big_number (id_len size) v.value)
-          → named_slots (value_names slot (i + 1) (located n (p + length (value_text v)) vs)) (value_ids bytes size (located n (p + length (value_text v)) vs)) ≡ value_slots size slot (i + 1) vs
-          → named_slots (cond b (slot i ∷ value_names slot (i + 1) (located n (p + length (value_text v)) vs)) (value_names slot (i + 1) (located n (p + length (value_text v)) vs)))
-          (cond b (big_number (id_len size) (drop (p + n + 1) bytes) ∷ value_ids bytes size (located n (p + length (value_text v)) vs)) (value_ids bytes size (located n (p + length (value_text v)) vs)))
+      by_type : (b : Bool) → is_id_type v.code ≡ b
+          → (is_id_type v.code ≡ true → big_number (id_len size) (drop (p + n + 1) bytes) ≡ big_number (id_len size) v.value)
+          → named_slots (value_names slot (i + 1) (located n (p + length (value_text v)) vs))
+          (value_ids bytes size (located n (p + length (value_text v)) vs)) ≡ value_slots size slot (i + 1) vs
+          → named_slots (cond b (slot i ∷ value_names slot (i + 1) (located n (p + length (value_text v)) vs))
+          (value_names slot (i + 1) (located n (p + length (value_text v)) vs)))
+          (cond b (big_number (id_len size) (drop (p + n + 1) bytes) ∷ value_ids bytes size (located n (p + length (value_text v)) vs))
+          (value_ids bytes size (located n (p + length (value_text v)) vs)))
           ≡ cond b (strong_slot (slot i) (big_number (id_len size) v.value) ∷ value_slots size slot (i + 1) vs) (value_slots size slot (i + 1) vs)
       by_type true id there more =
-          ap (λ (x : ℕ). strong_slot (slot i) x ∷ named_slots (value_names slot (i + 1) (located n (p + length (value_text v)) vs)) (value_ids bytes size (located n (p + length (value_text v)) vs))) (there id)
+          ap (λ (x : ℕ). strong_slot (slot i) x ∷ named_slots (value_names slot (i + 1) (located n (p + length (value_text v)) vs))
+          (value_ids bytes size (located n (p + length (value_text v)) vs))) (there id)
           ∙ ap (λ (ss : List SlotEntry). strong_slot (slot i) (big_number (id_len size) v.value) ∷ ss) more
       by_type false id there more = more
 
-  values-within : (n p : ℕ) (vs : List ClassValue) (rest : List ℕ) → drop p bytes ≡ flat_map value_text vs ++ rest → AllByRecursion (IsClassValue size n) vs → All (IsValueWithin size (length bytes)) (located n p vs)
+  values-within : (n p : ℕ) (vs : List ClassValue) (rest : List ℕ) → drop p bytes ≡ flat_map value_text vs ++ rest → AllByRecursion (IsClassValue size n) vs
+      → All (IsValueWithin size (length bytes)) (located n p vs)
   unfolding located
   values-within n p [] rest whole each = All-nil (IsValueWithin size (length bytes))
   values-within n p (v ∷ vs) rest whole each =
@@ -119,7 +134,15 @@ module _ (bytes : List ℕ) (size : IdSize) where
   bytes-of-statics p [] each = refl
   bytes-of-statics p (v ∷ vs) each =
       let more = bytes-of-statics (p + length (value_text v)) vs each.1 in
-      omega (arith, static_bytes-cons (record { name = big_number (id_len size) v.key; code = v.code; value = record { start = p + id_len size + 1; len = value_len size v.code } }) (statics_at size (p + length (value_text v)) vs), class_bytes-cons v vs, each.0.value, more)
+      omega (
+        arith,
+        static_bytes-cons
+            (record { name = big_number (id_len size) v.key; code = v.code; value = record { start = p + id_len size + 1; len = value_len size v.code } })
+            (statics_at size (p + length (value_text v)) vs),
+        class_bytes-cons v vs,
+        each.0.value,
+        more,
+      )
 
   length-statics : (p : ℕ) (vs : List ClassValue) → length (statics_at size p vs) ≡ length vs
   length-statics p [] = refl
@@ -136,7 +159,8 @@ module _ (bytes : List ℕ) (size : IdSize) where
       omega (arith, values-heavy vs, class_bytes-cons v vs, length-append (value_text v) (flat_map value_text vs), length-append v.key (v.code ∷ v.value))
 
   -- a CLASS DUMP at an offset
-  module _ (at : ℕ) (head : ClassHead) (constants statics : Counted ClassValue) (fields : Counted ClassField) (rest : List ℕ) (is : IsSubRecord size (ClassDump head constants statics fields))
+  module _ (at : ℕ) (head : ClassHead) (constants statics : Counted ClassValue) (fields : Counted ClassField) (rest : List ℕ)
+      (is : IsSubRecord size (ClassDump head constants statics fields))
       (whole : drop at bytes ≡ sub_record_text (ClassDump head constants statics fields) ++ rest) where
     abbrev H : List ℕ
     H = 0x20 ∷ class_head_text head
@@ -172,26 +196,33 @@ module _ (bytes : List ℕ) (size : IdSize) where
     constants-there =
         let offset : constants_offset ≡ at + length H + length constants.count = omega (arith, is.1.count) in
         ap (λ (k : ℕ). drop k bytes) offset
-        ∙ behind (at + length H) constants.count (flat_map value_text constants.items ++ (S ++ (F ++ rest))) (from_constants ∙ append_assoc constants.count (flat_map value_text constants.items) (S ++ (F ++ rest)))
+        ∙ behind (at + length H) constants.count (flat_map value_text constants.items ++ (S ++ (F ++ rest)))
+        (from_constants ∙ append_assoc constants.count (flat_map value_text constants.items) (S ++ (F ++ rest)))
 
     statics-there : drop statics_offset bytes ≡ flat_map value_text statics.items ++ (F ++ rest)
     statics-there =
         let offset : statics_offset ≡ at + length H + length C + length statics.count = omega (arith, is.2.count) in
         ap (λ (k : ℕ). drop k bytes) offset
-        ∙ behind (at + length H + length C) statics.count (flat_map value_text statics.items ++ (F ++ rest)) (from_statics ∙ append_assoc statics.count (flat_map value_text statics.items) (F ++ rest))
+        ∙ behind (at + length H + length C) statics.count (flat_map value_text statics.items ++ (F ++ rest))
+        (from_statics ∙ append_assoc statics.count (flat_map value_text statics.items) (F ++ rest))
 
-    static-slots : named_slots (value_names (λ i. slots.Static i) 0 (values_of_statics item.statics)) (value_ids bytes size (values_of_statics item.statics)) ≡ value_slots size (λ i. slots.Static i) 0 statics.items
+    static-slots : named_slots (value_names (λ i. slots.Static i) 0 (values_of_statics item.statics))
+        (value_ids bytes size (values_of_statics item.statics)) ≡ value_slots size (λ i. slots.Static i) 0 statics.items
     static-slots =
-        ap (λ (vs : List (ℕ × Span)). named_slots (value_names (λ i. slots.Static i) 0 vs) (value_ids bytes size vs)) (statics-located statics_offset statics.items)
+        ap (λ (vs : List (ℕ × Span)). named_slots (value_names (λ i. slots.Static i) 0 vs) (value_ids bytes size vs))
+        (statics-located statics_offset statics.items)
         ∙ slots-located (λ i. slots.Static i) (id_len size) 0 statics_offset statics.items (F ++ rest) statics-there is.2.each
 
-    constant-slots : named_slots (value_names (λ i. slots.Const i) 0 (values_of_constants item.constants)) (value_ids bytes size (values_of_constants item.constants)) ≡ value_slots size (λ i. slots.Const i) 0 constants.items
+    constant-slots : named_slots (value_names (λ i. slots.Const i) 0 (values_of_constants item.constants))
+        (value_ids bytes size (values_of_constants item.constants)) ≡ value_slots size (λ i. slots.Const i) 0 constants.items
     constant-slots =
-        ap (λ (vs : List (ℕ × Span)). named_slots (value_names (λ i. slots.Const i) 0 vs) (value_ids bytes size vs)) (constants-located constants_offset constants.items)
+        ap (λ (vs : List (ℕ × Span)). named_slots (value_names (λ i. slots.Const i) 0 vs) (value_ids bytes size vs))
+        (constants-located constants_offset constants.items)
         ∙ slots-located (λ i. slots.Const i) 2 0 constants_offset constants.items (S ++ (F ++ rest)) constants-there is.1.each
 
     abbrev links : List SlotEntry
-    links = strong_slot slots.Super item.super ∷ strong_slot slots.Loader item.loader ∷ strong_slot slots.Signers item.signers ∷ strong_slot slots.Domain item.domain ∷ []
+    links = strong_slot slots.Super item.super ∷ strong_slot slots.Loader item.loader ∷ strong_slot slots.Signers item.signers
+        ∷ strong_slot slots.Domain item.domain ∷ []
 
     slots-are : named_slots (class_names item) (class_row bytes size item) ≡ class_slots size head constants.items statics.items
     slots-are =
@@ -201,12 +232,15 @@ module _ (bytes : List ℕ) (size : IdSize) where
         let J = value_ids bytes size (values_of_constants item.constants) in
         let as_many = as-many-names bytes size (λ i. slots.Static i) 0 (values_of_statics item.statics) in
         let bs_many = as-many-names bytes size (λ i. slots.Const i) 0 (values_of_constants item.constants) in
-        named-append (A ++ B) (slots.Super ∷ slots.Loader ∷ slots.Signers ∷ slots.Domain ∷ []) (I ++ J) (item.super ∷ item.loader ∷ item.signers ∷ item.domain ∷ []) (omega (arith, as_many, bs_many, length-append A B, length-append I J))
+        named-append (A ++ B) (slots.Super ∷ slots.Loader ∷ slots.Signers ∷ slots.Domain ∷ []) (I ++ J)
+        (item.super ∷ item.loader ∷ item.signers ∷ item.domain ∷ []) (omega (arith, as_many, bs_many, length-append A B, length-append I J))
         ∙ ap (λ (ss : List SlotEntry). ss ++ links) (named-append A B I J as_many)
         ∙ ap (λ (ss : List SlotEntry). (ss ++ named_slots B J) ++ links) static-slots
         ∙ ap (λ (ss : List SlotEntry). (value_slots size (λ i. slots.Static i) 0 statics.items ++ ss) ++ links) constant-slots
 
-    pub class-object : (t : ClassTable) → Some (row_object (ClassObject (static_bytes item.statics) (class_names item)) item.id (class_row bytes size item)) ≡ object_of t size (ClassDump head constants statics fields)
+    pub class-object : (t : ClassTable)
+        → Some (row_object (ClassObject (static_bytes item.statics) (class_names item)) item.id (class_row bytes size item)) ≡ object_of t size
+        (ClassDump head constants statics fields)
     class-object t =
         let x : ℕ → List SlotEntry → Object = λ b ss. record { id = item.id; group = groups.Classes; bytes = b; slots = ss; referent = None } in
         ap (λ (b : ℕ). Some (x b (named_slots (class_names item) (class_row bytes size item)))) (bytes-of-statics statics_offset statics.items is.2.each)
@@ -246,9 +280,18 @@ module _ (bytes : List ℕ) (size : IdSize) where
 
     pub class-within : IsClassWithin size (length bytes) item
     class-within = record {
-      statics = subst (All (IsValueWithin size (length bytes))) (sym (statics-located statics_offset statics.items)) (values-within (id_len size) statics_offset statics.items (F ++ rest) statics-there is.2.each);
-      constants = subst (All (IsValueWithin size (length bytes))) (sym (constants-located constants_offset constants.items)) (values-within 2 constants_offset constants.items (S ++ (F ++ rest)) constants-there is.1.each);
-      bytes = omega (arith, class-heavy, length-drop at bytes, ap (λ (xs : List ℕ). length xs) whole, length-append (sub_record_text (ClassDump head constants statics fields)) rest);
+      statics = subst (All (IsValueWithin size (length bytes))) (sym (statics-located statics_offset statics.items))
+          (values-within (id_len size) statics_offset statics.items (F ++ rest) statics-there is.2.each);
+      constants = subst (All (IsValueWithin size (length bytes))) (sym (constants-located constants_offset constants.items))
+          (values-within 2 constants_offset constants.items (S ++ (F ++ rest)) constants-there is.1.each);
+      bytes = omega (
+        arith,
+        class-heavy,
+        length-drop at bytes,
+        ap (λ (xs : List ℕ). length xs) whole,
+        length-append
+            (sub_record_text (ClassDump head constants statics fields)) rest,
+      );
     }
 
     -- the head up to its super class, and up to each ID behind that

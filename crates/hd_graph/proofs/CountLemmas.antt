@@ -1,5 +1,6 @@
 -- Counting the slots of objects.
-use Rattle.std.proofs.Common.{◌≡◌, ◌∙◌, ℕ, ◌+◌, Bool, not, ◌&&◌, List, [], ◌∷◌, length, map, get_or, cond, eqb, Option, Some, None, refl, sym, ap, arith, zero-add}
+use Rattle.std.proofs.Common.{◌≡◌, ◌∙◌, ℕ, ◌+◌, Bool, not, ◌&&◌, List, [], ◌∷◌, length, map, get_or, cond, eqb, Option, Some, None, refl, sym, ap, arith}
+use Rattle.std.proofs.Common.{zero-add}
 use Rattle.std.specs.Prelude.{count_by, sum_by, is_some, is_none}
 use Rattle.std.specs.Option.{option_map}
 use Rattle.std.specs.List.{filter_map, cons_option, enumerate_from}
@@ -23,17 +24,20 @@ module _ {X : Type 0} where
   count_by-alike : (p q : X → Bool) → ((x : X) → p x ≡ q x) → (xs : List X) → count_by p xs ≡ count_by q xs
   count_by-alike p q same [] = refl
   count_by-alike p q same (x ∷ xs) =
-      sum_by-cons (λ y. cond (p y) 1 0) x xs ∙ ap (λ (b : Bool). cond b 1 0 + count_by p xs) (same x) ∙ ap (λ (n : ℕ). cond (q x) 1 0 + n) (count_by-alike p q same xs) ∙ sym (sum_by-cons (λ y. cond (q y) 1 0) x xs)
+      sum_by-cons (λ y. cond (p y) 1 0) x xs ∙ ap (λ (b : Bool). cond b 1 0 + count_by p xs) (same x)
+      ∙ ap (λ (n : ℕ). cond (q x) 1 0 + n) (count_by-alike p q same xs) ∙ sym (sum_by-cons (λ y. cond (q y) 1 0) x xs)
 
   sum_by-alike : (f g : X → ℕ) → ((x : X) → f x ≡ g x) → (xs : List X) → sum_by f xs ≡ sum_by g xs
   sum_by-alike f g same [] = refl
-  sum_by-alike f g same (x ∷ xs) = sum_by-cons f x xs ∙ ap (λ (n : ℕ). n + sum_by f xs) (same x) ∙ ap (λ (n : ℕ). g x + n) (sum_by-alike f g same xs) ∙ sym (sum_by-cons g x xs)
+  sum_by-alike f g same (x ∷ xs) = sum_by-cons f x xs ∙ ap (λ (n : ℕ). n + sum_by f xs) (same x) ∙ ap (λ (n : ℕ). g x + n) (sum_by-alike f g same xs)
+      ∙ sym (sum_by-cons g x xs)
 
 -- the IDs in slots
 count_by-ids : (p : ℕ → Bool) (ss : List SlotEntry) → count_by (λ (s : SlotEntry). p s.id) ss ≡ count_by p (map (λ (s : SlotEntry). s.id) ss)
 count_by-ids p [] = refl
 count_by-ids p (s ∷ ss) =
-    sum_by-cons (λ (x : SlotEntry). cond (p x.id) 1 0) s ss ∙ ap (λ (n : ℕ). cond (p s.id) 1 0 + n) (count_by-ids p ss) ∙ sym (sum_by-cons (λ (x : ℕ). cond (p x) 1 0) s.id (map (λ (x : SlotEntry). x.id) ss))
+    sum_by-cons (λ (x : SlotEntry). cond (p x.id) 1 0) s ss ∙ ap (λ (n : ℕ). cond (p s.id) 1 0 + n) (count_by-ids p ss)
+    ∙ sym (sum_by-cons (λ (x : ℕ). cond (p x) 1 0) s.id (map (λ (x : SlotEntry). x.id) ss))
 
 -- those of an object's slots are those of its row
 ids-of-slots : (shape : ObjectShape) (row : List ℕ) → HasShape shape row → map (λ (s : SlotEntry). s.id) (shape_slots shape row) ≡ row
@@ -44,7 +48,8 @@ ids-of-slots shape row fits =
     ext_get_or 0 (map ids ss) row long
     (λ i lt.
     let entry = slot_of (slot_name shape (length row) i) (slot_kind shape (slot_name shape (length row) i)) (get_or row i 0) in
-    get_or-map ids ss i entry 0 (omega (arith, lt, length-map ss ids)) ∙ ap ids (get_or_from_slice_get ss i entry entry (slot-at shape row i fits (omega (arith, lt, long)))))
+    get_or-map ids ss i entry 0 (omega (arith, lt, length-map ss ids))
+    ∙ ap ids (get_or_from_slice_get ss i entry entry (slot-at shape row i fits (omega (arith, lt, long)))))
 
 -- what is counted of the IDs in the slots of all objects is what is counted of their rows
 rows-counted : (p : ℕ → Bool) (shapes : List ObjectShape) (ids : List ℕ) (rows : List (List ℕ)) → AreColumns shapes ids rows
@@ -55,7 +60,8 @@ rows-counted p shapes (id ∷ ids) [] h = absurd (omega (arith, h.rows))
 rows-counted p [] (id ∷ ids) (row ∷ rows) h = absurd (omega (arith, h.shapes))
 rows-counted p (shape ∷ shapes) (id ∷ ids) (row ∷ rows) h =
     let f : Object → ℕ = λ x. count_by (λ (s : SlotEntry). p s.id) x.slots in
-    let here : count_by (λ (s : SlotEntry). p s.id) (shape_slots shape row) ≡ count_by p row = count_by-ids p (shape_slots shape row) ∙ ap (count_by p) (ids-of-slots shape row h.fit.0) in
+    let here : count_by (λ (s : SlotEntry). p s.id) (shape_slots shape row) ≡ count_by p row = count_by-ids p (shape_slots shape row)
+    ∙ ap (count_by p) (ids-of-slots shape row h.fit.0) in
     sum_by-cons f (row_object shape id row) (row_objects shapes ids rows)
     ∙ ap (λ (n : ℕ). n + sum_by f (row_objects shapes ids rows)) here
     ∙ ap (λ (n : ℕ). count_by p row + n) (rows-counted p shapes ids rows (rest-columns shape shapes id ids row rows h))
@@ -74,32 +80,37 @@ module _ (shapes : List ObjectShape) (ids : List ℕ) (rows : List (List ℕ)) (
   -- the slots that are edges are as many as the IDs that are objects'
   pub edges-known : sum_by (edges_of objects) objects ≡ sum_by (count_by (is_known ids)) rows
   edges-known =
-      sum_by-alike (edges_of objects) (λ (x : Object). count_by (λ (s : SlotEntry). is_known ids s.id) x.slots) (λ x. count_by-alike (is_edge objects) (λ (s : SlotEntry). is_known ids s.id) known-alike x.slots) objects
+      sum_by-alike (edges_of objects) (λ (x : Object). count_by (λ (s : SlotEntry). is_known ids s.id) x.slots)
+      (λ x. count_by-alike (is_edge objects) (λ (s : SlotEntry). is_known ids s.id) known-alike x.slots) objects
       ∙ rows-counted (is_known ids) shapes ids rows columns
 
   -- and those that are unresolved as many as the IDs that are neither null nor an object's
   pub unresolved-absent : sum_by (unresolved_of objects) objects ≡ sum_by (count_by (is_absent ids)) rows
   unresolved-absent =
-      sum_by-alike (unresolved_of objects) (λ (x : Object). count_by (λ (s : SlotEntry). is_absent ids s.id) x.slots) (λ x. count_by-alike (is_unresolved objects) (λ (s : SlotEntry). is_absent ids s.id) absent-alike x.slots) objects
+      sum_by-alike (unresolved_of objects) (λ (x : Object). count_by (λ (s : SlotEntry). is_absent ids s.id) x.slots)
+      (λ x. count_by-alike (is_unresolved objects) (λ (s : SlotEntry). is_absent ids s.id) absent-alike x.slots) objects
       ∙ rows-counted (is_absent ids) shapes ids rows columns
 
 module _ (objects : List Object) where
   -- the edges of one object are its slots that are edges
   slot-edge : (o : Option ℕ) (source : ℕ) (s : SlotEntry) (rest : List Edge)
-      → length (cons_option (option_map (λ (target : ℕ). record { source = source; slot = s.slot; target = target; kind = s.kind }) o) rest) ≡ cond (is_some o) 1 0 + length rest
+      → length (cons_option (option_map (λ (target : ℕ). record { source = source; slot = s.slot; target = target; kind = s.kind }) o) rest) ≡ cond
+      (is_some o) 1 0 + length rest
   slot-edge None source s rest = sym (zero-add (length rest))
   slot-edge (Some target) source s rest = omega arith
 
   edges-counted : (source : ℕ) (ss : List SlotEntry) → length (filter_map (edge_of objects source) ss) ≡ count_by (is_edge objects) ss
   edges-counted source [] = refl
   edges-counted source (s ∷ ss) =
-      slot-edge (index_of objects s.id) source s (filter_map (edge_of objects source) ss) ∙ ap (λ (n : ℕ). cond (is_edge objects s) 1 0 + n) (edges-counted source ss)
+      slot-edge (index_of objects s.id) source s (filter_map (edge_of objects source) ss) ∙ ap (λ (n : ℕ). cond (is_edge objects s) 1 0 + n)
+      (edges-counted source ss)
       ∙ sym (sum_by-cons (λ x. cond (is_edge objects x) 1 0) s ss)
 
   all-counted : (n : ℕ) (xs : List Object) → sum_by (λ p. length (edges_from objects p)) (enumerate_from n xs) ≡ sum_by (edges_of objects) xs
   all-counted n [] = refl
   all-counted n (x ∷ xs) =
-      sum_by-cons (λ p. length (edges_from objects p)) (n, x) (enumerate_from (n + 1) xs) ∙ ap (λ (m : ℕ). m + sum_by (λ p. length (edges_from objects p)) (enumerate_from (n + 1) xs)) (edges-counted n x.slots)
+      sum_by-cons (λ p. length (edges_from objects p)) (n, x) (enumerate_from (n + 1) xs)
+      ∙ ap (λ (m : ℕ). m + sum_by (λ p. length (edges_from objects p)) (enumerate_from (n + 1) xs)) (edges-counted n x.slots)
       ∙ ap (λ (m : ℕ). edges_of objects x + m) (all-counted (n + 1) xs)
       ∙ sym (sum_by-cons (edges_of objects) x xs)
 
@@ -108,7 +119,18 @@ pub length-edges : (dump : Dump) → length (edges dump) ≡ sum_by (edges_of du
 length-edges dump = length-flat_map (edges_from dump.objects) (enumerate_from 0 dump.objects) ∙ all-counted dump.objects 0 dump.objects
 
 -- the counts of a dump, one by one
-pub counts-are : (dump : Dump) (objects roots slots unresolved repeated strings loads opaque : ℕ) → objects ≡ length dump.objects → roots ≡ length dump.roots → slots ≡ sum_by (edges_of dump.objects) dump.objects
-    → unresolved ≡ sum_by (unresolved_of dump.objects) dump.objects → repeated ≡ dump.repeated.objects → strings ≡ dump.repeated.strings → loads ≡ dump.repeated.loads → opaque ≡ dump.opaque
-    → (record { objects = objects; roots = roots; edges = slots; unresolved = unresolved; repeated_objects = repeated; repeated_strings = strings; repeated_loads = loads; opaque = opaque }) ≡ counts_of dump
+pub counts-are : (dump : Dump) (objects roots slots unresolved repeated strings loads opaque : ℕ) → objects ≡ length dump.objects → roots ≡ length dump.roots
+    → slots ≡ sum_by (edges_of dump.objects) dump.objects
+    → unresolved ≡ sum_by (unresolved_of dump.objects) dump.objects → repeated ≡ dump.repeated.objects → strings ≡ dump.repeated.strings
+    → loads ≡ dump.repeated.loads → opaque ≡ dump.opaque
+    → (record {
+      objects = objects;
+      roots = roots;
+      edges = slots;
+      unresolved = unresolved;
+      repeated_objects = repeated;
+      repeated_strings = strings;
+      repeated_loads = loads;
+      opaque = opaque;
+    }) ≡ counts_of dump
 counts-are dump objects roots slots unresolved repeated strings loads opaque e1 e2 e3 e4 e5 e6 e7 e8 = let edges_are = e3 ∙ sym (length-edges dump) in cc

@@ -26,11 +26,13 @@ pub over-new : (P : List ℕ → IdSize → Type 0) (first now : Table) → IsOv
 over-new P first now over h = subst (λ (size : IdSize). P now.bytes size) (sym over.size) (subst (λ (bytes : List ℕ). P bytes first.size) (sym over.bytes) h)
 
 -- a value that lies in the file
-pub value-over : (first now : Table) (v : ℕ × Span) → IsOver first now → IsValueWithin first.size (length first.bytes) v → IsValueWithin now.size (length now.bytes) v
+pub value-over : (first now : Table) (v : ℕ × Span) → IsOver first now → IsValueWithin first.size (length first.bytes) v
+    → IsValueWithin now.size (length now.bytes) v
 value-over first now v over h = over-new (λ (bytes : List ℕ) (size : IdSize). IsValueWithin size (length bytes) v) first now over h
 
 -- the IDs that it has
-pub ids-over : (vs : List (ℕ × Span)) (first now next : Table) → IsOver first now → GrowsBy (value_ids now.bytes now.size vs) now next → GrowsBy (value_ids first.bytes first.size vs) now next
+pub ids-over : (vs : List (ℕ × Span)) (first now next : Table) → IsOver first now → GrowsBy (value_ids now.bytes now.size vs) now next
+    → GrowsBy (value_ids first.bytes first.size vs) now next
 ids-over vs first now next over grows = over-same (λ (bytes : List ℕ) (size : IdSize). GrowsBy (value_ids bytes size vs) now next) first now over grows
 
 -- tables of the same parts are one
@@ -39,6 +41,7 @@ same_table t u over rows filling count =
     ap (λ (x : List ℕ). let m : Table = record { bytes = x; size = t.size; ids = t.ids; rows = t.rows; filling = t.filling; count = t.count } in m) over.bytes
     ∙ ap (λ (x : IdSize). let m : Table = record { bytes = u.bytes; size = x; ids = t.ids; rows = t.rows; filling = t.filling; count = t.count } in m) over.size
     ∙ ap (λ (x : List ℕ). let m : Table = record { bytes = u.bytes; size = u.size; ids = x; rows = t.rows; filling = t.filling; count = t.count } in m) over.ids
-    ∙ ap (λ (x : List (List ℕ)). let m : Table = record { bytes = u.bytes; size = u.size; ids = u.ids; rows = x; filling = t.filling; count = t.count } in m) rows
+    ∙ ap (λ (x : List (List ℕ)). let m : Table = record { bytes = u.bytes; size = u.size; ids = u.ids; rows = x; filling = t.filling; count = t.count } in
+    m) rows
     ∙ ap (λ (x : List ℕ). let m : Table = record { bytes = u.bytes; size = u.size; ids = u.ids; rows = u.rows; filling = x; count = t.count } in m) filling
     ∙ ap (λ (x : ℕ). let m : Table = record { bytes = u.bytes; size = u.size; ids = u.ids; rows = u.rows; filling = u.filling; count = x } in m) count

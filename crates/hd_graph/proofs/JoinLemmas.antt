@@ -1,6 +1,7 @@
 -- Numbering one stretch of sub-records behind another.
-use Rattle.std.proofs.Common.{◌≡◌, ◌∙◌, ℕ, ◌+◌, ◌<◌, inl, inr, List, [], ◌∷◌, ◌++◌, map, Bool, true, false, ◌||◌, cond, eqb, refl, sym, ap, subst, arith, append_assoc, true≢false}
-use Rattle.std.specs.Prelude.{count_by, not, ◌&&◌}
+use Rattle.std.proofs.Common.{◌≡◌, ◌∙◌, ℕ, ◌+◌, ◌<◌, inl, inr, List, [], ◌∷◌, ◌++◌, map, Bool, true, false, ◌||◌, cond, eqb, refl, sym, ap, subst, arith}
+use Rattle.std.proofs.Common.{append_assoc, true≢false}
+use Rattle.std.specs.Prelude.{count_by}
 use Rattle.std.specs.List.{list_any, filter_map}
 use Rattle.std.proofs.lemmas.Bool.{eqb-true, or_cases, or_parts}
 use Rattle.std.proofs.lemmas.Cmp.{nat_eq_equiv}
@@ -17,8 +18,7 @@ use Rattle.hd_terms.specs.FirstRecords.{object_sub, first_subs, repeats}
 use Rattle.hd_terms.specs.HeapFaults.{object_fault}
 use Rattle.hd_terms.specs.Classes.{KnownClasses}
 use Rattle.hd_terms.specs.Objects.{is_opaque}
-use Rattle.hd_ids.specs.Noted.{is_noted, are_all_apart}
-use Rattle.hd_slots.specs.JoinedInside.{joined_table}
+use Rattle.hd_ids.specs.Noted.{is_noted}
 use Rattle.hd_classes.specs.Firsts.{firsts, firsts_from}
 use Rattle.hd_classes.proofs.FirstLemmas.{firsts_from-append, is_known, known-map}
 use Rattle.hd_classes.proofs.RepeatLemmas.{repeats-push}
@@ -26,14 +26,9 @@ use Rattle.hd_graph.specs.declared.graph.StoredRoot.{StoredRoot}
 use Rattle.hd_graph.specs.declared.number.Tally.{Tally}
 use Rattle.hd_graph.specs.GraphInside.{root_of_row}
 use Rattle.hd_graph.specs.ArrayRows.{object_id, roots_in}
-use Rattle.hd_graph.specs.declared.numbering.Numbered.{Numbered}
-use Rattle.hd_graph.specs.declared.stretch.MadeStretch.{MadeStretch}
-use Rattle.hd_graph.specs.Building.{HasAllRows, HasAllShapes}
-use Rattle.hd_graph.specs.Made.{IsMade}
-use Rattle.hd_graph.specs.Numbering.{IsNumbered, JoinsNumbers}
+use Rattle.hd_graph.specs.Numbering.{IsNumbered}
 use Rattle.hd_graph.proofs.NumberLemmas.{sub_key, object_subs, ids-of-subs, standing-firsts}
 use Rattle.hd_graph.proofs.RowLemmas.{same}
-use Rattle.hd_graph.proofs.AllRowLemmas.{all-both, shapes-both}
 
 -- none of the later elements has the key of one of the earlier
 abbrev AreApart : {X : Type 0} → (X → ℕ) → List X → List X → Type 0
@@ -49,21 +44,26 @@ module _ {X : Type 0} (key : X → ℕ) (xs : List X) where
   firsts-apart before [] apart = refl
   firsts-apart before (y ∷ ys) apart =
       let parts = or_parts (is_known key xs y) (list_any (is_known key xs) ys) apart in
-      let rest : firsts_from key ((xs ++ before) ++ y ∷ []) ys ≡ firsts_from key (before ++ y ∷ []) ys = ap (λ (b : List X). firsts_from key b ys) (append_assoc xs before (y ∷ [])) ∙ firsts-apart (before ++ y ∷ []) ys parts.1 in
-      ap (λ (b : Bool). cond b (firsts_from key ((xs ++ before) ++ y ∷ []) ys) (y ∷ firsts_from key ((xs ++ before) ++ y ∷ []) ys)) (known-apart before y parts.0)
+      let rest : firsts_from key ((xs ++ before) ++ y ∷ []) ys ≡ firsts_from key (before ++ y ∷ []) ys =
+      ap (λ (b : List X). firsts_from key b ys) (append_assoc xs before (y ∷ [])) ∙ firsts-apart (before ++ y ∷ []) ys parts.1 in
+      ap (λ (b : Bool). cond b (firsts_from key ((xs ++ before) ++ y ∷ []) ys) (y ∷ firsts_from key ((xs ++ before) ++ y ∷ []) ys))
+      (known-apart before y parts.0)
       ∙ ap (λ (zs : List X). cond (is_known key before y) zs (y ∷ zs)) rest
 
   -- the first of each key of both are those of the earlier, and then those of the later
   firsts-join : (ys : List X) → AreApart key xs ys → firsts key (xs ++ ys) ≡ firsts key xs ++ firsts key ys
-  firsts-join ys apart = firsts_from-append key [] xs ys ∙ ap (λ (zs : List X). firsts key xs ++ zs) (ap (λ (b : List X). firsts_from key b ys) (sym (append-nil xs)) ∙ firsts-apart [] ys apart)
+  firsts-join ys apart = firsts_from-append key [] xs ys
+      ∙ ap (λ (zs : List X). firsts key xs ++ zs) (ap (λ (b : List X). firsts_from key b ys) (sym (append-nil xs)) ∙ firsts-apart [] ys apart)
 
   -- where as many are repeated among both as among each with the later up to a place, so they are with all the later
-  repeats-on : (before ys : List X) → AreApart key xs ys → repeats key (xs ++ before) ≡ repeats key xs + repeats key before → repeats key (xs ++ (before ++ ys)) ≡ repeats key xs + repeats key (before ++ ys)
+  repeats-on : (before ys : List X) → AreApart key xs ys → repeats key (xs ++ before) ≡ repeats key xs + repeats key before
+      → repeats key (xs ++ (before ++ ys)) ≡ repeats key xs + repeats key (before ++ ys)
   repeats-on before [] apart so_far = subst (λ (zs : List X). repeats key (xs ++ zs) ≡ repeats key xs + repeats key zs) (sym (append-nil before)) so_far
   repeats-on before (y ∷ ys) apart so_far =
       let parts = or_parts (is_known key xs y) (list_any (is_known key xs) ys) apart in
       let one : repeats key (xs ++ (before ++ y ∷ [])) ≡ repeats key (xs ++ before) + cond (is_known key before y) 1 0 =
-      ap (repeats key) (sym (append_assoc xs before (y ∷ []))) ∙ repeats-push key (xs ++ before) y ∙ ap (λ (b : Bool). repeats key (xs ++ before) + cond b 1 0) (known-apart before y parts.0) in
+      ap (repeats key) (sym (append_assoc xs before (y ∷ []))) ∙ repeats-push key (xs ++ before) y ∙ ap (λ (b : Bool). repeats key (xs ++ before) + cond b 1 0)
+      (known-apart before y parts.0) in
       subst (λ (zs : List X). repeats key (xs ++ zs) ≡ repeats key xs + repeats key zs) (append_assoc before (y ∷ []) ys)
       (repeats-on (before ++ y ∷ []) ys parts.1 (omega (arith, one, so_far, repeats-push key before y)))
 
@@ -84,11 +84,14 @@ none-at test (k ∷ ids) id none there =
 -- sub-records of objects are apart where their IDs are
 apart-subs : (xs ys : List (ℕ × Sub)) → list_any (is_known same (map sub_key xs)) (map sub_key ys) ≡ list_any (is_known sub_key xs) ys
 apart-subs xs [] = refl
-apart-subs xs (y ∷ ys) = ap (λ (b : Bool). b || list_any (is_known same (map sub_key xs)) (map sub_key ys)) (known-map same sub_key xs y) ∙ ap (λ (b : Bool). is_known sub_key xs y || b) (apart-subs xs ys)
+apart-subs xs (y ∷ ys) = ap (λ (b : Bool). b || list_any (is_known same (map sub_key xs)) (map sub_key ys)) (known-map same sub_key xs y)
+    ∙ ap (λ (b : Bool). is_known sub_key xs y || b) (apart-subs xs ys)
 
 -- two stretches of sub-records are numbered each by itself, and no ID is in both: so are they numbered one behind the other
-module _ (known : KnownClasses) (size : IdSize) (front back : List Sub) (ids : List ℕ) (roots : List StoredRoot) (tally : Tally) (more_ids : List ℕ) (more_roots : List StoredRoot) (more : Tally)
-    (h : IsNumbered known size front ids roots tally) (k : IsNumbered known size back more_ids more_roots more) (new : list_any (is_noted ids) more_ids ≡ false) where
+module _ (known : KnownClasses) (size : IdSize) (front back : List Sub) (ids : List ℕ) (roots : List StoredRoot) (tally : Tally) (more_ids : List ℕ)
+    (more_roots : List StoredRoot) (more : Tally)
+    (h : IsNumbered known size front ids roots tally) (k : IsNumbered known size back more_ids more_roots more)
+    (new : list_any (is_noted ids) more_ids ≡ false) where
   abbrev front_ids : List ℕ
   front_ids = filter_map object_id front
 
@@ -101,7 +104,8 @@ module _ (known : KnownClasses) (size : IdSize) (front back : List Sub) (ids : L
   -- no object of the back has the ID of one of the front
   ids-apart : AreApart same front_ids back_ids
   ids-apart =
-      let other : (id : ℕ) → is_noted back_ids id ≡ true → is_known same front_ids id ≡ false = λ id there. sym (h.known_ids id) ∙ none-at (is_noted ids) more_ids id new (k.known_ids id ∙ there) in
+      let other : (id : ℕ) → is_noted back_ids id ≡ true → is_known same front_ids id ≡ false = λ id there. sym (h.known_ids id)
+      ∙ none-at (is_noted ids) more_ids id new (k.known_ids id ∙ there) in
       list_any_none (is_known same front_ids) back_ids (All-from_any nat_eq_equiv (λ id. is_known same front_ids id ≡ false) back_ids other)
 
   -- nor has a sub-record of one
@@ -125,7 +129,8 @@ module _ (known : KnownClasses) (size : IdSize) (front back : List Sub) (ids : L
       ∙ ap (λ (xs : List (ℕ × Sub)). xs ++ firsts sub_key (object_subs back)) (sym (standing-firsts front))
       ∙ ap (λ (xs : List (ℕ × Sub)). first_subs front ++ xs) (sym (standing-firsts back))
 
-  pub numbered-join : IsNumbered known size (front ++ back) (ids ++ more_ids) (roots ++ more_roots) (record { repeated = tally.repeated + more.repeated; opaque = tally.opaque + more.opaque })
+  pub numbered-join : IsNumbered known size (front ++ back) (ids ++ more_ids) (roots ++ more_roots)
+      (record { repeated = tally.repeated + more.repeated; opaque = tally.opaque + more.opaque })
   numbered-join = record {
     ids_are = ap (λ (xs : List ℕ). xs ++ more_ids) h.ids_are
         ∙ ap (λ (xs : List ℕ). firsts same front_ids ++ xs) k.ids_are
@@ -137,7 +142,14 @@ module _ (known : KnownClasses) (size : IdSize) (front back : List Sub) (ids : L
         ∙ sym (list_any-append (λ x. eqb id x) front_ids back_ids)
         ∙ ap (list_any (λ x. eqb id x)) (sym objects);
     repeated_is = omega (arith, h.repeated_is, k.repeated_is, repeats-join same front_ids back_ids ids-apart, ap (repeats same) objects);
-    opaque_is = omega (arith, h.opaque_is, k.opaque_is, sum_by-append (λ (p : ℕ × Sub). cond (opaque_one p) 1 0) (first_subs front) (first_subs back), ap (λ (xs : List (ℕ × Sub)). count_by opaque_one xs) stand);
+    opaque_is = omega (
+      arith,
+      h.opaque_is,
+      k.opaque_is,
+      sum_by-append (λ (p : ℕ × Sub). cond (opaque_one p) 1 0) (first_subs front) (first_subs back),
+      ap
+          (λ (xs : List (ℕ × Sub)). count_by opaque_one xs) stand,
+    );
     roots_are = map-append root_of_row roots more_roots
         ∙ ap (λ (rs : List Root). rs ++ map root_of_row more_roots) h.roots_are
         ∙ ap (λ (rs : List Root). roots_in front ++ rs) k.roots_are
@@ -148,43 +160,3 @@ module _ (known : KnownClasses) (size : IdSize) (front back : List Sub) (ids : L
         ∙ ap (λ (fs : List ReadFault). fs ++ filter_map (object_fault known size) (first_subs back)) h.no_fault
         ∙ k.no_fault;
   }
-
--- no ID is in two of four parts
-pub record AreApartParts (first second third fourth : List ℕ) : Type 0 where
-  pub two : list_any (is_noted first) second ≡ false
-  pub three : list_any (is_noted (first ++ second)) third ≡ false
-  pub four : list_any (is_noted ((first ++ second) ++ third)) fourth ≡ false
-
-all-apart : (first second third fourth : List ℕ) → are_all_apart first second third fourth ≡ true → AreApartParts first second third fourth
-all-apart first second third fourth e = by (list_any (is_noted first) second) (list_any (is_noted (first ++ second)) third) (list_any (is_noted ((first ++ second) ++ third)) fourth) refl refl refl e
-  where
-    by : (a b c : Bool) → a ≡ list_any (is_noted first) second → b ≡ list_any (is_noted (first ++ second)) third → c ≡ list_any (is_noted ((first ++ second) ++ third)) fourth → (not a && not b && not c) ≡ true → AreApartParts first second third fourth
-    by false false false f g h t = record { two = sym f; three = sym g; four = sym h }
-    by true b c f g h t = absurd cc
-    by false true c f g h t = absurd cc
-    by false false true f g h t = absurd cc
-
--- four stretches of which no ID is in two, one behind the other
-pub made-joined : (known : KnownClasses) (bytes : List ℕ) (size : IdSize) (A B C D : List Sub) (a b c d : MadeStretch) (all : Numbered) → IsMade known bytes size A a → IsMade known bytes size B b → IsMade known bytes size C c → IsMade known bytes size D d
-    → JoinsNumbers a.numbers b.numbers c.numbers d.numbers all → IsNumbered known size (((A ++ B) ++ C) ++ D) all.ids all.roots.items all.tally
-made-joined known bytes size A B C D a b c d all h k l m joins =
-    let parts = all-apart a.numbers.ids b.numbers.ids c.numbers.ids d.numbers.ids joins.apart in
-    let two = numbered-join known size A B _ _ _ _ _ _ h.numbers k.numbers parts.two in
-    let three = numbered-join known size (A ++ B) C _ _ _ _ _ _ two l.numbers parts.three in
-    rw (joins.ids_are, joins.roots_are, joins.tally_is) (numbered-join known size ((A ++ B) ++ C) D _ _ _ _ _ _ three m.numbers parts.four)
-
--- their rows
-pub rows-joined : (known : KnownClasses) (bytes : List ℕ) (size : IdSize) (A B C D : List Sub) (a b c d : MadeStretch) → IsMade known bytes size A a → IsMade known bytes size B b → IsMade known bytes size C c → IsMade known bytes size D d
-    → HasAllRows known bytes size (((A ++ B) ++ C) ++ D) (joined_table (joined_table (joined_table a.rows.slot_table b.rows.slot_table) c.rows.slot_table) d.rows.slot_table)
-rows-joined known bytes size A B C D a b c d h k l m =
-    let two = all-both known bytes size A B _ _ h.rows k.rows in
-    let three = all-both known bytes size (A ++ B) C _ _ two l.rows in
-    all-both known bytes size ((A ++ B) ++ C) D _ _ three m.rows
-
--- and their shapes
-pub shapes-joined : (known : KnownClasses) (bytes : List ℕ) (size : IdSize) (A B C D : List Sub) (a b c d : MadeStretch) → IsMade known bytes size A a → IsMade known bytes size B b → IsMade known bytes size C c → IsMade known bytes size D d
-    → HasAllShapes known size (((A ++ B) ++ C) ++ D) (((a.rows.shapes.objects ++ b.rows.shapes.objects) ++ c.rows.shapes.objects) ++ d.rows.shapes.objects)
-shapes-joined known bytes size A B C D a b c d h k l m =
-    let two = shapes-both known size A B a.rows.shapes.objects b.rows.shapes.objects h.shapes k.shapes in
-    let three = shapes-both known size (A ++ B) C _ c.rows.shapes.objects two l.shapes in
-    shapes-both known size ((A ++ B) ++ C) D _ d.rows.shapes.objects three m.shapes

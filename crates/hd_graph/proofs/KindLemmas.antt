@@ -1,5 +1,7 @@
 -- The edges that go through referents: one of an object at most, and object by object all of them.
-use Rattle.std.proofs.Common.{◌≡◌, ◌∙◌, ℕ, zero, suc, ◌+◌, ◌-◌, ◌*◌, ◌<◌, ◌≤◌, ◌^◌, inl, inr, List, [], ◌∷◌, ◌++◌, length, map, get_or, take, Option, Some, None, Result, Ok, IfOk, is_some, Bool, true, false, not, ◌&&◌, true≢false, refl, sym, ap, subst, arith, cond, eqb, eq-eqb, drop, rules, length-append}
+use Rattle.std.proofs.Common.{◌≡◌, ◌∙◌, ℕ, zero, suc, ◌+◌, ◌-◌, ◌*◌, ◌<◌, ◌≤◌, ◌^◌, inl, inr, List, [], ◌∷◌, ◌++◌, length, map, get_or, take, Option, Some}
+use Rattle.std.proofs.Common.{None, Result, Ok, IfOk, is_some, Bool, true, false, not, ◌&&◌, true≢false, refl, sym, ap, subst, arith, cond, eqb, eq-eqb, drop}
+use Rattle.std.proofs.Common.{rules, length-append}
 use Rattle.std.specs.Option.{option_map, option_and_then}
 use Rattle.std.specs.List.{position, prefix_len, slice_get, slice_range, AllByRecursion, filter_map, flat_map, cons_option, enumerate_from}
 use Rattle.std.proofs.lemmas.Bool.{cases_lt, lt-ltb, le-ltb}
@@ -24,8 +26,10 @@ use Rattle.hd_graph.specs.declared.kinds.KeptEdge.{KeptEdge}
 use Rattle.hd_graph.specs.declared.kinds.KindLists.{KindLists}
 use Rattle.hd_graph.specs.Arrays.{row_slots}
 use Rattle.hd_shapes.specs.Shapes.{ObjectShape, ObjectArray, PrimitiveArray, ClassObject, Instance}
-use Rattle.hd_graph.specs.Shapes.{named_slots, with_kind, referent_kind, shape_slots, shape_index, shape_referent, slot_name, slot_kind, row_objects, ComesBefore, IsRising, HasShape, HasFewNames, AreColumns}
-use Rattle.hd_graph.specs.Kinds.{kept_of, kept_edge, of_kind, AreKept, edges_at, IsOnlyEdge, IsReferentEdge, KeepsEdgesOf, edges_between, AreKindsBetween, AreKindsOfPart, AreKinds, part_start}
+use Rattle.hd_graph.specs.Shapes.{named_slots, with_kind, referent_kind, shape_slots, shape_index, shape_referent, slot_name, slot_kind, row_objects}
+use Rattle.hd_graph.specs.Shapes.{ComesBefore, IsRising, HasShape, HasFewNames, AreColumns}
+use Rattle.hd_graph.specs.Kinds.{kept_of, kept_edge, of_kind, AreKept, edges_at, IsOnlyEdge, IsReferentEdge, KeepsEdgesOf, edges_between, AreKindsBetween}
+use Rattle.hd_graph.specs.Kinds.{AreKindsOfPart, AreKinds, part_start}
 use Rattle.hd_graph.proofs.ShapeLemmas.{differs, slot-at, slot_of, few-names}
 use Rattle.hd_graph.proofs.ArrayLemmas.{any_shape, length-row_objects, slots-at, fit-at, index_of-row_objects}
 
@@ -73,7 +77,8 @@ no-referent-strong kind (e ∷ es) = (refl, no-referent-strong kind es)
 abbrev IsOther : Slot → Slot → Type 0
 IsOther r name = same_slot name r ≡ false
 
-others-strong : (r : Slot) (kind : EdgeKind) (names : List Slot) (ids : List ℕ) → AllByRecursion (IsOther r) names → AllByRecursion IsStrong (map (with_kind (Some r) kind) (named_slots names ids))
+others-strong : (r : Slot) (kind : EdgeKind) (names : List Slot) (ids : List ℕ) → AllByRecursion (IsOther r) names
+    → AllByRecursion IsStrong (map (with_kind (Some r) kind) (named_slots names ids))
 others-strong r kind [] ids all = tt
 others-strong r kind (name ∷ names) [] all = tt
 others-strong r kind (name ∷ names) (id ∷ ids) all = (ap (λ (b : Bool). cond b kind kinds.Strong) all.0, others-strong r kind names ids all.1)
@@ -107,7 +112,8 @@ position-none r names none =
       | inr le ↦ none-found r names le
     ]
 
-position-some : (r : Slot) (names : List Slot) (i : ℕ) → position (λ (name : Slot). same_slot name r) names ≡ Some i → (i < length names) × (prefix_len (λ (name : Slot). not (same_slot name r)) names ≡ i)
+position-some : (r : Slot) (names : List Slot) (i : ℕ) → position (λ (name : Slot). same_slot name r) names ≡ Some i → (i < length names)
+    × (prefix_len (λ (name : Slot). not (same_slot name r)) names ≡ i)
 position-some r names i some =
     let n = prefix_len (λ (name : Slot). not (same_slot name r)) names in
     elim (cases_lt n (length names)) [
@@ -120,7 +126,8 @@ position-some r names i some =
     ]
 
 -- the first that is found has the name
-name-at : (r : Slot) (names : List Slot) (i : ℕ) → i < length names → prefix_len (λ (name : Slot). not (same_slot name r)) names ≡ i → same_slot (get_or names i slots.OfClass) r ≡ true
+name-at : (r : Slot) (names : List Slot) (i : ℕ) → i < length names → prefix_len (λ (name : Slot). not (same_slot name r)) names ≡ i
+    → same_slot (get_or names i slots.OfClass) r ≡ true
 name-at r [] i lt at = absurd (omega arith)
 name-at r (name ∷ names) zero lt at = by_case (same_slot name r) at
   where
@@ -130,7 +137,8 @@ name-at r (name ∷ names) zero lt at = by_case (same_slot name r) at
 name-at r (name ∷ names) (suc i) lt at = by_case (same_slot name r) at (λ first. name-at r names i (omega (arith, lt)) first)
   where
     by_case : (b : Bool) → cond (not b) (1 + prefix_len (λ (n : Slot). not (same_slot n r)) names) 0 ≡ suc i
-        → (prefix_len (λ (n : Slot). not (same_slot n r)) names ≡ i → same_slot (get_or names i slots.OfClass) r ≡ true) → same_slot (get_or names i slots.OfClass) r ≡ true
+        → (prefix_len (λ (n : Slot). not (same_slot n r)) names ≡ i → same_slot (get_or names i slots.OfClass) r ≡ true)
+        → same_slot (get_or names i slots.OfClass) r ≡ true
     by_case true first more = absurd (omega (arith, first))
     by_case false first more = more (omega (arith, first))
 
@@ -165,27 +173,33 @@ module _ (objects : List Object) (o : ℕ) (k : RefKind) where
     abbrev entry : List Slot → List ℕ → ℕ → SlotEntry
     entry names ids i = with_kind (Some r) kind (strong_slot (get_or names i slots.OfClass) (get_or ids i 0))
 
-    only-one : (names : List Slot) (ids : List ℕ) (i : ℕ) → length names ≡ length ids → IsRising names → i < length names → prefix_len (λ (name : Slot). not (same_slot name r)) names ≡ i
+    only-one : (names : List Slot) (ids : List ℕ) (i : ℕ) → length names ≡ length ids → IsRising names → i < length names
+        → prefix_len (λ (name : Slot). not (same_slot name r)) names ≡ i
         → among (map (with_kind (Some r) kind) (named_slots names ids)) ≡ of_kind k (cons_option (edge_of objects o (entry names ids i)) [])
     only-one [] ids i many rising lt at = absurd (omega arith)
     only-one (name ∷ names) [] i many rising lt at = absurd (omega arith)
     only-one (name ∷ names) (id ∷ ids) zero many rising lt at = by_case (same_slot name r) refl at
       where
         by_case : (b : Bool) → same_slot name r ≡ b → cond (not b) (1 + prefix_len (λ (n : Slot). not (same_slot n r)) names) 0 ≡ 0
-            → among (map (with_kind (Some r) kind) (named_slots (name ∷ names) (id ∷ ids))) ≡ of_kind k (cons_option (edge_of objects o (entry (name ∷ names) (id ∷ ids) zero)) [])
+            → among (map (with_kind (Some r) kind) (named_slots (name ∷ names) (id ∷ ids))) ≡ of_kind k
+            (cons_option (edge_of objects o (entry (name ∷ names) (id ∷ ids) zero)) [])
         by_case false e first = absurd (omega (arith, first))
         by_case true e first =
-            alone (edge_of objects o (with_kind (Some r) kind (strong_slot name id))) (filter_map (edge_of objects o) (map (with_kind (Some r) kind) (named_slots names ids)))
+            alone (edge_of objects o (with_kind (Some r) kind (strong_slot name id)))
+            (filter_map (edge_of objects o) (map (with_kind (Some r) kind) (named_slots names ids)))
             (none-of-strong (map (with_kind (Some r) kind) (named_slots names ids)) (others-strong r kind names ids (after-others r name names e rising.0)))
-    only-one (name ∷ names) (id ∷ ids) (suc i) many rising lt at = by_case (same_slot name r) refl at (λ first. only-one names ids i (omega (arith, many)) rising.1 (omega (arith, lt)) first)
+    only-one (name ∷ names) (id ∷ ids) (suc i) many rising lt at =
+        by_case (same_slot name r) refl at (λ first. only-one names ids i (omega (arith, many)) rising.1 (omega (arith, lt)) first)
       where
         by_case : (b : Bool) → same_slot name r ≡ b → cond (not b) (1 + prefix_len (λ (n : Slot). not (same_slot n r)) names) 0 ≡ suc i
-            → (prefix_len (λ (n : Slot). not (same_slot n r)) names ≡ i → among (map (with_kind (Some r) kind) (named_slots names ids)) ≡ of_kind k (cons_option (edge_of objects o (entry names ids i)) []))
+            → (prefix_len (λ (n : Slot). not (same_slot n r)) names ≡ i → among (map (with_kind (Some r) kind) (named_slots names ids)) ≡ of_kind k
+            (cons_option (edge_of objects o (entry names ids i)) []))
             → among (map (with_kind (Some r) kind) (named_slots (name ∷ names) (id ∷ ids))) ≡ of_kind k (cons_option (edge_of objects o (entry names ids i)) [])
         by_case true e first more = absurd (omega (arith, first))
         by_case false e first more =
             let s = with_kind (Some r) kind (strong_slot name id) in
-            pass s (index_of objects s.id) (filter_map (edge_of objects o) (map (with_kind (Some r) kind) (named_slots names ids))) (ap (λ (b : Bool). cond b kind kinds.Strong) e)
+            pass s (index_of objects s.id) (filter_map (edge_of objects o) (map (with_kind (Some r) kind) (named_slots names ids)))
+            (ap (λ (b : Bool). cond b kind kinds.Strong) e)
             ∙ more (omega (arith, first))
 
   -- an object without a referent
@@ -193,11 +207,13 @@ module _ (objects : List Object) (o : ℕ) (k : RefKind) where
   without-referent (ObjectArray bytes) row none = none-of-strong (row_slots 0 row) (row-strong 0 row)
   without-referent (PrimitiveArray element bytes) row none = none-of-strong (row_slots 0 row) (row-strong 0 row)
   without-referent (ClassObject bytes names) row none = none-of-strong (named_slots names row) (named-strong names row)
-  without-referent (Instance bytes names None kind) row none = none-of-strong (map (with_kind None kind) (named_slots names row)) (no-referent-strong kind (named_slots names row))
+  without-referent (Instance bytes names None kind) row none = none-of-strong (map (with_kind None kind) (named_slots names row))
+      (no-referent-strong kind (named_slots names row))
   without-referent (Instance bytes names (Some r) kind) row none = absurd cc
 
   -- one whose referent is none of its slots
-  pub without-slot : (shape : ObjectShape) (row : List ℕ) (r : Slot) → shape_referent shape ≡ Some r → shape_index shape (length row) r ≡ None → among (shape_slots shape row) ≡ []
+  pub without-slot : (shape : ObjectShape) (row : List ℕ) (r : Slot) → shape_referent shape ≡ Some r → shape_index shape (length row) r ≡ None
+      → among (shape_slots shape row) ≡ []
   without-slot (ObjectArray bytes) row r is none = absurd cc
   without-slot (PrimitiveArray element bytes) row r is none = absurd cc
   without-slot (ClassObject bytes names) row r is none = absurd cc
@@ -208,8 +224,10 @@ module _ (objects : List Object) (o : ℕ) (k : RefKind) where
       ∙ none-of-strong (map (with_kind (Some r) kind) (named_slots names row)) (others-strong r kind names row (position-none r names none))
 
   -- one whose referent is the slot at an index
-  pub with-slot : (shape : ObjectShape) (row : List ℕ) (r : Slot) (i : ℕ) → HasShape shape row → shape_referent shape ≡ Some r → shape_index shape (length row) r ≡ Some i
-      → among (shape_slots shape row) ≡ of_kind k (cons_option (edge_of objects o (slot_of (slot_name shape (length row) i) (slot_kind shape (slot_name shape (length row) i)) (get_or row i 0))) [])
+  pub with-slot : (shape : ObjectShape) (row : List ℕ) (r : Slot) (i : ℕ) → HasShape shape row → shape_referent shape ≡ Some r
+      → shape_index shape (length row) r ≡ Some i
+      → among (shape_slots shape row) ≡ of_kind k
+      (cons_option (edge_of objects o (slot_of (slot_name shape (length row) i) (slot_kind shape (slot_name shape (length row) i)) (get_or row i 0))) [])
   with-slot (ObjectArray bytes) row r i fit is at = absurd cc
   with-slot (PrimitiveArray element bytes) row r i fit is at = absurd cc
   with-slot (ClassObject bytes names) row r i fit is at = absurd cc
@@ -220,7 +238,8 @@ module _ (objects : List Object) (o : ℕ) (k : RefKind) where
       only-one q kind names row i fit.0 fit.1 found.0 found.1
 
 -- that index is one of the row's
-pub slot-within : (shape : ObjectShape) (row : List ℕ) (r : Slot) (i : ℕ) → HasShape shape row → shape_referent shape ≡ Some r → shape_index shape (length row) r ≡ Some i → i < length row
+pub slot-within : (shape : ObjectShape) (row : List ℕ) (r : Slot) (i : ℕ) → HasShape shape row → shape_referent shape ≡ Some r
+    → shape_index shape (length row) r ≡ Some i → i < length row
 slot-within (ObjectArray bytes) row r i fit is at = absurd cc
 slot-within (PrimitiveArray element bytes) row r i fit is at = absurd cc
 slot-within (ClassObject bytes names) row r i fit is at = absurd cc
@@ -241,7 +260,8 @@ kind-there (Instance bytes names (Some q) kind) row r i is at =
     ∙ sym (ap (λ (x : Slot). referent_kind (Some q) kind x) e ∙ ap (λ (b : Bool). cond b kind kinds.Strong) (same-itself q))
 
 -- of the object of a number, by its shape and how many slots it has
-module _ (shapes : List ObjectShape) (ids : List ℕ) (rows : List (List ℕ)) (h : AreColumns shapes ids rows) (o : ℕ) (lt : o < length ids) (shape : ObjectShape) (shaped : slice_get shapes o ≡ Some shape) (n : ℕ) (many : n ≡ length (get_or rows o [])) where
+module _ (shapes : List ObjectShape) (ids : List ℕ) (rows : List (List ℕ)) (h : AreColumns shapes ids rows) (o : ℕ) (lt : o < length ids) (shape : ObjectShape)
+    (shaped : slice_get shapes o ≡ Some shape) (n : ℕ) (many : n ≡ length (get_or rows o [])) where
   abbrev made : List Object
   made = row_objects shapes ids rows
 
@@ -264,11 +284,13 @@ module _ (shapes : List ObjectShape) (ids : List ℕ) (rows : List (List ℕ)) (
   few-there few = few-names shape row fit-there (omega (arith, many, few))
 
   pub no-referent : shape_referent shape ≡ None → IsReferentEdge made o None
-  no-referent none = λ (k : RefKind). ap (λ (ss : List SlotEntry). of_kind k (filter_map (edge_of made o) ss)) slots-are ∙ without-referent made o k shape row none
+  no-referent none = λ (k : RefKind). ap (λ (ss : List SlotEntry). of_kind k (filter_map (edge_of made o) ss)) slots-are
+      ∙ without-referent made o k shape row none
 
   pub no-slot : (r : Slot) → shape_referent shape ≡ Some r → shape_index shape n r ≡ None → IsReferentEdge made o None
   no-slot r is none = λ (k : RefKind).
-      ap (λ (ss : List SlotEntry). of_kind k (filter_map (edge_of made o) ss)) slots-are ∙ without-slot made o k shape row r is (sym (ap (λ (m : ℕ). shape_index shape m r) many) ∙ none)
+      ap (λ (ss : List SlotEntry). of_kind k (filter_map (edge_of made o) ss)) slots-are
+      ∙ without-slot made o k shape row r is (sym (ap (λ (m : ℕ). shape_index shape m r) many) ∙ none)
 
   module _ (r : Slot) (i : ℕ) (is : shape_referent shape ≡ Some r) (at_n : shape_index shape n r ≡ Some i) where
     at : shape_index shape (length row) r ≡ Some i
@@ -281,11 +303,13 @@ module _ (shapes : List ObjectShape) (ids : List ℕ) (rows : List (List ℕ)) (
     here = slot_of (slot_name shape (length row) i) (slot_kind shape (slot_name shape (length row) i)) (get_or row i 0)
 
     edges-are : (found : Option ℕ) → index_of made (get_or row i 0) ≡ found → (k : RefKind)
-        → of_kind k (edges_at made o) ≡ of_kind k (cons_option (option_map (λ (target : ℕ). record { source = o; slot = here.slot; target = target; kind = here.kind }) found) [])
+        → of_kind k (edges_at made o) ≡ of_kind k
+        (cons_option (option_map (λ (target : ℕ). record { source = o; slot = here.slot; target = target; kind = here.kind }) found) [])
     edges-are found e k =
         ap (λ (ss : List SlotEntry). of_kind k (filter_map (edge_of made o) ss)) slots-are
         ∙ with-slot made o k shape row r i fit-there is at
-        ∙ ap (λ (f : Option ℕ). of_kind k (cons_option (option_map (λ (target : ℕ). record { source = o; slot = here.slot; target = target; kind = here.kind }) f) [])) e
+        ∙ ap (λ (f : Option ℕ). of_kind k
+        (cons_option (option_map (λ (target : ℕ). record { source = o; slot = here.slot; target = target; kind = here.kind }) f) [])) e
 
     slice_get-there : {X : Type 0} (xs : List X) (m : ℕ) (d : X) → m < length xs → slice_get xs m ≡ Some (get_or xs m d)
     slice_get-there [] m d le = absurd (omega arith)
@@ -300,7 +324,8 @@ module _ (shapes : List ObjectShape) (ids : List ℕ) (rows : List (List ℕ)) (
       pub no-object : is_some found ≡ false → IsReferentEdge made o None
       no-object none = λ (k : RefKind). edges-are found found-there k ∙ by_case found none k
         where
-          by_case : (f : Option ℕ) → is_some f ≡ false → (k : RefKind) → of_kind k (cons_option (option_map (λ (target : ℕ). record { source = o; slot = here.slot; target = target; kind = here.kind }) f) []) ≡ []
+          by_case : (f : Option ℕ) → is_some f ≡ false → (k : RefKind)
+              → of_kind k (cons_option (option_map (λ (target : ℕ). record { source = o; slot = here.slot; target = target; kind = here.kind }) f) []) ≡ []
           by_case None e k = refl
           by_case (Some target) e k = absurd cc
 
@@ -321,7 +346,8 @@ module _ (shapes : List ObjectShape) (ids : List ℕ) (rows : List (List ℕ)) (
           }
 
 -- lists of which none has anything
-pub all-empty : (lists : KindLists) → lists.soft.items ≡ [] → lists.weak.items ≡ [] → lists.finals.items ≡ [] → lists.phantom.items ≡ [] → (k : RefKind) → kept_of lists k ≡ []
+pub all-empty : (lists : KindLists) → lists.soft.items ≡ [] → lists.weak.items ≡ [] → lists.finals.items ≡ [] → lists.phantom.items ≡ [] → (k : RefKind)
+    → kept_of lists k ≡ []
 all-empty lists soft weak finals phantom references.Soft = soft
 all-empty lists soft weak finals phantom references.Weak = weak
 all-empty lists soft weak finals phantom references.Final = finals
@@ -336,7 +362,8 @@ keeps-none objects o lists none = λ (k : RefKind). record {
   few = omega arith;
 }
 
-one-kept : (objects : List Object) (kept : KeptEdge) (e : Edge) → kept_edge objects kept ≡ Some e → (b : Bool) → AreKept objects (cond b (kept ∷ []) []) (cond b (e ∷ []) [])
+one-kept : (objects : List Object) (kept : KeptEdge) (e : Edge) → kept_edge objects kept ≡ Some e → (b : Bool)
+    → AreKept objects (cond b (kept ∷ []) []) (cond b (e ∷ []) [])
 one-kept objects kept e is true = ap (λ (x : Option Edge). x ∷ []) is
 one-kept objects kept e is false = refl
 
@@ -345,7 +372,8 @@ one-or-none kept true = omega arith
 one-or-none kept false = omega arith
 
 pub keeps-one : (objects : List Object) (o index : ℕ) (kind : EdgeKind) (old new : KindLists) → IsOnlyEdge objects o index kind
-    → ((k : RefKind) → kept_of new k ≡ kept_of old k ++ cond (same_kind kind (kind_of_references k)) ((record { source = o; index = index }) ∷ []) []) → KeepsEdgesOf objects o old new
+    → ((k : RefKind) → kept_of new k ≡ kept_of old k ++ cond (same_kind kind (kind_of_references k)) ((record { source = o; index = index }) ∷ []) [])
+    → KeepsEdgesOf objects o old new
 keeps-one objects o index kind old new one pushed = λ (k : RefKind).
     let kept : KeptEdge = record { source = o; index = index } in
     let b = same_kind kind (kind_of_references k) in
@@ -354,7 +382,8 @@ keeps-one objects o index kind old new one pushed = λ (k : RefKind).
       goes_on = pushed k;
       kept =
           one-kept objects kept one.edge one.kept b
-          ∙ sym (ap (λ (es : List Edge). map (λ (e : Edge). Some e) es) (one.only k ∙ ap (λ (x : EdgeKind). cond (same_kind x (kind_of_references k)) (one.edge ∷ []) []) one.through));
+          ∙ sym (ap (λ (es : List Edge). map (λ (e : Edge). Some e) es)
+          (one.only k ∙ ap (λ (x : EdgeKind). cond (same_kind x (kind_of_references k)) (one.edge ∷ []) []) one.through));
       few = one-or-none kept b;
     }
 
@@ -362,7 +391,8 @@ filter-append : (k : RefKind) (xs ys : List Edge) → of_kind k (xs ++ ys) ≡ o
 filter-append k [] ys = refl
 filter-append k (x ∷ xs) ys = by_case (same_kind x.kind (kind_of_references k)) (filter-append k xs ys)
   where
-    by_case : (b : Bool) → of_kind k (xs ++ ys) ≡ of_kind k xs ++ of_kind k ys → cond b (x ∷ of_kind k (xs ++ ys)) (of_kind k (xs ++ ys)) ≡ cond b (x ∷ of_kind k xs) (of_kind k xs) ++ of_kind k ys
+    by_case : (b : Bool) → of_kind k (xs ++ ys) ≡ of_kind k xs ++ of_kind k ys → cond b (x ∷ of_kind k (xs ++ ys)) (of_kind k (xs ++ ys)) ≡ cond b
+        (x ∷ of_kind k xs) (of_kind k xs) ++ of_kind k ys
     by_case true e = ap (λ (es : List Edge). x ∷ es) e
     by_case false e = e
 
@@ -379,7 +409,8 @@ range-join xs a b c ab bc =
 
 module _ (objects : List Object) where
   -- what is kept of two lists of edges
-  kept-both : (k : RefKind) (xs ys : List KeptEdge) (es fs : List Edge) → AreKept objects xs (of_kind k es) → AreKept objects ys (of_kind k fs) → AreKept objects (xs ++ ys) (of_kind k (es ++ fs))
+  kept-both : (k : RefKind) (xs ys : List KeptEdge) (es fs : List Edge) → AreKept objects xs (of_kind k es) → AreKept objects ys (of_kind k fs)
+      → AreKept objects (xs ++ ys) (of_kind k (es ++ fs))
   kept-both k xs ys es fs one other =
       map-append (kept_edge objects) xs ys
       ∙ ap (λ (zs : List (Option Edge)). zs ++ map (kept_edge objects) ys) one
@@ -392,7 +423,8 @@ module _ (objects : List Object) where
   kinds-none start lists none = record {
     edges = λ (k : RefKind).
         ap (λ (ks : List KeptEdge). map (kept_edge objects) ks) (none k)
-        ∙ ap (λ (ps : List (ℕ × Object)). map (λ (e : Edge). Some e) (of_kind k (flat_map (edges_from objects) ps))) (sym (between_none (enumerate_from 0 objects) start));
+        ∙ ap (λ (ps : List (ℕ × Object)). map (λ (e : Edge). Some e) (of_kind k (flat_map (edges_from objects) ps)))
+        (sym (between_none (enumerate_from 0 objects) start));
     few = λ (k : RefKind). omega (arith, ap (λ (ks : List KeptEdge). length ks) (none k));
   }
 
@@ -407,7 +439,8 @@ module _ (objects : List Object) where
       ∙ ap (λ (n : ℕ). edges_between objects start o ++ (edges_from objects (n, get_or objects o no_object) ++ [])) (omega arith)
       ∙ ap (λ (es : List Edge). edges_between objects start o ++ es) (append-nil (edges_at objects o))
 
-  pub kinds-next : (start o : ℕ) (old new : KindLists) → o < length objects → AreKindsBetween objects start o old → KeepsEdgesOf objects o old new → AreKindsBetween objects start (o + 1) new
+  pub kinds-next : (start o : ℕ) (old new : KindLists) → o < length objects → AreKindsBetween objects start o old → KeepsEdgesOf objects o old new
+      → AreKindsBetween objects start (o + 1) new
   kinds-next start o old new lt h keeps = record {
     edges = λ (k : RefKind).
         let more = keeps k in
@@ -427,19 +460,22 @@ module _ (objects : List Object) where
       let first : start ≤ middle = omega (arith, h.few references.Soft) in
       let second : middle ≤ end = omega (arith, more.few references.Soft) in
       let edges : edges_between objects start end ≡ edges_between objects start middle ++ edges_between objects middle end =
-      ap (flat_map (edges_from objects)) (range-join all start middle end first second) ∙ flat_map-append (edges_from objects) (slice_range all start middle) (slice_range all middle end) in
+      ap (flat_map (edges_from objects)) (range-join all start middle end first second) ∙ flat_map-append (edges_from objects) (slice_range all start middle)
+      (slice_range all middle end) in
       record {
         edges = λ (k : RefKind).
             ap (λ (ks : List KeptEdge). map (kept_edge objects) ks) (joined k)
             ∙ kept-both k (kept_of one k) (kept_of other k) (edges_between objects start middle) (edges_between objects middle end) (h.edges k) (more.edges k)
             ∙ ap (λ (es : List Edge). map (λ (e : Edge). Some e) (of_kind k es)) (sym edges);
-        few = λ (k : RefKind). omega (arith, ap (λ (ks : List KeptEdge). length ks) (joined k), length-append (kept_of one k) (kept_of other k), h.few k, more.few k);
+        few = λ (k : RefKind). omega
+            (arith, ap (λ (ks : List KeptEdge). length ks) (joined k), length-append (kept_of one k) (kept_of other k), h.few k, more.few k);
       }
 
   pub kinds-all : (n : ℕ) (lists : KindLists) → n ≡ length objects → n < 2 ^ 31 → AreKindsBetween objects 0 n lists → AreKinds objects lists
   kinds-all n lists is small h = record {
     edges = λ (k : RefKind).
-        h.edges k ∙ ap (λ (ps : List (ℕ × Object)). map (λ (e : Edge). Some e) (of_kind k (flat_map (edges_from objects) ps))) (take_all (n - 0) (enumerate_from 0 objects) (omega (arith, is, length-enumerate_from 0 objects)));
+        h.edges k ∙ ap (λ (ps : List (ℕ × Object)). map (λ (e : Edge). Some e) (of_kind k (flat_map (edges_from objects) ps)))
+        (take_all (n - 0) (enumerate_from 0 objects) (omega (arith, is, length-enumerate_from 0 objects)));
     few = λ (k : RefKind). omega (arith, h.few k, small);
   }
 
@@ -449,7 +485,8 @@ module _ (objects : List Object) where
     ArePartsFrom part [] = Unit {0}
     ArePartsFrom part (r ∷ rs) = IfOk r (AreKindsOfPart objects part) × ArePartsFrom (part + 1) rs
 
-    parts-from : (part : ℕ) (rs : List (Result KindLists E)) (d : Result KindLists E) → ((i : ℕ) → i < length rs → IfOk (get_or rs i d) (AreKindsOfPart objects (part + i))) → ArePartsFrom part rs
+    parts-from : (part : ℕ) (rs : List (Result KindLists E)) (d : Result KindLists E)
+        → ((i : ℕ) → i < length rs → IfOk (get_or rs i d) (AreKindsOfPart objects (part + i))) → ArePartsFrom part rs
     parts-from part [] d each = tt
     parts-from part (r ∷ rs) d each = (
       subst (λ (n : ℕ). IfOk r (AreKindsOfPart objects n)) (omega arith) (each 0 (omega arith)),
@@ -463,7 +500,8 @@ module _ (objects : List Object) where
       pub left : ArePartsFrom joined rest
       pub kinds : AreKindsBetween objects 0 (part_start (length objects) joined) lists
 
-    pub none-joined : (rs : List (Result KindLists E)) (d : Result KindLists E) (lists : KindLists) → length rs ≡ 4 → ((i : ℕ) → i < 4 → IfOk (get_or rs i d) (AreKindsOfPart objects i))
+    pub none-joined : (rs : List (Result KindLists E)) (d : Result KindLists E) (lists : KindLists) → length rs ≡ 4
+        → ((i : ℕ) → i < 4 → IfOk (get_or rs i d) (AreKindsOfPart objects i))
         → ((k : RefKind) → kept_of lists k ≡ []) → AreJoined rs lists
     none-joined rs d lists four each none = record {
       joined = 0;
@@ -472,7 +510,8 @@ module _ (objects : List Object) where
       kinds = subst (λ (n : ℕ). AreKindsBetween objects 0 n lists) (omega arith) (kinds-none 0 lists none);
     }
 
-    pub next-joined : (rest rs : List (Result KindLists E)) (old part new : KindLists) → AreJoined rest old → rest ≡ Ok part ∷ rs → ((k : RefKind) → kept_of new k ≡ kept_of old k ++ kept_of part k) → AreJoined rs new
+    pub next-joined : (rest rs : List (Result KindLists E)) (old part new : KindLists) → AreJoined rest old → rest ≡ Ok part ∷ rs
+        → ((k : RefKind) → kept_of new k ≡ kept_of old k ++ kept_of part k) → AreJoined rs new
     next-joined rest rs old part new h next joined =
         let left : ArePartsFrom h.joined (Ok part ∷ rs) = subst (ArePartsFrom h.joined) next h.left in
         record {
@@ -482,7 +521,8 @@ module _ (objects : List Object) where
           kinds = kinds-join 0 (part_start (length objects) h.joined) (part_start (length objects) (h.joined + 1)) old part new h.kinds left.0 joined;
         }
 
-    pub all-joined : (rest : List (Result KindLists E)) (lists : KindLists) → length objects < 2 ^ 31 → AreJoined rest lists → length rest ≡ 0 → AreKinds objects lists
+    pub all-joined : (rest : List (Result KindLists E)) (lists : KindLists) → length objects < 2 ^ 31 → AreJoined rest lists → length rest ≡ 0
+        → AreKinds objects lists
     all-joined rest lists few h none =
         let four : h.joined ≡ 4 = omega (arith, h.four, none) in
         let all : part_start (length objects) h.joined ≡ length objects = ap (part_start (length objects)) four ∙ omega arith in
@@ -493,7 +533,8 @@ module _ (objects : List Object) where
   as-many-kept kept es are = sym (length-map kept (kept_edge objects)) ∙ ap (λ (xs : List (Option Edge)). length xs) are ∙ length-map es (λ (e : Edge). Some e)
 
   -- what is kept at an index is an edge
-  pub kept-at : (kept : List KeptEdge) (es : List Edge) (i : ℕ) (d : KeptEdge) → AreKept objects kept es → i < length es → (e : Edge) × (slice_get es i ≡ Some e) × (kept_edge objects (get_or kept i d) ≡ Some e)
+  pub kept-at : (kept : List KeptEdge) (es : List Edge) (i : ℕ) (d : KeptEdge) → AreKept objects kept es → i < length es → (e : Edge)
+      × (slice_get es i ≡ Some e) × (kept_edge objects (get_or kept i d) ≡ Some e)
   kept-at [] [] i d are lt = absurd (omega arith)
   kept-at [] (e ∷ es) i d are lt = absurd (omega (arith, as-many-kept [] (e ∷ es) are))
   kept-at (x ∷ kept) [] i d are lt = absurd (omega arith)
@@ -502,10 +543,13 @@ module _ (objects : List Object) where
 
   -- so it is a slot's
   pub slot-of-kept : (kept : KeptEdge) (e : Edge) → kept_edge objects kept ≡ Some e
-      → (kept.source < length objects) × (s : SlotEntry) × (slice_get (get_or objects kept.source no_object).slots kept.index ≡ Some s) × (e.source ≡ kept.source) × (e.slot ≡ s.slot)
+      → (kept.source < length objects) × (s : SlotEntry) × (slice_get (get_or objects kept.source no_object).slots kept.index ≡ Some s)
+      × (e.source ≡ kept.source) × (e.slot ≡ s.slot)
   slot-of-kept kept e is = of_object (slice_get objects kept.source) refl is
     where
-      of_target : (s : SlotEntry) (found : Option ℕ) → option_map (λ (target : ℕ). record { source = kept.source; slot = s.slot; target = target; kind = s.kind }) found ≡ Some e → (e.source ≡ kept.source) × (e.slot ≡ s.slot)
+      of_target : (s : SlotEntry) (found : Option ℕ)
+          → option_map (λ (target : ℕ). record { source = kept.source; slot = s.slot; target = target; kind = s.kind }) found ≡ Some e
+          → (e.source ≡ kept.source) × (e.slot ≡ s.slot)
       of_target s None none = absurd cc
       of_target s (Some target) some =
           let same : (record { source = kept.source; slot = s.slot; target = target; kind = s.kind }) ≡ e = same_Some _ _ some in
@@ -516,8 +560,10 @@ module _ (objects : List Object) where
       of_slot x None at some = absurd cc
       of_slot x (Some s) at some = let both = of_target s (index_of objects s.id) some in (s, at, both.0, both.1)
 
-      of_object : (found : Option Object) → slice_get objects kept.source ≡ found → option_and_then (λ (x : Object). option_and_then (edge_of objects kept.source) (slice_get x.slots kept.index)) found ≡ Some e
-          → (kept.source < length objects) × (s : SlotEntry) × (slice_get (get_or objects kept.source no_object).slots kept.index ≡ Some s) × (e.source ≡ kept.source) × (e.slot ≡ s.slot)
+      of_object : (found : Option Object) → slice_get objects kept.source ≡ found
+          → option_and_then (λ (x : Object). option_and_then (edge_of objects kept.source) (slice_get x.slots kept.index)) found ≡ Some e
+          → (kept.source < length objects) × (s : SlotEntry) × (slice_get (get_or objects kept.source no_object).slots kept.index ≡ Some s)
+          × (e.source ≡ kept.source) × (e.slot ≡ s.slot)
       of_object None at some = absurd cc
       of_object (Some x) at some =
           let slot = of_slot x (slice_get x.slots kept.index) refl some in

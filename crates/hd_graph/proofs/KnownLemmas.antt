@@ -13,7 +13,8 @@ abbrev second : ℕ × ResolvedClass → ResolvedClass
 second p = p.1
 
 -- the shape of the class of a number
-pub shape-of-number : (f : ResolvedClass → ObjectShape) (es : List (ℕ × ResolvedClass)) (i : ℕ) (x : ResolvedClass) → option_map second (slice_get es i) ≡ Some x → shape_at (map (λ (p : ℕ × ResolvedClass). f p.1) es) i ≡ f x
+pub shape-of-number : (f : ResolvedClass → ObjectShape) (es : List (ℕ × ResolvedClass)) (i : ℕ) (x : ResolvedClass)
+    → option_map second (slice_get es i) ≡ Some x → shape_at (map (λ (p : ℕ × ResolvedClass). f p.1) es) i ≡ f x
 shape-of-number f [] i x is = absurd cc
 shape-of-number f (e ∷ es) zero x is = let same : e.1 ≡ x = cc in ap f same
 shape-of-number f (e ∷ es) (suc i) x is = shape-of-number f es i x is
@@ -24,14 +25,17 @@ number-small (e ∷ es) zero x is = omega arith
 number-small (e ∷ es) (suc i) x is = omega (arith, number-small es i x is)
 
 -- values that don't fit the class
-pub misfit-is : (size : IdSize) (len : ℕ) (known : Option ResolvedClass) → IsMisfit size len known → option_map_or (λ (x : ResolvedClass). not (eqb len (layout_len size x.layout))) known false ≡ true
+pub misfit-is : (size : IdSize) (len : ℕ) (known : Option ResolvedClass) → IsMisfit size len known
+    → option_map_or (λ (x : ResolvedClass). not (eqb len (layout_len size x.layout))) known false ≡ true
 misfit-is size len known h = rw h.is (ap not (ne_eqb len (layout_len size h.k.layout) h.other))
 
 -- values of a class that isn't known, and such that fit
-pub unknown-is : (size : IdSize) (len : ℕ) (known : Option ResolvedClass) → known ≡ None → option_map_or (λ (x : ResolvedClass). not (eqb len (layout_len size x.layout))) known false ≡ false
+pub unknown-is : (size : IdSize) (len : ℕ) (known : Option ResolvedClass) → known ≡ None
+    → option_map_or (λ (x : ResolvedClass). not (eqb len (layout_len size x.layout))) known false ≡ false
 unknown-is size len known none = rw none refl
 
-pub fitting-is : (size : IdSize) (len : ℕ) (known by_number : Option ResolvedClass) → FitsClass size len known by_number → option_map_or (λ (x : ResolvedClass). not (eqb len (layout_len size x.layout))) known false ≡ false
+pub fitting-is : (size : IdSize) (len : ℕ) (known by_number : Option ResolvedClass) → FitsClass size len known by_number
+    → option_map_or (λ (x : ResolvedClass). not (eqb len (layout_len size x.layout))) known false ≡ false
 fitting-is size len known by_number h = rw h.is (ap not (eq-eqb len (layout_len size h.k.layout) h.same))
 
 pub fitting-known : (size : IdSize) (len : ℕ) (known by_number : Option ResolvedClass) → FitsClass size len known by_number → is_none known ≡ false

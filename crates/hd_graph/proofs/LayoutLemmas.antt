@@ -1,5 +1,6 @@
 -- Going through the fields of a layout, one after another.
-use Rattle.std.proofs.Common.{◌≡◌, ◌∙◌, ℕ, suc, ◌+◌, ◌<◌, ◌≤◌, List, [], ◌∷◌, ◌++◌, length, get_or, map, Bool, true, false, cond, refl, sym, ap, subst, arith, append_assoc, length-append, add-zero}
+use Rattle.std.proofs.Common.{◌≡◌, ◌∙◌, ℕ, suc, ◌+◌, ◌<◌, ◌≤◌, List, [], ◌∷◌, ◌++◌, length, get_or, map, Bool, true, false, cond, refl, sym, ap, subst, arith}
+use Rattle.std.proofs.Common.{append_assoc, length-append, add-zero}
 use Rattle.std.proofs.lemmas.List.{append-nil}
 use Rattle.hd_terms.specs.declared.IdSize.{IdSize}
 use Rattle.hd_terms.specs.declared.Span.{Span}
@@ -25,7 +26,8 @@ names-append k (x ∷ xs) ys =
     by_type (is_id_type x.code) (names-append (k + 1) xs ys ∙ ap (λ (n : ℕ). field_names (k + 1) xs ++ field_names n ys) number)
   where
     by_type : (b : Bool) → field_names (k + 1) (xs ++ ys) ≡ field_names (k + 1) xs ++ field_names (k + suc (length xs)) ys
-        → cond b (slots.Field k ∷ field_names (k + 1) (xs ++ ys)) (field_names (k + 1) (xs ++ ys)) ≡ cond b (slots.Field k ∷ field_names (k + 1) xs) (field_names (k + 1) xs) ++ field_names (k + suc (length xs)) ys
+        → cond b (slots.Field k ∷ field_names (k + 1) (xs ++ ys)) (field_names (k + 1) (xs ++ ys)) ≡ cond b (slots.Field k ∷ field_names (k + 1) xs)
+        (field_names (k + 1) xs) ++ field_names (k + suc (length xs)) ys
     by_type true e = ap (λ (ns : List Slot). slots.Field k ∷ ns) e
     by_type false e = e
 
@@ -39,7 +41,8 @@ names-more k xs i d lt b is =
     ∙ ap (λ (c : Bool). field_names k (first_fields xs i) ++ cond c (slots.Field (k + i) ∷ []) []) is
 
 module _ (bytes : List ℕ) (size : IdSize) where
-  placed-append : (at : ℕ) (xs ys : List classes_of.LayoutField) → placed_fields size at (xs ++ ys) ≡ placed_fields size at xs ++ placed_fields size (at + layout_len size xs) ys
+  placed-append : (at : ℕ) (xs ys : List classes_of.LayoutField) → placed_fields size at (xs ++ ys) ≡ placed_fields size at xs
+      ++ placed_fields size (at + layout_len size xs) ys
   placed-append at [] ys = ap (λ (n : ℕ). placed_fields size n ys) (sym (add-zero at))
   placed-append at (x ∷ xs) ys =
       let offset : at + value_len size x.code + layout_len size xs ≡ at + layout_len size (x ∷ xs) = omega (arith, layout_len-cons size x xs) in
@@ -65,7 +68,8 @@ pub record ArePushed (start : ℕ) (front : List classes_of.LayoutField) (first 
 
 pub none-pushed : (start : ℕ) (first : Table) → ArePushed start [] first first start
 none-pushed start first = record {
-  table = ap (λ (f : List ℕ). record first { filling = f; count = first.count }) (sym (append-nil first.filling)) ∙ ap (λ (n : ℕ). record first { filling = first.filling ++ []; count = n }) (sym (add-zero first.count));
+  table = ap (λ (f : List ℕ). record first { filling = f; count = first.count }) (sym (append-nil first.filling))
+      ∙ ap (λ (n : ℕ). record first { filling = first.filling ++ []; count = n }) (sym (add-zero first.count));
   at_is = sym (add-zero start);
 }
 
@@ -74,7 +78,8 @@ over-so-far : (start : ℕ) (front : List classes_of.LayoutField) (first now : T
 over-so-far start front first now at h = grown-over (ids_of_fields first.bytes first.size start front) first now h.table
 
 -- some more fields
-pub pushed-more : (start : ℕ) (front more : List classes_of.LayoutField) (first now new : Table) (at at' : ℕ) → ArePushed start front first now at → GrowsBy (ids_of_fields now.bytes now.size at more) now new
+pub pushed-more : (start : ℕ) (front more : List classes_of.LayoutField) (first now new : Table) (at at' : ℕ) → ArePushed start front first now at
+    → GrowsBy (ids_of_fields now.bytes now.size at more) now new
     → at' ≡ at + layout_len first.size more → ArePushed start (front ++ more) first new at'
 pushed-more start front more first now new at at' h grows next =
     let bytes = first.bytes in
@@ -97,27 +102,34 @@ pushed-more start front more first now new at at' h grows next =
     }
 
 -- one more field
-pub field-pushed : (start : ℕ) (xs : List LayoutField) (i : ℕ) (d : LayoutField) (first now new : Table) (at at' : ℕ) → i < length xs → ArePushed start (first_fields xs i) first now at
+pub field-pushed : (start : ℕ) (xs : List LayoutField) (i : ℕ) (d : LayoutField) (first now new : Table) (at at' : ℕ) → i < length xs
+    → ArePushed start (first_fields xs i) first now at
     → GrowsBy (ids_of_fields now.bytes now.size at (field_view (get_or xs i d) ∷ [])) now new → at' ≡ at + value_len first.size (get_or xs i d).code
     → ArePushed start (first_fields xs (i + 1)) first new at'
 field-pushed start xs i d first now new at at' lt h grows next =
     subst (λ (fs : List classes_of.LayoutField). ArePushed start fs first new at') (sym (one-more xs i d lt))
-    (pushed-more start (first_fields xs i) (field_view (get_or xs i d) ∷ []) first now new at at' h grows (omega (arith, next, len-one first.size (field_view (get_or xs i d)))))
+    (pushed-more start (first_fields xs i) (field_view (get_or xs i d) ∷ []) first now new at at' h grows
+    (omega (arith, next, len-one first.size (field_view (get_or xs i d)))))
 
 -- its value lies in the file
-pub field-within : (start : ℕ) (xs : List LayoutField) (i : ℕ) (d : LayoutField) (first now : Table) (at : ℕ) → i < length xs → ArePushed start (first_fields xs i) first now at
+pub field-within : (start : ℕ) (xs : List LayoutField) (i : ℕ) (d : LayoutField) (first now : Table) (at : ℕ) → i < length xs
+    → ArePushed start (first_fields xs i) first now at
     → start + layout_len first.size (map field_view xs) ≤ length first.bytes → at + value_len first.size (get_or xs i d).code ≤ length first.bytes
 field-within start xs i d first now at lt h within = omega (arith, h.at_is, bytes-more first.size xs i d lt, bytes-within first.size xs (i + 1), within)
 
-pub value-within : (start : ℕ) (xs : List LayoutField) (i : ℕ) (d : LayoutField) (first now : Table) (at n : ℕ) → i < length xs → ArePushed start (first_fields xs i) first now at
-    → start + layout_len first.size (map field_view xs) ≤ length first.bytes → n ≡ value_len first.size (get_or xs i d).code → IsValueWithin now.size (length now.bytes) ((get_or xs i d).code, record { start = at; len = n })
+pub value-within : (start : ℕ) (xs : List LayoutField) (i : ℕ) (d : LayoutField) (first now : Table) (at n : ℕ) → i < length xs
+    → ArePushed start (first_fields xs i) first now at
+    → start + layout_len first.size (map field_view xs) ≤ length first.bytes → n ≡ value_len first.size (get_or xs i d).code
+    → IsValueWithin now.size (length now.bytes) ((get_or xs i d).code, record { start = at; len = n })
 value-within start xs i d first now at n lt h within is =
     value-over first now ((get_or xs i d).code, record { start = at; len = n }) (over-so-far start (first_fields xs i) first now at h)
     (record { within = omega (arith, field-within start xs i d first now at lt h within, is); typed = is })
 
 -- how many there are
-pub count-so-far : (start : ℕ) (front : List classes_of.LayoutField) (first now : Table) (at : ℕ) → ArePushed start front first now at → (length now.ids ≡ length first.ids) × (now.count ≤ first.count + length front)
-count-so-far start front first now at h = (ap (λ (t : Table). length t.ids) h.table, omega (arith, ap (λ (t : Table). t.count) h.table, placed-few first.bytes first.size start front))
+pub count-so-far : (start : ℕ) (front : List classes_of.LayoutField) (first now : Table) (at : ℕ) → ArePushed start front first now at
+    → (length now.ids ≡ length first.ids) × (now.count ≤ first.count + length front)
+count-so-far start front first now at h =
+    (ap (λ (t : Table). length t.ids) h.table, omega (arith, ap (λ (t : Table). t.count) h.table, placed-few first.bytes first.size start front))
 
 -- those before the rest of a layout were added
 pub record AreBefore (start : ℕ) (layout rest : List classes_of.LayoutField) (first now : Table) (at : ℕ) : Type 0 where
@@ -126,7 +138,8 @@ pub record AreBefore (start : ℕ) (layout rest : List classes_of.LayoutField) (
   pub pushed : ArePushed start front first now at
 
 -- and one more class's
-pub class-pushed : (start : ℕ) (layout rest own above : List classes_of.LayoutField) (first now new : Table) (at at' : ℕ) → AreBefore start layout rest first now at → rest ≡ own ++ above
+pub class-pushed : (start : ℕ) (layout rest own above : List classes_of.LayoutField) (first now new : Table) (at at' : ℕ)
+    → AreBefore start layout rest first now at → rest ≡ own ++ above
     → GrowsBy (ids_of_fields now.bytes now.size at own) now new → at' ≡ at + layout_len now.size own → AreBefore start layout above first new at'
 class-pushed start layout rest own above first now new at at' h split grows next =
     let over = over-so-far start h.front first now at h.pushed in
@@ -137,7 +150,8 @@ class-pushed start layout rest own above first now new at at' h split grows next
     }
 
 -- its values lie in the file, and there's room for its IDs
-pub class-within : (start : ℕ) (layout rest own above : List classes_of.LayoutField) (first now : Table) (at : ℕ) → AreBefore start layout rest first now at → rest ≡ own ++ above
+pub class-within : (start : ℕ) (layout rest own above : List classes_of.LayoutField) (first now : Table) (at : ℕ) → AreBefore start layout rest first now at
+    → rest ≡ own ++ above
     → start + layout_len first.size layout ≤ length first.bytes → at + layout_len now.size own ≤ length now.bytes
 class-within start layout rest own above first now at h split within =
     let over = over-so-far start h.front first now at h.pushed in
@@ -151,7 +165,8 @@ class-within start layout rest own above first now at h split within =
       len-append first.size own above,
     ))
 
-pub class-room : (start : ℕ) (layout rest own above : List classes_of.LayoutField) (first now : Table) (at limit : ℕ) → AreBefore start layout rest first now at → rest ≡ own ++ above
+pub class-room : (start : ℕ) (layout rest own above : List classes_of.LayoutField) (first now : Table) (at limit : ℕ) → AreBefore start layout rest first now at
+    → rest ≡ own ++ above
     → length first.ids + first.count + length layout < limit → length now.ids + now.count + length own < limit
 class-room start layout rest own above first now at limit h split room =
     let so_far = count-so-far start h.front first now at h.pushed in
@@ -166,7 +181,8 @@ class-room start layout rest own above first now at limit h split room =
     )
 
 -- all of a layout's were added
-pub all-pushed : (start : ℕ) (layout rest : List classes_of.LayoutField) (first now : Table) (at : ℕ) → AreBefore start layout rest first now at → rest ≡ [] → GrowsBy (ids_of_fields first.bytes first.size start layout) first now
+pub all-pushed : (start : ℕ) (layout rest : List classes_of.LayoutField) (first now : Table) (at : ℕ) → AreBefore start layout rest first now at → rest ≡ []
+    → GrowsBy (ids_of_fields first.bytes first.size start layout) first now
 all-pushed start layout rest first now at h none =
     let all : h.front ≡ layout = sym (h.whole ∙ ap (λ (fs : List classes_of.LayoutField). h.front ++ fs) none ∙ append-nil h.front) in
     subst (λ (fs : List classes_of.LayoutField). GrowsBy (ids_of_fields first.bytes first.size start fs) first now) all h.pushed.table

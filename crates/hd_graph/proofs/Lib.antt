@@ -12,6 +12,7 @@ pub mod NumberLemmas
 pub mod JoinLemmas
 pub mod RowLemmas
 pub mod AllRowLemmas
+pub mod PartLemmas
 pub mod TextLemmas
 pub mod ArrayRowLemmas
 pub mod InstanceLemmas

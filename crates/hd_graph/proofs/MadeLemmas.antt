@@ -1,5 +1,6 @@
 -- The shapes of the instances of classes, so far as they were made.
-use Rattle.std.proofs.Common.{◌≡◌, ◌∙◌, ℕ, zero, suc, ◌⊎◌, inl, inr, List, [], ◌∷◌, length, set, replicate, Option, Some, None, true, true≢false, refl, sym, ap, length-set}
+use Rattle.std.proofs.Common.{◌≡◌, ◌∙◌, ℕ, zero, suc, ◌⊎◌, inl, inr, List, [], ◌∷◌, length, set, replicate, Option, Some, None, true, true≢false, refl, sym, ap}
+use Rattle.std.proofs.Common.{length-set}
 use Rattle.std.specs.Prelude.{is_some}
 use Rattle.std.specs.Option.{option_map}
 use Rattle.std.proofs.lemmas.List.{length-replicate}
@@ -29,7 +30,8 @@ none-made size classes n bounds count = record {
     none-or-some i shape is = absurd cc
 
 -- one more
-set-made : (ls : List (Option ObjectShape)) (i j : ℕ) (s z : ObjectShape) → made_layout (set ls i (Some s)) j ≡ Some z → ((z ≡ s) × (j ≡ i)) ⊎ (made_layout ls j ≡ Some z)
+set-made : (ls : List (Option ObjectShape)) (i j : ℕ) (s z : ObjectShape) → made_layout (set ls i (Some s)) j ≡ Some z → ((z ≡ s) × (j ≡ i))
+    ⊎ (made_layout ls j ≡ Some z)
 set-made [] i j s z is = inr is
 set-made (x ∷ ls) zero zero s z is = let same : z ≡ s = cc in inl (same, refl)
 set-made (x ∷ ls) zero (suc j) s z is = inr is
@@ -39,7 +41,8 @@ set-made (x ∷ ls) (suc i) (suc j) s z is = elim (set-made ls i j s z is) [
   | inr old ↦ inr old
 ]
 
-pub made-more : (size : IdSize) (classes : Known) (ls : List (Option ObjectShape)) (i : ℕ) (s : ObjectShape) → AreLayouts size classes ls → s ≡ shape_by_number size classes i → AreLayouts size classes (set ls i (Some s))
+pub made-more : (size : IdSize) (classes : Known) (ls : List (Option ObjectShape)) (i : ℕ) (s : ObjectShape) → AreLayouts size classes ls
+    → s ≡ shape_by_number size classes i → AreLayouts size classes (set ls i (Some s))
 made-more size classes ls i s h is = record {
   bounds = h.bounds;
   count = length-set ls i (Some s) ∙ h.count;
@@ -50,7 +53,8 @@ made-more size classes ls i s h is = record {
 }
 
 -- one that was made is the class's
-pub some-made : (size : IdSize) (classes : Known) (ls : List (Option ObjectShape)) (i : ℕ) → AreLayouts size classes ls → is_some (made_layout ls i) ≡ true → made_layout ls i ≡ Some (shape_by_number size classes i)
+pub some-made : (size : IdSize) (classes : Known) (ls : List (Option ObjectShape)) (i : ℕ) → AreLayouts size classes ls → is_some (made_layout ls i) ≡ true
+    → made_layout ls i ≡ Some (shape_by_number size classes i)
 some-made size classes ls i h some = by_option (made_layout ls i) refl some
   where
     by_option : (o : Option ObjectShape) → made_layout ls i ≡ o → is_some o ≡ true → made_layout ls i ≡ Some (shape_by_number size classes i)
@@ -58,7 +62,8 @@ some-made size classes ls i h some = by_option (made_layout ls i) refl some
     by_option (Some s) is some = is ∙ ap (λ (x : ObjectShape). Some x) (h.made i s is)
 
 -- the bytes of its instances' values
-pub made-bytes : (size : IdSize) (classes : Known) (ls : List (Option ObjectShape)) (i n : ℕ) (k : ResolvedClass) → AreLayouts size classes ls → known_by_number classes i ≡ Some k → Some n ≡ option_map shape_bytes (made_layout ls i) → n ≡ layout_len size k.layout
+pub made-bytes : (size : IdSize) (classes : Known) (ls : List (Option ObjectShape)) (i n : ℕ) (k : ResolvedClass) → AreLayouts size classes ls
+    → known_by_number classes i ≡ Some k → Some n ≡ option_map shape_bytes (made_layout ls i) → n ≡ layout_len size k.layout
 made-bytes size classes ls i n k h known is = by_option (made_layout ls i) refl is
   where
     by_option : (o : Option ObjectShape) → made_layout ls i ≡ o → Some n ≡ option_map shape_bytes o → n ≡ layout_len size k.layout

@@ -1,5 +1,6 @@
 -- Numbering objects, one sub-record after another.
-use Rattle.std.proofs.Common.{◌≡◌, ◌∙◌, ℕ, ◌+◌, ◌<◌, ◌≤◌, inl, inr, List, [], ◌∷◌, ◌++◌, length, map, take, drop, Option, Some, None, Bool, true, false, ◌&&◌, ◌||◌, cond, eqb, eq-eqb, ne_eqb, refl, sym, ap, subst, arith, All, append_assoc, true≢false}
+use Rattle.std.proofs.Common.{◌≡◌, ◌∙◌, ℕ, ◌+◌, ◌<◌, ◌≤◌, inl, inr, List, [], ◌∷◌, ◌++◌, length, map, take, drop, Option, Some, None, Bool, true, false, ◌&&◌}
+use Rattle.std.proofs.Common.{◌||◌, cond, eqb, eq-eqb, ne_eqb, refl, sym, ap, subst, arith, All, append_assoc, true≢false}
 use Rattle.std.specs.Prelude.{count_by, not}
 use Rattle.std.specs.Option.{option_map}
 use Rattle.std.specs.List.{list_any, filter_map, cons_option, slice_get}
@@ -43,7 +44,8 @@ pub ids-of-subs : (list : List Sub) → filter_map object_id list ≡ map sub_ke
 ids-of-subs [] = refl
 ids-of-subs (s ∷ list) = by_id (id_of_item s.item) (ids-of-subs list)
   where
-    by_id : (o : Option ℕ) → filter_map object_id list ≡ map sub_key (object_subs list) → cons_option o (filter_map object_id list) ≡ map sub_key (cons_option (option_map (λ (id : ℕ). let p : ℕ × Sub = (id, s) in p) o) (object_subs list))
+    by_id : (o : Option ℕ) → filter_map object_id list ≡ map sub_key (object_subs list) → cons_option o (filter_map object_id list) ≡ map sub_key
+        (cons_option (option_map (λ (id : ℕ). let p : ℕ × Sub = (id, s) in p) o) (object_subs list))
     by_id None e = e
     by_id (Some id) e = ap (λ (xs : List ℕ). id ∷ xs) e
 
@@ -53,9 +55,11 @@ standing-firsts list = first_of_each-firsts sub_key (object_subs list)
 
 -- whether one is the first of its ID
 subs-push : (front : List Sub) (s : Sub) (id : ℕ) → object_id s ≡ Some id → object_subs (front ++ s ∷ []) ≡ object_subs front ++ (id, s) ∷ []
-subs-push front s id is = filter_map-append object_sub front (s ∷ []) ∙ ap (λ (o : Option ℕ). object_subs front ++ cons_option (option_map (λ (x : ℕ). let p : ℕ × Sub = (x, s) in p) o) []) is
+subs-push front s id is = filter_map-append object_sub front (s ∷ [])
+    ∙ ap (λ (o : Option ℕ). object_subs front ++ cons_option (option_map (λ (x : ℕ). let p : ℕ × Sub = (x, s) in p) o) []) is
 
-standing-push : (front : List Sub) (s : Sub) (id : ℕ) → object_id s ≡ Some id → first_subs (front ++ s ∷ []) ≡ first_subs front ++ if_new sub_key (is_known sub_key (object_subs front) (id, s)) (id, s)
+standing-push : (front : List Sub) (s : Sub) (id : ℕ) → object_id s ≡ Some id → first_subs (front ++ s ∷ []) ≡ first_subs front
+    ++ if_new sub_key (is_known sub_key (object_subs front) (id, s)) (id, s)
 standing-push front s id is =
     standing-firsts (front ++ s ∷ [])
     ∙ ap (λ (xs : List (ℕ × Sub)). firsts sub_key xs) (subs-push front s id is)
@@ -65,7 +69,9 @@ standing-push front s id is =
 standing-root : (front : List Sub) (s : Sub) → object_id s ≡ None → first_subs (front ++ s ∷ []) ≡ first_subs front
 standing-root front s is =
     let none : object_subs (front ++ s ∷ []) ≡ object_subs front =
-    filter_map-append object_sub front (s ∷ []) ∙ ap (λ (o : Option ℕ). object_subs front ++ cons_option (option_map (λ (x : ℕ). let p : ℕ × Sub = (x, s) in p) o) []) is ∙ append-nil (object_subs front) in
+    filter_map-append object_sub front (s ∷ [])
+    ∙ ap (λ (o : Option ℕ). object_subs front ++ cons_option (option_map (λ (x : ℕ). let p : ℕ × Sub = (x, s) in p) o) []) is
+    ∙ append-nil (object_subs front) in
     standing-firsts (front ++ s ∷ []) ∙ ap (λ (xs : List (ℕ × Sub)). firsts sub_key xs) none ∙ sym (standing-firsts front)
 
 module _ (known : KnownClasses) (size : IdSize) where
@@ -73,14 +79,25 @@ module _ (known : KnownClasses) (size : IdSize) where
   opaque_one p = is_opaque known p.1.item
 
   pub begin : IsNumbered known size [] [] [] (record { repeated = 0; opaque = 0 })
-  begin = record { ids_are = refl; known_ids = λ id. refl; repeated_is = refl; opaque_is = refl; roots_are = refl; no_null = All-nil (λ id. 0 < id); no_fault = refl }
+  begin = record {
+    ids_are = refl;
+    known_ids = λ id. refl;
+    repeated_is = refl;
+    opaque_is = refl;
+    roots_are = refl;
+    no_null = All-nil (λ id. 0 < id);
+    no_fault =
+        refl;
+  }
 
   -- a root
-  pub root-push : (front : List Sub) (ids : List ℕ) (roots : List StoredRoot) (tally : Tally) (h : IsNumbered known size front ids roots tally) (at : ℕ) (row : StoredRoot)
+  pub root-push : (front : List Sub) (ids : List ℕ) (roots : List StoredRoot) (tally : Tally) (h : IsNumbered known size front ids roots tally) (at : ℕ)
+      (row : StoredRoot)
       → IsNumbered known size (front ++ (record { offset = at; item = subs.Root row.kind row.id }) ∷ []) ids (roots ++ row ∷ []) tally
   root-push front ids roots tally h at row =
       let s : Sub = record { offset = at; item = subs.Root row.kind row.id } in
-      let none : filter_map object_id (front ++ s ∷ []) ≡ filter_map object_id front = filter_map-append object_id front (s ∷ []) ∙ append-nil (filter_map object_id front) in
+      let none : filter_map object_id (front ++ s ∷ []) ≡ filter_map object_id front = filter_map-append object_id front (s ∷ [])
+      ∙ append-nil (filter_map object_id front) in
       let stand : first_subs (front ++ s ∷ []) ≡ first_subs front = standing-root front s refl in
       record {
         ids_are = h.ids_are ∙ ap (λ (xs : List ℕ). firsts same xs) (sym none);
@@ -103,13 +120,17 @@ module _ (known : KnownClasses) (size : IdSize) where
     case-positive false all pos = All-push (λ k. 0 < k) ids id all pos
 
   -- whether an ID is noted is whether an object of it stands before
-  noted-is : (front : List Sub) (ids : List ℕ) (roots : List StoredRoot) (tally : Tally) → IsNumbered known size front ids roots tally → (s : Sub) (id : ℕ) → is_noted ids id ≡ is_known sub_key (object_subs front) (id, s)
-  noted-is front ids roots tally h s id = h.known_ids id ∙ ap (list_any (λ k. eqb id k)) (ids-of-subs front) ∙ known-map same sub_key (object_subs front) (id, s)
+  noted-is : (front : List Sub) (ids : List ℕ) (roots : List StoredRoot) (tally : Tally) → IsNumbered known size front ids roots tally → (s : Sub) (id : ℕ)
+      → is_noted ids id ≡ is_known sub_key (object_subs front) (id, s)
+  noted-is front ids roots tally h s id = h.known_ids id ∙ ap (list_any (λ k. eqb id k)) (ids-of-subs front)
+      ∙ known-map same sub_key (object_subs front) (id, s)
 
-  case-fault : (s : Sub) (id : ℕ) (b : Bool) → 0 < id → (b ≡ false → is_size_mismatch known size s.item ≡ false) → filter_map (object_fault known size) (if_new sub_key b (id, s)) ≡ []
+  case-fault : (s : Sub) (id : ℕ) (b : Bool) → 0 < id → (b ≡ false → is_size_mismatch known size s.item ≡ false)
+      → filter_map (object_fault known size) (if_new sub_key b (id, s)) ≡ []
   case-fault s id true some fits = refl
   case-fault s id false some fits =
-      ap (λ (z : Bool). cons_option (cond z (fault_if true causes.NullObject s) (fault_if (is_size_mismatch known size s.item) causes.InstanceSize s)) []) (ne_eqb id 0 (λ e. omega (arith, e, some)))
+      ap (λ (z : Bool). cons_option (cond z (fault_if true causes.NullObject s) (fault_if (is_size_mismatch known size s.item) causes.InstanceSize s)) [])
+      (ne_eqb id 0 (λ e. omega (arith, e, some)))
       ∙ ap (λ (m : Bool). cons_option (fault_if m causes.InstanceSize s) []) (fits refl)
 
   case-opaque : (s : Sub) (id : ℕ) (b : Bool) → count_by opaque_one (if_new sub_key b (id, s)) ≡ cond (not b && is_opaque known s.item) 1 0
@@ -121,15 +142,19 @@ module _ (known : KnownClasses) (size : IdSize) where
       by_item false = refl
 
   -- an object
-  pub object-push : (front : List Sub) (ids : List ℕ) (roots : List StoredRoot) (tally : Tally) (h : IsNumbered known size front ids roots tally) (s : Sub) (id : ℕ) (ids' : List ℕ) (tally' : Tally)
-      → NotesObject known size s.item id ids tally ids' tally' → object_id s ≡ Some id → roots_in (s ∷ []) ≡ [] → IsNumbered known size (front ++ s ∷ []) ids' roots tally'
+  pub object-push : (front : List Sub) (ids : List ℕ) (roots : List StoredRoot) (tally : Tally) (h : IsNumbered known size front ids roots tally) (s : Sub)
+      (id : ℕ) (ids' : List ℕ) (tally' : Tally)
+      → NotesObject known size s.item id ids tally ids' tally' → object_id s ≡ Some id → roots_in (s ∷ []) ≡ []
+      → IsNumbered known size (front ++ s ∷ []) ids' roots tally'
   object-push front ids roots tally h s id ids' tally' notes is no_root =
       let old = filter_map object_id front in
-      let objects : filter_map object_id (front ++ s ∷ []) ≡ old ++ id ∷ [] = filter_map-append object_id front (s ∷ []) ∙ ap (λ (o : Option ℕ). old ++ cons_option o []) is in
+      let objects : filter_map object_id (front ++ s ∷ []) ≡ old ++ id ∷ [] = filter_map-append object_id front (s ∷ [])
+      ∙ ap (λ (o : Option ℕ). old ++ cons_option o []) is in
       let b = list_any (λ k. eqb id k) ids in
       let noted = noted-push same old id ids tally.repeated ids' tally'.repeated (record { known = h.known_ids; count = h.repeated_is }) notes.noted in
       let there : b ≡ is_known sub_key (object_subs front) (id, s) = noted-is front ids roots tally h s id in
-      let stand : first_subs (front ++ s ∷ []) ≡ first_subs front ++ if_new sub_key b (id, s) = standing-push front s id is ∙ ap (λ (c : Bool). first_subs front ++ if_new sub_key c (id, s)) (sym there) in
+      let stand : first_subs (front ++ s ∷ []) ≡ first_subs front ++ if_new sub_key b (id, s) = standing-push front s id is
+      ∙ ap (λ (c : Bool). first_subs front ++ if_new sub_key c (id, s)) (sym there) in
       record {
         ids_are = notes.noted.noted ∙ case-ids ids id b
             ∙ ap (λ (c : Bool). ids ++ cond c [] (id ∷ [])) (h.known_ids id)
@@ -152,7 +177,8 @@ module _ (known : KnownClasses) (size : IdSize) where
       }
 
   -- an object that is no instance
-  pub plain-notes : (item : Item) (id : ℕ) (ids : List ℕ) (tally : Tally) (ids' : List ℕ) (tally' : Tally) → 0 < id → NotesId id ids tally.repeated ids' tally'.repeated → tally'.opaque ≡ tally.opaque
+  pub plain-notes : (item : Item) (id : ℕ) (ids : List ℕ) (tally : Tally) (ids' : List ℕ) (tally' : Tally) → 0 < id
+      → NotesId id ids tally.repeated ids' tally'.repeated → tally'.opaque ≡ tally.opaque
       → is_size_mismatch known size item ≡ false → is_opaque known item ≡ false → NotesObject known size item id ids tally ids' tally'
   plain-notes item id ids tally ids' tally' some noted opaque fits plain = record {
     some = some;
@@ -166,7 +192,8 @@ module _ (known : KnownClasses) (size : IdSize) where
       by_noted false = let none : cond (is_opaque known item) 1 0 ≡ 0 = ap (λ (o : Bool). let n : ℕ = cond o 1 0 in n) plain in omega (arith, opaque, none)
 
   -- an object of an ID that was noted before
-  pub noted-notes : (item : Item) (id : ℕ) (ids : List ℕ) (tally : Tally) (ids' : List ℕ) (tally' : Tally) → 0 < id → NotesId id ids tally.repeated ids' tally'.repeated → tally'.opaque ≡ tally.opaque
+  pub noted-notes : (item : Item) (id : ℕ) (ids : List ℕ) (tally : Tally) (ids' : List ℕ) (tally' : Tally) → 0 < id
+      → NotesId id ids tally.repeated ids' tally'.repeated → tally'.opaque ≡ tally.opaque
       → is_noted ids id ≡ true → NotesObject known size item id ids tally ids' tally'
   noted-notes item id ids tally ids' tally' some noted opaque old = record {
     some = some;
@@ -180,13 +207,15 @@ module _ (known : KnownClasses) (size : IdSize) where
       by_noted false e = absurd (true≢false (sym e))
 
   -- one of a new ID that fits
-  pub new-notes : (item : Item) (id : ℕ) (ids : List ℕ) (tally : Tally) (ids' : List ℕ) (tally' : Tally) (o : Bool) → 0 < id → NotesId id ids tally.repeated ids' tally'.repeated → is_opaque known item ≡ o → tally'.opaque ≡ tally.opaque + cond o 1 0
+  pub new-notes : (item : Item) (id : ℕ) (ids : List ℕ) (tally : Tally) (ids' : List ℕ) (tally' : Tally) (o : Bool) → 0 < id
+      → NotesId id ids tally.repeated ids' tally'.repeated → is_opaque known item ≡ o → tally'.opaque ≡ tally.opaque + cond o 1 0
       → is_noted ids id ≡ false → is_size_mismatch known size item ≡ false → NotesObject known size item id ids tally ids' tally'
   new-notes item id ids tally ids' tally' o some noted is counted new fits = record {
     some = some;
     noted = noted;
     fits = λ e. fits;
-    opaque = counted ∙ ap (λ (b : Bool). tally.opaque + cond (true && b) 1 0) (sym is) ∙ ap (λ (b : Bool). tally.opaque + cond (not b && is_opaque known item) 1 0) (sym new);
+    opaque = counted ∙ ap (λ (b : Bool). tally.opaque + cond (true && b) 1 0) (sym is)
+        ∙ ap (λ (b : Bool). tally.opaque + cond (not b && is_opaque known item) 1 0) (sym new);
   }
 
   -- no noted ID is 0
@@ -202,7 +231,8 @@ module _ (known : KnownClasses) (size : IdSize) where
       or_false false false e f = refl
 
   -- a fault behind sub-records that were numbered is the first of all
-  first-fault : (front : List Sub) (s : Sub) (after : List Sub) (id : ℕ) (f : ReadFault) → object_faults known size front ≡ [] → object_id s ≡ Some id → is_known sub_key (object_subs front) (id, s) ≡ false
+  first-fault : (front : List Sub) (s : Sub) (after : List Sub) (id : ℕ) (f : ReadFault) → object_faults known size front ≡ [] → object_id s ≡ Some id
+      → is_known sub_key (object_subs front) (id, s) ≡ false
       → object_fault known size (id, s) ≡ Some f → slice_get (object_faults known size (front ++ s ∷ after)) 0 ≡ Some f
   first-fault front s after id f none is new here =
       let A = object_subs front in
@@ -220,17 +250,24 @@ module _ (known : KnownClasses) (size : IdSize) where
       ap (λ (xs : List (ℕ × Sub)). filter_map (object_fault known size) xs) stand
       ∙ filter_map-append (object_fault known size) (first_subs front) ((id, s) ∷ R)
       ∙ ap (λ (fs : List ReadFault). fs ++ filter_map (object_fault known size) ((id, s) ∷ R)) none in
-      ap (λ (fs : List ReadFault). slice_get fs 0) faults ∙ ap (λ (o : Option ReadFault). slice_get (cons_option o (filter_map (object_fault known size) R)) 0) here
+      ap (λ (fs : List ReadFault). slice_get fs 0) faults
+      ∙ ap (λ (o : Option ReadFault). slice_get (cons_option o (filter_map (object_fault known size) R)) 0) here
 
-  stop-fault : (front : List Sub) (s : Sub) (after : List Sub) (ids : List ℕ) (roots : List StoredRoot) (tally : Tally) → IsNumbered known size front ids roots tally
-      → (id : ℕ) → object_id s ≡ Some id → (f : ReadFault) → IsObjectStop known size s.item id s.offset ids f → IsObjectFaultOrMemory known size (front ++ s ∷ after) f
+  stop-fault : (front : List Sub) (s : Sub) (after : List Sub) (ids : List ℕ) (roots : List StoredRoot) (tally : Tally)
+      → IsNumbered known size front ids roots tally
+      → (id : ℕ) → object_id s ≡ Some id → (f : ReadFault) → IsObjectStop known size s.item id s.offset ids f
+      → IsObjectFaultOrMemory known size (front ++ s ∷ after) f
   stop-fault front s after ids roots tally h id is _ memory = inl refl
   stop-fault front s after ids roots tally h id is _ (null zero_id) =
-      let new : is_known sub_key (object_subs front) (id, s) ≡ false = sym (noted-is front ids roots tally h s id) ∙ ap (λ (x : ℕ). list_any (λ k. eqb x k) ids) zero_id ∙ null-new ids h.no_null in
-      inr (first-fault front s after id _ h.no_fault is new (ap (λ (b : Bool). cond b (fault_if true causes.NullObject s) (fault_if (is_size_mismatch known size s.item) causes.InstanceSize s)) (eq-eqb id 0 zero_id)))
+      let new : is_known sub_key (object_subs front) (id, s) ≡ false = sym (noted-is front ids roots tally h s id)
+      ∙ ap (λ (x : ℕ). list_any (λ k. eqb x k) ids) zero_id ∙ null-new ids h.no_null in
+      inr (first-fault front s after id _ h.no_fault is new
+      (ap (λ (b : Bool). cond b (fault_if true causes.NullObject s) (fault_if (is_size_mismatch known size s.item) causes.InstanceSize s))
+      (eq-eqb id 0 zero_id)))
   stop-fault front s after ids roots tally h id is _ (size_mismatch some new wrong) =
       inr (first-fault front s after id _ h.no_fault is (sym (noted-is front ids roots tally h s id) ∙ new)
-      (ap (λ (b : Bool). cond b (fault_if true causes.NullObject s) (fault_if (is_size_mismatch known size s.item) causes.InstanceSize s)) (ne_eqb id 0 (λ e. omega (arith, e, some)))
+      (ap (λ (b : Bool). cond b (fault_if true causes.NullObject s) (fault_if (is_size_mismatch known size s.item) causes.InstanceSize s))
+      (ne_eqb id 0 (λ e. omega (arith, e, some)))
       ∙ ap (λ (m : Bool). fault_if m causes.InstanceSize s) wrong))
 
 -- the sub-record at an index is the one after those before it
@@ -250,27 +287,33 @@ was-noted false true e f = refl
 was-noted true noted e f = absurd cc
 
 -- the ID 0 stops an object of any kind
-pub null-stop : (known : KnownClasses) (size : IdSize) (item : Item) (id offset : ℕ) (ids : List ℕ) (f : ReadFault) → IsNullIdOrMemory id offset f → IsObjectStop known size item id offset ids f
+pub null-stop : (known : KnownClasses) (size : IdSize) (item : Item) (id offset : ℕ) (ids : List ℕ) (f : ReadFault) → IsNullIdOrMemory id offset f
+    → IsObjectStop known size item id offset ids f
 null-stop known size item id offset ids f (inl e) = subst (IsObjectStop known size item id offset ids) (sym e) memory
 null-stop known size item id offset ids f (inr (zero_id, e)) = subst (IsObjectStop known size item id offset ids) (sym e) (null zero_id)
 
 -- a list is what stands before an index, what stands there, and what stands after it
 pub split-here : (list : List Sub) (i : ℕ) (s : Sub) → slice_get list i ≡ Some s → list ≡ take i list ++ s ∷ drop (i + 1) list
-split-here list i s is = sym (take-append-drop (i + 1) list) ∙ ap (λ (xs : List Sub). xs ++ drop (i + 1) list) (take-next list i s is) ∙ append_assoc (take i list) (s ∷ []) (drop (i + 1) list)
+split-here list i s is = sym (take-append-drop (i + 1) list) ∙ ap (λ (xs : List Sub). xs ++ drop (i + 1) list) (take-next list i s is)
+    ∙ append_assoc (take i list) (s ∷ []) (drop (i + 1) list)
 
 -- a fault of the sub-record at an index is the first of all
-pub lifted : (known : KnownClasses) (size : IdSize) (list : List Sub) (i : ℕ) (s : Sub) (ids : List ℕ) (roots : List StoredRoot) (tally : Tally) (f : ReadFault) → slice_get list i ≡ Some s
+pub lifted : (known : KnownClasses) (size : IdSize) (list : List Sub) (i : ℕ) (s : Sub) (ids : List ℕ) (roots : List StoredRoot) (tally : Tally) (f : ReadFault)
+    → slice_get list i ≡ Some s
     → IsNumbered known size (take i list) ids roots tally → StopsAt known size s ids f → IsObjectFaultOrMemory known size list f
 lifted known size list i s ids roots tally f is h (inl out_of_memory_reply) = inl out_of_memory_reply
 lifted known size list i s ids roots tally f is h (inr (id, at, stop)) =
-    subst (λ (l : List Sub). IsObjectFaultOrMemory known size l f) (sym (split-here list i s is)) (stop-fault known size (take i list) s (drop (i + 1) list) ids roots tally h id at f stop)
+    subst (λ (l : List Sub). IsObjectFaultOrMemory known size l f) (sym (split-here list i s is))
+    (stop-fault known size (take i list) s (drop (i + 1) list) ids roots tally h id at f stop)
 
 -- no more are repeated or opaque than there are sub-records
-pub repeated-le : (known : KnownClasses) (size : IdSize) (list : List Sub) (i : ℕ) (ids : List ℕ) (roots : List StoredRoot) (tally : Tally) → IsNumbered known size (take i list) ids roots tally → tally.repeated ≤ i
+pub repeated-le : (known : KnownClasses) (size : IdSize) (list : List Sub) (i : ℕ) (ids : List ℕ) (roots : List StoredRoot) (tally : Tally)
+    → IsNumbered known size (take i list) ids roots tally → tally.repeated ≤ i
 repeated-le known size list i ids roots tally h =
     omega (arith, h.repeated_is, repeats-le same (filter_map object_id (take i list)), filter_map-le object_id (take i list), length-take i list)
 
-pub opaque-le : (known : KnownClasses) (size : IdSize) (list : List Sub) (i : ℕ) (ids : List ℕ) (roots : List StoredRoot) (tally : Tally) → IsNumbered known size (take i list) ids roots tally → tally.opaque ≤ i
+pub opaque-le : (known : KnownClasses) (size : IdSize) (list : List Sub) (i : ℕ) (ids : List ℕ) (roots : List StoredRoot) (tally : Tally)
+    → IsNumbered known size (take i list) ids roots tally → tally.opaque ≤ i
 opaque-le known size list i ids roots tally h =
     omega (
       arith,

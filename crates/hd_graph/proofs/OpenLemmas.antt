@@ -15,7 +15,7 @@ use Rattle.hd_terms.specs.FirstRecords.{object_sub, first_subs, repeats}
 use Rattle.hd_terms.specs.Classes.{ClassTable, class_table, class_of_item, resolved_class, KnownClasses}
 use Rattle.hd_terms.specs.HeapFaults.{class_faults, object_faults}
 use Rattle.hd_terms.specs.Roots.{roots_of}
-use Rattle.hd_terms.specs.Dump.{Object, Root, Repeated, NamedClass, Dump}
+use Rattle.hd_terms.specs.Dump.{Object, Root, Repeated, NamedClass}
 use Rattle.hd_terms.specs.declared.Mode.{Mode}
 use Rattle.hd_terms.specs.Objects.{classes_of, object_of, objects_of, opaque_in, names_of, dump_of, ReadsAs, IsDumpOf, IsNamelessDumpOf, repeated_of}
 use Rattle.hd_terms.specs.ReadFaults.{in_records, in_sub_records, in_classes, in_objects, IsSubRecordsFault, IsSegmentFault}
@@ -69,26 +69,38 @@ pub length-le-weight : (list : List Sub) → length list ≤ weight list
 length-le-weight [] = omega arith
 length-le-weight (s ∷ list) = omega (arith, length-le-weight list, item-heavy s.item, weight-cons no_table [] sizes.Four s list)
 
-module _ (bytes : List ℕ) (size : IdSize) (strings : List Text) (classes : List Load) (spans : List Span) (r : ReadsRecords bytes size strings classes spans) where
+module _ (bytes : List ℕ) (size : IdSize) (strings : List Text) (classes : List Load) (spans : List Span)
+    (r : ReadsRecords bytes size strings classes spans) where
   -- the segments lie where they are said to
   unresolved : AllZip (IsBodyAt bytes) spans (filter is_segment r.records)
   unresolved = spans_of.located bytes size strings classes spans r
 
   -- so do the texts
   pub texts-within : All (IsTextWithin (length bytes)) strings
-  texts-within = subst (All (IsTextWithin (length bytes))) (sym r.strings_are) (texts-in-file bytes size r.header.fits header_len r.records r.whole.whole r.whole.each)
+  texts-within = subst (All (IsTextWithin (length bytes))) (sym r.strings_are)
+      (texts-in-file bytes size r.header.fits header_len r.records r.whole.whole r.whole.each)
 
   -- a fault of the sub-records
-  split-records : (before : List Span) (span : Span) (after : List Span) (rs : List Record) (segments : List (List SubRecord)) → AllZip (IsBodyAt bytes) (before ++ span ∷ after) rs → AreBodies size bytes before segments
-      → (whole : List Record) × (here : Record) × (rest : List Record) × (rs ≡ whole ++ here ∷ rest) × AllZip (λ (w : Record) (subs : List SubRecord). AreSubRecords size w.body subs) whole segments × (length whole ≡ length before) × (bytes_of_span bytes span ≡ here.body)
+  split-records : (before : List Span) (span : Span) (after : List Span) (rs : List Record) (segments : List (List SubRecord))
+      → AllZip (IsBodyAt bytes) (before ++ span ∷ after) rs → AreBodies size bytes before segments
+      → (whole : List Record) × (here : Record) × (rest : List Record) × (rs ≡ whole ++ here ∷ rest)
+      × AllZip (λ (w : Record) (subs : List SubRecord). AreSubRecords size w.body subs) whole segments × (length whole ≡ length before)
+      × (bytes_of_span bytes span ≡ here.body)
   split-records [] span after [] segments zipped bodies = absurd zipped
   split-records [] span after (x ∷ rs) [] zipped bodies = ([], x, rs, refl, tt, refl, zipped.0.body)
   split-records [] span after (x ∷ rs) (s ∷ segments) zipped bodies = absurd bodies
   split-records (p ∷ before) span after [] segments zipped bodies = absurd zipped
   split-records (p ∷ before) span after (x ∷ rs) [] zipped bodies = absurd bodies
   split-records (p ∷ before) span after (x ∷ rs) (s ∷ segments) zipped bodies =
-      let more = split-records before span after rs segments zipped.1 bodies.1 in
-      (x ∷ more.0, more.1, more.2, ap (λ (xs : List Record). x ∷ xs) more.3, (subst (λ (body : List ℕ). AreSubRecords size body s) zipped.0.body bodies.0, more.4), ap suc more.5, more.6)
+      let more = split-records before span after rs segments zipped.1 bodies.1 in (
+        x ∷ more.0,
+        more.1,
+        more.2,
+        ap (λ (xs : List Record). x ∷ xs) more.3,
+        (subst (λ (body : List ℕ). AreSubRecords size body s) zipped.0.body bodies.0, more.4),
+        ap suc more.5,
+        more.6,
+      )
 
   slice_get-middle : {X : Type 0} (xs : List X) (y : X) (ys : List X) → slice_get (xs ++ y ∷ ys) (length xs) ≡ Some y
   slice_get-middle [] y ys = refl
@@ -96,7 +108,8 @@ module _ (bytes : List ℕ) (size : IdSize) (strings : List Text) (classes : Lis
 
   sub_records_fault : (f : ReadFault) → IsBodiesFault size bytes spans f → IsSubRecordsFault size r.records f
   sub_records_fault f h =
-      let zipped : AllZip (IsBodyAt bytes) (h.before ++ h.span ∷ h.after) (filter is_segment r.records) = subst (λ (ss : List Span). AllZip (IsBodyAt bytes) ss (filter is_segment r.records)) h.spans_are unresolved in
+      let zipped : AllZip (IsBodyAt bytes) (h.before ++ h.span ∷ h.after) (filter is_segment r.records) =
+      subst (λ (ss : List Span). AllZip (IsBodyAt bytes) ss (filter is_segment r.records)) h.spans_are unresolved in
       let parts = split-records h.before h.span h.after (filter is_segment r.records) h.segments zipped h.whole in
       record {
         whole = parts.0;
@@ -106,7 +119,8 @@ module _ (bytes : List ℕ) (size : IdSize) (strings : List Text) (classes : Lis
         span = h.span;
         first = parts.3;
         before = parts.4;
-        at = ap (λ (ss : List Span). slice_get ss (length parts.0)) (sym r.spans ∙ h.spans_are) ∙ ap (λ (n : ℕ). slice_get (h.before ++ h.span ∷ h.after) n) parts.5 ∙ slice_get-middle h.before h.span h.after;
+        at = ap (λ (ss : List Span). slice_get ss (length parts.0)) (sym r.spans ∙ h.spans_are)
+            ∙ ap (λ (n : ℕ). slice_get (h.before ++ h.span ∷ h.after) n) parts.5 ∙ slice_get-middle h.before h.span h.after;
         faulty = subst (λ (body : List ℕ). IsSegmentFault size h.span.start body f) parts.6 h.faulty;
       }
 
@@ -149,7 +163,8 @@ module _ (bytes : List ℕ) (size : IdSize) (strings : List Text) (classes : Lis
     -- a class whose chain never ends
     pub class-fault : (f : ReadFault) → IsClassFaultOrMemory table list f → IsReadFaultOrMemory bytes f
     class-fault f (inl out_of_memory_reply) = inl out_of_memory_reply
-    class-fault f (inr h) = inr (in_classes size r.records b.segments r.header r.whole dump_bodies (ap (λ (fs : List ReadFault). slice_get fs 0) (sym faults-are) ∙ h))
+    class-fault f (inr h) = inr
+        (in_classes size r.records b.segments r.header r.whole dump_bodies (ap (λ (fs : List ReadFault). slice_get fs 0) (sym faults-are) ∙ h))
 
     module _ (k : Known) (h : AreClassesOf table k) (no_cycle : class_faults table list ≡ []) where
       abbrev known : KnownClasses
@@ -185,17 +200,35 @@ module _ (bytes : List ℕ) (size : IdSize) (strings : List Text) (classes : Lis
       -- an object with ID 0, or one that doesn't fit
       pub object-fault : (f : ReadFault) → IsObjectFaultOrMemory known size list f → IsReadFaultOrMemory bytes f
       object-fault f (inl out_of_memory_reply) = inl out_of_memory_reply
-      object-fault f (inr e) = inr (in_objects size r.records b.segments r.header r.whole dump_bodies no-cycle (ap (λ (fs : List ReadFault). slice_get fs 0) (sym object-faults-are) ∙ e))
+      object-fault f (inr e) =
+          inr (in_objects size r.records b.segments r.header r.whole dump_bodies no-cycle (ap (λ (fs : List ReadFault). slice_get fs 0) (sym object-faults-are)
+          ∙ e))
 
       module _ (ids : List ℕ) (roots : List StoredRoot) (tally : Tally) (n : IsNumbered known size list ids roots tally) where
         short : length list ≤ weight list
         short = length-le-weight list
 
         pub few-ids : length ids < 2 ^ 31
-        few-ids = omega (arith, ap (λ (xs : List ℕ). length xs) n.ids_are, firsts-le same [] (filter_map object_id list), filter_map-le object_id list, short, list-within.few)
+        few-ids = omega (
+          arith,
+          ap (λ (xs : List ℕ). length xs) n.ids_are,
+          firsts-le same []
+              (filter_map object_id list),
+          filter_map-le object_id list,
+          short,
+          list-within.few,
+        )
 
         pub few-roots : length roots < 2 ^ 32
-        few-roots = omega (arith, ap (λ (xs : List Root). length xs) n.roots_are, length-map roots root_of_row, filter_map-le (λ (s : Sub). root_of_item s.item) list, short, list-within.few)
+        few-roots = omega (
+          arith,
+          ap (λ (xs : List Root). length xs) n.roots_are,
+          length-map roots root_of_row,
+          filter_map-le
+              (λ (s : Sub). root_of_item s.item) list,
+          short,
+          list-within.few,
+        )
 
         module _ (c : Columns) (has : HasRowsOf known bytes size list c) where
           abbrev t : Table
@@ -205,19 +238,23 @@ module _ (bytes : List ℕ) (size : IdSize) (strings : List Text) (classes : Lis
           entries = entries_of known bytes size list
 
           ids_of_entries : t.ids ≡ map id_of_entry entries
-          ids_of_entries = has.ids_are ∙ ap (λ (xs : List ℕ). firsts same xs) (ids-of-entries known bytes size list) ∙ firsts-map same id_of_entry (filter_map (entry_of known bytes size) list)
+          ids_of_entries = has.ids_are ∙ ap (λ (xs : List ℕ). firsts same xs) (ids-of-entries known bytes size list)
+              ∙ firsts-map same id_of_entry (filter_map (entry_of known bytes size) list)
 
           as-many-rows : length t.rows ≡ length t.ids
-          as-many-rows = ap (λ (xs : List (List ℕ)). length xs) has.rows_are ∙ length-map entries row_of_entry ∙ sym (length-map entries id_of_entry) ∙ ap (λ (xs : List ℕ). length xs) (sym ids_of_entries)
+          as-many-rows = ap (λ (xs : List (List ℕ)). length xs) has.rows_are ∙ length-map entries row_of_entry ∙ sym (length-map entries id_of_entry)
+              ∙ ap (λ (xs : List ℕ). length xs) (sym ids_of_entries)
 
           as-many-shapes : length c.shapes ≡ length t.ids
-          as-many-shapes = ap (λ (xs : List ObjectShape). length xs) has.shapes_are ∙ length-map entries shape_of_entry ∙ sym (length-map entries id_of_entry) ∙ ap (λ (xs : List ℕ). length xs) (sym ids_of_entries)
+          as-many-shapes = ap (λ (xs : List ObjectShape). length xs) has.shapes_are ∙ length-map entries shape_of_entry ∙ sym (length-map entries id_of_entry)
+              ∙ ap (λ (xs : List ℕ). length xs) (sym ids_of_entries)
 
           pub whole-columns : AreColumns c.shapes t.ids t.rows
           whole-columns = record {
             rows = as-many-rows;
             shapes = as-many-shapes;
-            fit = subst (λ (ss : List ObjectShape). AllZip HasShape ss t.rows) (sym has.shapes_are) (subst (λ (rs : List (List ℕ)). AllZip HasShape (map shape_of_entry entries) rs) (sym has.rows_are) (shapes-fit known bytes size list));
+            fit = subst (λ (ss : List ObjectShape). AllZip HasShape ss t.rows) (sym has.shapes_are)
+                (subst (λ (rs : List (List ℕ)). AllZip HasShape (map shape_of_entry entries) rs) (sym has.rows_are) (shapes-fit known bytes size list));
           }
 
           pub small-shapes : All IsSmall c.shapes
@@ -225,11 +262,15 @@ module _ (bytes : List ℕ) (size : IdSize) (strings : List Text) (classes : Lis
 
           objects_are : row_objects c.shapes t.ids t.rows ≡ objects_of real size (all_of real bytes size b.segments)
           objects_are =
-              ap (λ (xs : List ℕ). row_objects c.shapes xs t.rows) ids_of_entries ∙ ap (λ (xs : List (List ℕ)). row_objects c.shapes (map id_of_entry entries) xs) has.rows_are
+              ap (λ (xs : List ℕ). row_objects c.shapes xs t.rows) ids_of_entries
+              ∙ ap (λ (xs : List (List ℕ)). row_objects c.shapes (map id_of_entry entries) xs) has.rows_are
               ∙ ap (λ (ss : List ObjectShape). row_objects ss (map id_of_entry entries) (map row_of_entry entries)) has.shapes_are
               ∙ row_objects-entries entries
               ∙ sym (firsts-map (λ (x : Object). x.id) object_of_entry (filter_map (entry_of known bytes size) list))
-              ∙ ap (λ (xs : List Object). firsts (λ (x : Object). x.id) xs) (ap (λ (kn : KnownClasses). map object_of_entry (filter_map (entry_of kn bytes size) list)) known-is ∙ ap (λ (l : List Sub). map object_of_entry (filter_map (entry_of (resolved_class real) bytes size) l)) b.list_is ∙ objects_in real bytes size spans b.segments b.whole)
+              ∙ ap (λ (xs : List Object). firsts (λ (x : Object). x.id) xs)
+              (ap (λ (kn : KnownClasses). map object_of_entry (filter_map (entry_of kn bytes size) list)) known-is
+              ∙ ap (λ (l : List Sub). map object_of_entry (filter_map (entry_of (resolved_class real) bytes size) l)) b.list_is
+              ∙ objects_in real bytes size spans b.segments b.whole)
               ∙ sym (first_of_each-firsts (λ (x : Object). x.id) (filter_map (object_of real size) (all_of real bytes size b.segments)))
 
           roots_are : map root_of_row roots ≡ roots_of size (all_of real bytes size b.segments)
@@ -237,55 +278,142 @@ module _ (bytes : List ℕ) (size : IdSize) (strings : List Text) (classes : Lis
 
           objects_again : tally.repeated ≡ repeats (λ (x : Object). x.id) (filter_map (object_of real size) (all_of real bytes size b.segments))
           objects_again =
-              n.repeated_is ∙ ap (repeats same) (ids-of-entries known bytes size list) ∙ repeats-map same id_of_entry (filter_map (entry_of known bytes size) list)
+              n.repeated_is ∙ ap (repeats same) (ids-of-entries known bytes size list)
+              ∙ repeats-map same id_of_entry (filter_map (entry_of known bytes size) list)
               ∙ sym (repeats-map (λ (x : Object). x.id) object_of_entry (filter_map (entry_of known bytes size) list))
-              ∙ ap (repeats (λ (x : Object). x.id)) (ap (λ (kn : KnownClasses). map object_of_entry (filter_map (entry_of kn bytes size) list)) known-is ∙ ap (λ (l : List Sub). map object_of_entry (filter_map (entry_of (resolved_class real) bytes size) l)) b.list_is ∙ objects_in real bytes size spans b.segments b.whole)
+              ∙ ap (repeats (λ (x : Object). x.id)) (ap (λ (kn : KnownClasses). map object_of_entry (filter_map (entry_of kn bytes size) list)) known-is
+              ∙ ap (λ (l : List Sub). map object_of_entry (filter_map (entry_of (resolved_class real) bytes size) l)) b.list_is
+              ∙ objects_in real bytes size spans b.segments b.whole)
 
           opaque_are : tally.opaque ≡ opaque_in (resolved_class real) placed
           opaque_are = n.opaque_is ∙ ap (λ (kn : KnownClasses). opaque_in kn list) known-is ∙ ap (opaque_in (resolved_class real)) list_of_records
 
           -- what is repeated, and the names of classes
-          module _ (mode : Mode) (names : List (ℕ × List ℕ)) (names_are : names ≡ first_names bytes k classes) (texts_again loads_again : ℕ) (texts_are : texts_again ≡ repeats (λ (x : Text). x.id) strings) (loads_are : loads_again ≡ repeats (λ (x : Load). x.class) classes) where
+          module _ (mode : Mode) (names : List (ℕ × List ℕ)) (names_are : names ≡ first_names bytes k classes) (texts_again loads_again : ℕ)
+              (texts_are : texts_again ≡ repeats (λ (x : Text). x.id) strings) (loads_are : loads_again ≡ repeats (λ (x : Load). x.class) classes) where
             abbrev again : Repeated
             again = record { objects = tally.repeated; strings = texts_again; loads = loads_again }
 
             again_is : again ≡ repeated_of real size r.records (all_of real bytes size b.segments)
             again_is =
                 ap (λ (m : ℕ). record { objects = m; strings = texts_again; loads = loads_again }) objects_again
-                ∙ ap (λ (m : ℕ). record { objects = repeats (λ (x : Object). x.id) (filter_map (object_of real size) (all_of real bytes size b.segments)); strings = m; loads = loads_again }) (texts_are ∙ ap (repeats (λ (x : Text). x.id)) r.strings_are)
-                ∙ ap (λ (m : ℕ). record { objects = repeats (λ (x : Object). x.id) (filter_map (object_of real size) (all_of real bytes size b.segments)); strings = repeats (λ (x : Text). x.id) (texts size r.records); loads = m })
+                ∙ ap (λ (m : ℕ). record {
+                  objects = repeats (λ (x : Object). x.id) (filter_map (object_of real size) (all_of real bytes size b.segments));
+                  strings = m;
+                  loads = loads_again;
+                }) (texts_are ∙ ap (repeats (λ (x : Text). x.id)) r.strings_are)
+                ∙ ap (λ (m : ℕ). record {
+                  objects = repeats (λ (x : Object). x.id) (filter_map (object_of real size) (all_of real bytes size b.segments));
+                  strings = repeats (λ (x : Text). x.id) (texts size r.records);
+                  loads = m;
+                })
                 (loads_are ∙ ap (repeats (λ (x : Load). x.class)) r.loads_are)
 
             class-names-are : names ≡ names_of real
             class-names-are = names_are ∙ first-names table k h ∙ ap names_of table-is
 
             -- all but the names that go with class objects
-            shown-is : (cs : List NamedClass) → record { mode = mode; objects = row_objects c.shapes t.ids t.rows; roots = map root_of_row roots; repeated = again; opaque = tally.opaque; names = names; classes = cs }
+            shown-is : (cs : List NamedClass) → record {
+              mode = mode;
+              objects = row_objects c.shapes t.ids t.rows;
+              roots = map root_of_row roots;
+              repeated =
+                  again;
+              opaque = tally.opaque;
+              names = names;
+              classes = cs;
+            }
                 ≡ record (dump_of mode bytes size r.records b.segments) { classes = cs }
             shown-is cs =
-                ap (λ (xs : List Object). record { mode = mode; objects = xs; roots = map root_of_row roots; repeated = again; opaque = tally.opaque; names = names; classes = cs }) objects_are
-                ∙ ap (λ (xs : List Root). record { mode = mode; objects = objects_of real size (all_of real bytes size b.segments); roots = xs; repeated = again; opaque = tally.opaque; names = names; classes = cs }) roots_are
-                ∙ ap (λ (x : Repeated). record { mode = mode; objects = objects_of real size (all_of real bytes size b.segments); roots = roots_of size (all_of real bytes size b.segments); repeated = x; opaque = tally.opaque; names = names; classes = cs }) again_is
-                ∙ ap (λ (m : ℕ). record { mode = mode; objects = objects_of real size (all_of real bytes size b.segments); roots = roots_of size (all_of real bytes size b.segments); repeated = repeated_of real size r.records (all_of real bytes size b.segments); opaque = m; names = names; classes = cs }) opaque_are
-                ∙ ap (λ (ns : List (ℕ × List ℕ)). record { mode = mode; objects = objects_of real size (all_of real bytes size b.segments); roots = roots_of size (all_of real bytes size b.segments); repeated = repeated_of real size r.records (all_of real bytes size b.segments); opaque = opaque_in (resolved_class real) placed; names = ns; classes = cs }) class-names-are
+                ap (λ (xs : List Object). record {
+                  mode = mode;
+                  objects = xs;
+                  roots = map root_of_row roots;
+                  repeated = again;
+                  opaque = tally.opaque;
+                  names =
+                      names;
+                  classes = cs;
+                }) objects_are
+                ∙ ap (λ (xs : List Root). record {
+                  mode = mode;
+                  objects = objects_of real size (all_of real bytes size b.segments);
+                  roots = xs;
+                  repeated =
+                      again;
+                  opaque = tally.opaque;
+                  names = names;
+                  classes = cs;
+                }) roots_are
+                ∙ ap (λ (x : Repeated). record {
+                  mode = mode;
+                  objects = objects_of real size (all_of real bytes size b.segments);
+                  roots =
+                      roots_of size (all_of real bytes size b.segments);
+                  repeated = x;
+                  opaque = tally.opaque;
+                  names = names;
+                  classes = cs;
+                }) again_is
+                ∙ ap (λ (m : ℕ). record {
+                  mode = mode;
+                  objects = objects_of real size (all_of real bytes size b.segments);
+                  roots =
+                      roots_of size (all_of real bytes size b.segments);
+                  repeated = repeated_of real size r.records (all_of real bytes size b.segments);
+                  opaque =
+                      m;
+                  names = names;
+                  classes = cs;
+                }) opaque_are
+                ∙ ap (λ (ns : List (ℕ × List ℕ)). record {
+                  mode = mode;
+                  objects = objects_of real size (all_of real bytes size b.segments);
+                  roots =
+                      roots_of size (all_of real bytes size b.segments);
+                  repeated = repeated_of real size r.records (all_of real bytes size b.segments);
+                  opaque =
+                      opaque_in (resolved_class real) placed;
+                  names = ns;
+                  classes = cs;
+                }) class-names-are
 
             file-reads : ReadsAs bytes size r.records b.segments
             file-reads = record { header = r.header; whole = r.whole; bodies = dump_bodies; classes = no-cycle; objects = sym object-faults-are ∙ n.no_fault }
 
-            pub opened : IsNamelessDumpOf mode bytes (record { mode = mode; objects = row_objects c.shapes t.ids t.rows; roots = map root_of_row roots; repeated = again; opaque = tally.opaque; names = names; classes = [] })
+            pub opened : IsNamelessDumpOf mode bytes
+                (record {
+                  mode = mode;
+                  objects = row_objects c.shapes t.ids t.rows;
+                  roots = map root_of_row roots;
+                  repeated = again;
+                  opaque = tally.opaque;
+                  names = names;
+                  classes = [];
+                })
             opened = record {
               named = dump_of mode bytes size r.records b.segments;
               is_dump = record { size = size; records = r.records; segments = b.segments; reads = file-reads; is = refl };
               is = shown-is [];
             }
 
-            pub opened-named : IsDumpOf mode bytes (record { mode = mode; objects = row_objects c.shapes t.ids t.rows; roots = map root_of_row roots; repeated = again; opaque = tally.opaque; names = names; classes = named_classes_of table })
+            pub opened-named : IsDumpOf mode bytes
+                (record {
+                  mode = mode;
+                  objects = row_objects c.shapes t.ids t.rows;
+                  roots = map root_of_row roots;
+                  repeated = again;
+                  opaque = tally.opaque;
+                  names = names;
+                  classes = named_classes_of table;
+                })
             opened-named = record {
               size = size;
               records = r.records;
               segments = b.segments;
               reads = file-reads;
-              is = shown-is (named_classes_of table) ∙ ap (λ (t : ClassTable). record (dump_of mode bytes size r.records b.segments) { classes = named_classes_of t }) table-is;
+              is = shown-is (named_classes_of table)
+                  ∙ ap (λ (t : ClassTable). record (dump_of mode bytes size r.records b.segments) { classes = named_classes_of t }) table-is;
             }
 
 pub records-fault : (bytes : List ℕ) (f : ReadFault) → IsRecordsFaultOrMemory bytes f → IsReadFaultOrMemory bytes f

@@ -31,9 +31,12 @@ pub ids-at-places : (bytes : List ℕ) (size : IdSize) (start at : ℕ) (fs : Li
 ids-at-places bytes size start at [] = refl
 ids-at-places bytes size start at (f ∷ fs) =
     let next : start + at + value_len size f.code ≡ start + (at + value_len size f.code) = omega arith in
-    by_type (value_ids bytes size (placed_fields size (start + at + value_len size f.code) fs)) (reference_places size (at + value_len size f.code) fs) (is_id_type f.code) (ap (λ (n : ℕ). value_ids bytes size (placed_fields size n fs)) next ∙ ids-at-places bytes size start (at + value_len size f.code) fs)
+    by_type (value_ids bytes size (placed_fields size (start + at + value_len size f.code) fs)) (reference_places size (at + value_len size f.code) fs)
+    (is_id_type f.code) (ap (λ (n : ℕ). value_ids bytes size (placed_fields size n fs)) next
+    ∙ ids-at-places bytes size start (at + value_len size f.code) fs)
   where
-    by_type : (rest places : List ℕ) (b : Bool) → rest ≡ ids_at bytes size start places → cond b (id_at bytes size (start + at) ∷ rest) rest ≡ ids_at bytes size start (cond b (at ∷ places) places)
+    by_type : (rest places : List ℕ) (b : Bool) → rest ≡ ids_at bytes size start places
+        → cond b (id_at bytes size (start + at) ∷ rest) rest ≡ ids_at bytes size start (cond b (at ∷ places) places)
     by_type rest places true e = ap (λ (xs : List ℕ). id_at bytes size (start + at) ∷ xs) e
     by_type rest places false e = e
 
@@ -41,14 +44,16 @@ ids-at-places bytes size start at (f ∷ fs) =
 pub places-numbered : (size : IdSize) (classes : Known) (i : ℕ) → places_by_number size classes i ≡ reference_places size 0 (layout_by_number classes i)
 places-numbered size classes i = by_class (known_by_number classes i)
   where
-    by_class : (o : Option ResolvedClass) → option_map_or (λ (k : ResolvedClass). reference_places size 0 k.layout) o [] ≡ reference_places size 0 (option_map_or (λ (k : ResolvedClass). k.layout) o [])
+    by_class : (o : Option ResolvedClass) → option_map_or (λ (k : ResolvedClass). reference_places size 0 k.layout) o [] ≡ reference_places size 0
+        (option_map_or (λ (k : ResolvedClass). k.layout) o [])
     by_class None = refl
     by_class (Some k) = refl
 
 pub length-numbered : (size : IdSize) (classes : Known) (i : ℕ) → length_by_number size classes i ≡ layout_len size (layout_by_number classes i)
 length-numbered size classes i = by_class (known_by_number classes i)
   where
-    by_class : (o : Option ResolvedClass) → option_map_or (λ (k : ResolvedClass). layout_len size k.layout) o 0 ≡ layout_len size (option_map_or (λ (k : ResolvedClass). k.layout) o [])
+    by_class : (o : Option ResolvedClass) → option_map_or (λ (k : ResolvedClass). layout_len size k.layout) o 0 ≡ layout_len size
+        (option_map_or (λ (k : ResolvedClass). k.layout) o [])
     by_class None = refl
     by_class (Some k) = refl
 
@@ -71,22 +76,27 @@ places-added start i classes old new places are added =
     let ids = ids_at old.bytes old.size start in
     let here : start ≡ start + 0 = omega arith in
     let whole : ids places ≡ value_ids old.bytes old.size (placed_fields old.size start layout) =
-    ap ids (are ∙ places-numbered old.size classes i) ∙ sym (ids-at-places old.bytes old.size start 0 layout) ∙ ap (λ (n : ℕ). value_ids old.bytes old.size (placed_fields old.size n layout)) (sym here) in
+    ap ids (are ∙ places-numbered old.size classes i) ∙ sym (ids-at-places old.bytes old.size start 0 layout)
+    ∙ ap (λ (n : ℕ). value_ids old.bytes old.size (placed_fields old.size n layout)) (sym here) in
     added
-    ∙ ap (λ (n : ℕ). record old { filling = old.filling ++ ids places; count = old.count + n }) (sym (length-map places (λ (place : ℕ). id_at old.bytes old.size (start + place))))
+    ∙ ap (λ (n : ℕ). record old { filling = old.filling ++ ids places; count = old.count + n })
+    (sym (length-map places (λ (place : ℕ). id_at old.bytes old.size (start + place))))
     ∙ ap (λ (xs : List ℕ). record old { filling = old.filling ++ xs; count = old.count + length xs }) whole
 
 -- and they lie in the file
-pub places-within : (size : IdSize) (n start at : ℕ) (fs : List LayoutField) → start + at + layout_len size fs ≤ n → All (λ (place : ℕ). IsIdWithin size n (start + place)) (reference_places size at fs)
+pub places-within : (size : IdSize) (n start at : ℕ) (fs : List LayoutField) → start + at + layout_len size fs ≤ n
+    → All (λ (place : ℕ). IsIdWithin size n (start + place)) (reference_places size at fs)
 places-within size n start at [] within = All-nil (λ (place : ℕ). IsIdWithin size n (start + place))
 places-within size n start at (f ∷ fs) within =
     let cons = layout_len-cons size f fs in
-    by_type (reference_places size (at + value_len size f.code) fs) (is_id_type f.code) refl (omega (arith, cons, within)) (places-within size n start (at + value_len size f.code) fs (omega (arith, cons, within)))
+    by_type (reference_places size (at + value_len size f.code) fs) (is_id_type f.code) refl (omega (arith, cons, within))
+    (places-within size n start (at + value_len size f.code) fs (omega (arith, cons, within)))
   where
     id-here : is_id_type f.code ≡ true → start + at + value_len size f.code ≤ n → start + at + id_len size ≤ n
     id-here is here = omega (arith, here, ap (λ (b : Bool). cond b (id_len size) (element_len f.code)) is)
 
-    by_type : (rest : List ℕ) (b : Bool) → is_id_type f.code ≡ b → start + at + value_len size f.code ≤ n → All (IsPlaceWithin size n start) rest → All (IsPlaceWithin size n start) (cond b (at ∷ rest) rest)
+    by_type : (rest : List ℕ) (b : Bool) → is_id_type f.code ≡ b → start + at + value_len size f.code ≤ n → All (IsPlaceWithin size n start) rest
+        → All (IsPlaceWithin size n start) (cond b (at ∷ rest) rest)
     by_type rest true is here all = All-cons (IsPlaceWithin size n start) at rest (id-here is here) all
     by_type rest false is here all = all
 
@@ -97,5 +107,6 @@ pub fits-layout : (size : IdSize) (len number class : ℕ) (before after : Sized
 fits-layout size len number class before after sizes same fits = (
   fits.k,
   fits-numbered size len number class before before fits.k sizes refl fits fits.numbered,
-  ap (λ (l : SizedClasses). layout_by_number l.classes number) same ∙ ap (λ (o : Option ResolvedClass). option_map_or (λ (x : ResolvedClass). x.layout) o []) fits.numbered,
+  ap (λ (l : SizedClasses). layout_by_number l.classes number) same
+      ∙ ap (λ (o : Option ResolvedClass). option_map_or (λ (x : ResolvedClass). x.layout) o []) fits.numbered,
 )

@@ -1,5 +1,6 @@
 -- The names of a class's slots rise, and there is one for each ID of its row.
-use Rattle.std.proofs.Common.{◌≡◌, ◌∙◌, ℕ, suc, ◌+◌, ◌<◌, inl, inr, List, [], ◌∷◌, ◌++◌, length, drop, Bool, true, false, cond, refl, sym, ap, arith, length-append}
+use Rattle.std.proofs.Common.{◌≡◌, ◌∙◌, ℕ, suc, ◌+◌, ◌<◌, inl, inr, List, [], ◌∷◌, ◌++◌, length, drop, Bool, true, false, cond, refl, sym, ap, arith}
+use Rattle.std.proofs.Common.{length-append}
 use Rattle.std.specs.List.{AllByRecursion}
 use Rattle.byteorder.specs.Endian.{big_number}
 use Rattle.hd_terms.specs.declared.IdSize.{IdSize}
@@ -14,12 +15,14 @@ use Rattle.hd_graph.specs.Shapes.{ComesBefore, IsRising}
 use Rattle.hd_graph.specs.ArrayRows.{values_of_statics, values_of_constants, value_ids, value_names, class_row, class_names}
 
 -- as many names as IDs among values
-pub as-many-names : (bytes : List ℕ) (size : IdSize) (slot : ℕ → Slot) (i : ℕ) (vs : List (ℕ × Span)) → length (value_names slot i vs) ≡ length (value_ids bytes size vs)
+pub as-many-names : (bytes : List ℕ) (size : IdSize) (slot : ℕ → Slot) (i : ℕ) (vs : List (ℕ × Span))
+    → length (value_names slot i vs) ≡ length (value_ids bytes size vs)
 as-many-names bytes size slot i [] = refl
 as-many-names bytes size slot i (v ∷ vs) = by_type (is_id_type v.0) (as-many-names bytes size slot (i + 1) vs)
   where
     by_type : (b : Bool) → length (value_names slot (i + 1) vs) ≡ length (value_ids bytes size vs)
-        → length (cond b (slot i ∷ value_names slot (i + 1) vs) (value_names slot (i + 1) vs)) ≡ length (cond b (big_number (id_len size) (drop v.1.start bytes) ∷ value_ids bytes size vs) (value_ids bytes size vs))
+        → length (cond b (slot i ∷ value_names slot (i + 1) vs) (value_names slot (i + 1) vs)) ≡ length
+        (cond b (big_number (id_len size) (drop v.1.start bytes) ∷ value_ids bytes size vs) (value_ids bytes size vs))
     by_type true e = ap suc e
     by_type false e = e
 
@@ -32,7 +35,8 @@ class-names-many bytes size c =
       arith,
       as-many-names bytes size (λ i. slots.Static i) 0 ss,
       as-many-names bytes size (λ i. slots.Const i) 0 ks,
-      length-append (value_names (λ i. slots.Static i) 0 ss ++ value_names (λ i. slots.Const i) 0 ks) (slots.Super ∷ slots.Loader ∷ slots.Signers ∷ slots.Domain ∷ []),
+      length-append (value_names (λ i. slots.Static i) 0 ss ++ value_names (λ i. slots.Const i) 0 ks)
+          (slots.Super ∷ slots.Loader ∷ slots.Signers ∷ slots.Domain ∷ []),
       length-append (value_names (λ i. slots.Static i) 0 ss) (value_names (λ i. slots.Const i) 0 ks),
       length-append (value_ids bytes size ss ++ value_ids bytes size ks) (c.super ∷ c.loader ∷ c.signers ∷ c.domain ∷ []),
       length-append (value_ids bytes size ss) (value_ids bytes size ks),
@@ -54,7 +58,8 @@ module _ (slot : ℕ → Slot) (k : ℕ) (kind : (i : ℕ) → (slot_code (slot 
   after-one i j [] lt = tt
   after-one i j (v ∷ vs) lt = by_type (is_id_type v.0) (after-one i (j + 1) vs (omega arith))
     where
-      by_type : (b : Bool) → AllByRecursion (ComesBefore (slot i)) (value_names slot (j + 1) vs) → AllByRecursion (ComesBefore (slot i)) (cond b (slot j ∷ value_names slot (j + 1) vs) (value_names slot (j + 1) vs))
+      by_type : (b : Bool) → AllByRecursion (ComesBefore (slot i)) (value_names slot (j + 1) vs)
+          → AllByRecursion (ComesBefore (slot i)) (cond b (slot j ∷ value_names slot (j + 1) vs) (value_names slot (j + 1) vs))
       by_type true all = (inr (kind i ∙ sym (kind j), omega (arith, number i, number j)), all)
       by_type false all = all
 
@@ -71,7 +76,8 @@ module _ (slot : ℕ → Slot) (k : ℕ) (kind : (i : ℕ) → (slot_code (slot 
   all-values P each i [] = tt
   all-values P each i (v ∷ vs) = by_type (is_id_type v.0) (all-values P each (i + 1) vs)
     where
-      by_type : (b : Bool) → AllByRecursion P (value_names slot (i + 1) vs) → AllByRecursion P (cond b (slot i ∷ value_names slot (i + 1) vs) (value_names slot (i + 1) vs))
+      by_type : (b : Bool) → AllByRecursion P (value_names slot (i + 1) vs)
+          → AllByRecursion P (cond b (slot i ∷ value_names slot (i + 1) vs) (value_names slot (i + 1) vs))
       by_type true all = (each i, all)
       by_type false all = all
 
@@ -79,7 +85,10 @@ abbrev links : List Slot
 links = slots.Super ∷ slots.Loader ∷ slots.Signers ∷ slots.Domain ∷ []
 
 rising-links : IsRising links
-rising-links = ((inl (omega arith), (inl (omega arith), (inl (omega arith), tt))), ((inl (omega arith), (inl (omega arith), tt)), ((inl (omega arith), tt), (tt, tt))))
+rising-links = (
+  (inl (omega arith), (inl (omega arith), (inl (omega arith), tt))),
+  ((inl (omega arith), (inl (omega arith), tt)), ((inl (omega arith), tt), (tt, tt))),
+)
 
 static-before-links : (i : ℕ) → AllByRecursion (ComesBefore (slots.Static i)) links
 static-before-links i = (inl (omega arith), (inl (omega arith), (inl (omega arith), (inl (omega arith), tt))))
@@ -104,5 +113,6 @@ class-names-rise c =
     (all-values (λ i. slots.Static i) 2 static_kind (λ i. refl) (λ (x : Slot). AllByRecursion (ComesBefore x) links) static-before-links 0 ss)
     (all-values (λ i. slots.Const i) 3 const_kind (λ i. refl) (λ (x : Slot). AllByRecursion (ComesBefore x) links) const-before-links 0 ks) in
     rising-append (A ++ B) links
-    (rising-append A B (rising-values (λ i. slots.Static i) 2 static_kind (λ i. refl) 0 ss) (rising-values (λ i. slots.Const i) 3 const_kind (λ i. refl) 0 ks) across)
+    (rising-append A B (rising-values (λ i. slots.Static i) 2 static_kind (λ i. refl) 0 ss)
+    (rising-values (λ i. slots.Const i) 3 const_kind (λ i. refl) 0 ks) across)
     rising-links to_links

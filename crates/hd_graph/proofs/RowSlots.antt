@@ -1,5 +1,6 @@
 -- Lemmas on rows of object arrays: their slots, and the indexes of these.
-use Rattle.std.proofs.Common.{◌≡◌, ◌∙◌, ℕ, zero, suc, ◌+◌, ◌-◌, ◌<◌, inl, inr, List, [], ◌∷◌, length, get_or, Option, Some, None, Bool, true, true≢false, refl, sym, ap, arith, eqb-true, eq-eqb}
+use Rattle.std.proofs.Common.{◌≡◌, ◌∙◌, ℕ, zero, suc, ◌+◌, ◌-◌, ◌<◌, inl, inr, List, [], ◌∷◌, length, get_or, Option, Some, None, Bool, true, true≢false, refl}
+use Rattle.std.proofs.Common.{sym, ap, arith, eqb-true, eq-eqb}
 use Rattle.std.specs.List.{position, prefix_len, slice_get}
 use Rattle.std.specs.Prelude.{not}
 use Rattle.std.proofs.lemmas.Bool.{cases_lt, lt-ltb, le-ltb}
@@ -27,7 +28,8 @@ row_slots-class i (id ∷ next ∷ rest) zero last = absurd (omega arith)
 row_slots-class i (id ∷ next ∷ rest) (suc k) last = row_slots-class (i + 1) (next ∷ rest) k (omega arith)
 
 -- those before it are elements
-pub row_slots-element : (i : ℕ) (row : List ℕ) (k : ℕ) → suc k < length row → slice_get (row_slots i row) k ≡ Some (strong_slot (slots.Element (i + k)) (get_or row k 0))
+pub row_slots-element : (i : ℕ) (row : List ℕ) (k : ℕ) → suc k < length row
+    → slice_get (row_slots i row) k ≡ Some (strong_slot (slots.Element (i + k)) (get_or row k 0))
 row_slots-element i [] k before = absurd (omega arith)
 row_slots-element i (id ∷ []) k before = absurd (omega arith)
 row_slots-element i (id ∷ next ∷ rest) zero before = ap (λ (n : ℕ). Some (strong_slot (slots.Element n) id)) (omega arith)
@@ -35,7 +37,8 @@ row_slots-element i (id ∷ next ∷ rest) (suc k) before =
     row_slots-element (i + 1) (next ∷ rest) k (omega arith) ∙ ap (λ (n : ℕ). Some (strong_slot (slots.Element n) (get_or (next ∷ rest) k 0))) (omega arith)
 
 -- a slot of a row stands at its index
-pub index-of-slot : (row : List ℕ) (slot : Slot) (i : ℕ) (s : SlotEntry) → slice_get (row_slots 0 row) i ≡ Some s → same_slot s.slot slot ≡ true → row_index (length row) slot ≡ Some i
+pub index-of-slot : (row : List ℕ) (slot : Slot) (i : ℕ) (s : SlotEntry) → slice_get (row_slots 0 row) i ≡ Some s → same_slot s.slot slot ≡ true
+    → row_index (length row) slot ≡ Some i
 index-of-slot row slot i s at same = elim (cases_lt (suc i) (length row)) [
   | inl before ↦
       let is : strong_slot (slots.Element (0 + i)) (get_or row i 0) ≡ s = same_Some _ _ (sym (row_slots-element 0 row i before) ∙ at) in
@@ -82,7 +85,12 @@ slot-at-index row (slots.Element k) i h = elim (cases_lt k (length row - 1)) [
   | inl lt ↦
       let found : Some k ≡ Some i = rw (lt-ltb k (length row - 1) lt) at h in
       let is : k ≡ i = same_Some _ _ found in
-      record { entry = strong_slot (slots.Element (0 + i)) (get_or row i 0); here = row_slots-element 0 row i (omega arith); same = eq-eqb (0 + i) k (omega arith) }
+      record {
+        entry = strong_slot (slots.Element (0 + i)) (get_or row i 0);
+        here = row_slots-element 0 row i (omega arith);
+        same =
+            eq-eqb (0 + i) k (omega arith);
+      }
   | inr le ↦ let none : None ≡ Some i = rw (le-ltb k (length row - 1) le) at h in absurd cc
 ]
 slot-at-index row (slots.Static k) i h = absurd cc

@@ -1,5 +1,6 @@
 -- Lemmas on the slots of objects of any shape, and on their indexes.
-use Rattle.std.proofs.Common.{◌≡◌, ◌∙◌, ℕ, zero, suc, ◌+◌, ◌-◌, ◌<◌, ◌≤◌, ◌^◌, inl, inr, List, [], ◌∷◌, length, map, get_or, Option, Some, None, Bool, true, false, ◌&&◌, true≢false, refl, sym, ap, subst, arith, cond, eqb, eqb-true, eq-eqb, ne_eqb, ltb}
+use Rattle.std.proofs.Common.{◌≡◌, ◌∙◌, ℕ, zero, suc, ◌+◌, ◌-◌, ◌<◌, ◌≤◌, ◌^◌, inl, inr, List, [], ◌∷◌, length, map, get_or, Option, Some, None, Bool, true}
+use Rattle.std.proofs.Common.{false, ◌&&◌, true≢false, refl, sym, ap, subst, arith, cond, eqb, eqb-true, eq-eqb, ne_eqb, ltb}
 use Rattle.std.specs.List.{position, prefix_len, slice_get, AllByRecursion}
 use Rattle.std.specs.Prelude.{not}
 use Rattle.std.proofs.lemmas.List.{length-map}
@@ -14,7 +15,8 @@ use Rattle.hd_terms.specs.EditedDump.{same_slot, slot_code}
 use Rattle.hd_terms.specs.Slots.{strong_slot}
 use Rattle.hd_graph.specs.Arrays.{row_slots}
 use Rattle.hd_shapes.specs.Shapes.{ObjectShape, ObjectArray, PrimitiveArray, ClassObject, Instance}
-use Rattle.hd_graph.specs.Shapes.{named_slots, with_kind, shape_slots, slot_name, slot_kind, shape_index, ComesBefore, IsRising, HasShape, IsNamedAt, HasFewNames}
+use Rattle.hd_graph.specs.Shapes.{named_slots, with_kind, shape_slots, slot_name, slot_kind, shape_index, ComesBefore, IsRising, HasShape, IsNamedAt}
+use Rattle.hd_graph.specs.Shapes.{HasFewNames}
 use Rattle.hd_graph.proofs.RowSlots.{length-row_slots, row_slots-class, row_slots-element, index-of-slot, first-index}
 
 -- as many slots as IDs
@@ -29,7 +31,8 @@ pub length-shape_slots : (shape : ObjectShape) (row : List ℕ) → HasShape sha
 length-shape_slots (ObjectArray bytes) row fit = length-row_slots 0 row
 length-shape_slots (PrimitiveArray element bytes) row fit = length-row_slots 0 row
 length-shape_slots (ClassObject bytes names) row fit = length-named_slots names row fit.0
-length-shape_slots (Instance bytes names referent kind) row fit = length-map (named_slots names row) (with_kind referent kind) ∙ length-named_slots names row fit.0
+length-shape_slots (Instance bytes names referent kind) row fit = length-map (named_slots names row) (with_kind referent kind)
+    ∙ length-named_slots names row fit.0
 
 -- the slot at an index
 
@@ -41,12 +44,14 @@ named-at (name ∷ names) [] i many lt = absurd (omega arith)
 named-at (name ∷ names) (id ∷ ids) zero many lt = refl
 named-at (name ∷ names) (id ∷ ids) (suc i) many lt = named-at names ids i (omega arith) (omega arith)
 
-element-or-class : (row : List ℕ) (i : ℕ) → i < length row → slice_get (row_slots 0 row) i ≡ Some (strong_slot (cond (eqb i (length row - 1)) slots.OfClass (slots.Element i)) (get_or row i 0))
+element-or-class : (row : List ℕ) (i : ℕ) → i < length row
+    → slice_get (row_slots 0 row) i ≡ Some (strong_slot (cond (eqb i (length row - 1)) slots.OfClass (slots.Element i)) (get_or row i 0))
 element-or-class row i lt = elim (cases_lt (suc i) (length row)) [
   | inl before ↦
       row_slots-element 0 row i before
       ∙ ap (λ (n : ℕ). Some (strong_slot (slots.Element n) (get_or row i 0))) (omega arith)
-      ∙ ap (λ (b : Bool). Some (strong_slot (cond b slots.OfClass (slots.Element i)) (get_or row i 0))) (sym (ne_eqb i (length row - 1) (λ e. omega (arith, e))))
+      ∙ ap (λ (b : Bool). Some (strong_slot (cond b slots.OfClass (slots.Element i)) (get_or row i 0)))
+      (sym (ne_eqb i (length row - 1) (λ e. omega (arith, e))))
   | inr past ↦
       row_slots-class 0 row i (omega arith)
       ∙ ap (λ (b : Bool). Some (strong_slot (cond b slots.OfClass (slots.Element i)) (get_or row i 0))) (sym (eq-eqb i (length row - 1) (omega arith)))
@@ -105,7 +110,8 @@ and-false-right true b e = e
 and-false-right false b e = refl
 
 -- names of which those before an index are others, and the one at it is the slot
-pub found-among : (names : List Slot) (slot : Slot) (i : ℕ) (d : Slot) → i < length names → i ≤ prefix_len (λ (name : Slot). not (same_slot name slot)) names → same_slot (get_or names i d) slot ≡ true
+pub found-among : (names : List Slot) (slot : Slot) (i : ℕ) (d : Slot) → i < length names → i ≤ prefix_len (λ (name : Slot). not (same_slot name slot)) names
+    → same_slot (get_or names i d) slot ≡ true
     → position (λ (name : Slot). same_slot name slot) names ≡ Some i
 found-among names slot i d lt before here =
     let n = prefix_len (λ (name : Slot). not (same_slot name slot)) names in
@@ -116,7 +122,8 @@ found-among names slot i d lt before here =
     ap (λ (k : ℕ). cond (ltb k (length names)) (Some k) None) at ∙ ap (λ (b : Bool). cond b (Some i) None) (lt-ltb i (length names) lt)
 
 -- one more is another
-pub one-more-among : (names : List Slot) (slot : Slot) (i : ℕ) (d : Slot) → i < length names → i ≤ prefix_len (λ (name : Slot). not (same_slot name slot)) names → same_slot (get_or names i d) slot ≡ false
+pub one-more-among : (names : List Slot) (slot : Slot) (i : ℕ) (d : Slot) → i < length names → i ≤ prefix_len (λ (name : Slot). not (same_slot name slot)) names
+    → same_slot (get_or names i d) slot ≡ false
     → i + 1 ≤ prefix_len (λ (name : Slot). not (same_slot name slot)) names
 one-more-among names slot i d lt before other = elim (cases_lt i (prefix_len (λ (name : Slot). not (same_slot name slot)) names)) [
   | inl more ↦ omega arith
@@ -128,7 +135,8 @@ one-more-among names slot i d lt before other = elim (cases_lt i (prefix_len (λ
 ]
 
 -- all are others
-pub none-among : (names : List Slot) (slot : Slot) → length names ≤ prefix_len (λ (name : Slot). not (same_slot name slot)) names → None ≡ position (λ (name : Slot). same_slot name slot) names
+pub none-among : (names : List Slot) (slot : Slot) → length names ≤ prefix_len (λ (name : Slot). not (same_slot name slot)) names
+    → None ≡ position (λ (name : Slot). same_slot name slot) names
 none-among names slot past =
     let n = prefix_len (λ (name : Slot). not (same_slot name slot)) names in
     sym (ap (λ (b : Bool). cond b (Some n) None) (le-ltb n (length names) past))
@@ -136,25 +144,31 @@ none-among names slot past =
 -- a slot that comes before another isn't that one
 pub differs : (a b c : Slot) → ComesBefore a b → same_slot b c ≡ true → same_slot a c ≡ false
 differs a b c before same =
-    let kind : (slot_code b).0 ≡ (slot_code c).0 = eqb-true (slot_code b).0 (slot_code c).0 (and-left (eqb (slot_code b).0 (slot_code c).0) (eqb (slot_code b).1 (slot_code c).1) same) in
-    let number : (slot_code b).1 ≡ (slot_code c).1 = eqb-true (slot_code b).1 (slot_code c).1 (and-right (eqb (slot_code b).0 (slot_code c).0) (eqb (slot_code b).1 (slot_code c).1) same) in
+    let kind : (slot_code b).0 ≡ (slot_code c).0 =
+    eqb-true (slot_code b).0 (slot_code c).0 (and-left (eqb (slot_code b).0 (slot_code c).0) (eqb (slot_code b).1 (slot_code c).1) same) in
+    let number : (slot_code b).1 ≡ (slot_code c).1 =
+    eqb-true (slot_code b).1 (slot_code c).1 (and-right (eqb (slot_code b).0 (slot_code c).0) (eqb (slot_code b).1 (slot_code c).1) same) in
     by_case before kind number
   where
     by_case : ComesBefore a b → (slot_code b).0 ≡ (slot_code c).0 → (slot_code b).1 ≡ (slot_code c).1 → same_slot a c ≡ false
     by_case (inl less) kind number =
-        and-false-left (eqb (slot_code a).0 (slot_code c).0) (eqb (slot_code a).1 (slot_code c).1) (ne_eqb (slot_code a).0 (slot_code c).0 (λ e. omega (arith, e, kind, less)))
+        and-false-left (eqb (slot_code a).0 (slot_code c).0) (eqb (slot_code a).1 (slot_code c).1)
+        (ne_eqb (slot_code a).0 (slot_code c).0 (λ e. omega (arith, e, kind, less)))
     by_case (inr (even, less)) kind number =
-        and-false-right (eqb (slot_code a).0 (slot_code c).0) (eqb (slot_code a).1 (slot_code c).1) (ne_eqb (slot_code a).1 (slot_code c).1 (λ e. omega (arith, e, number, less)))
+        and-false-right (eqb (slot_code a).0 (slot_code c).0) (eqb (slot_code a).1 (slot_code c).1)
+        (ne_eqb (slot_code a).1 (slot_code c).1 (λ e. omega (arith, e, number, less)))
 
 -- what holds of all names holds of the name at an index
-named-in : (P : Slot → Type 0) (names : List Slot) (ids : List ℕ) (i : ℕ) (e : SlotEntry) → AllByRecursion P names → slice_get (named_slots names ids) i ≡ Some e → P e.slot
+named-in : (P : Slot → Type 0) (names : List Slot) (ids : List ℕ) (i : ℕ) (e : SlotEntry) → AllByRecursion P names
+    → slice_get (named_slots names ids) i ≡ Some e → P e.slot
 named-in P [] ids i e all at = absurd cc
 named-in P (name ∷ names) [] i e all at = absurd cc
 named-in P (name ∷ names) (id ∷ ids) zero e all at = subst (λ (x : SlotEntry). P x.slot) (same_Some _ _ at) all.0
 named-in P (name ∷ names) (id ∷ ids) (suc i) e all at = named-in P names ids i e all.1 at
 
 -- the names before the one of a slot are others
-prefix-at : (names : List Slot) (ids : List ℕ) (slot : Slot) (i : ℕ) (e : SlotEntry) → IsRising names → slice_get (named_slots names ids) i ≡ Some e → same_slot e.slot slot ≡ true
+prefix-at : (names : List Slot) (ids : List ℕ) (slot : Slot) (i : ℕ) (e : SlotEntry) → IsRising names → slice_get (named_slots names ids) i ≡ Some e
+    → same_slot e.slot slot ≡ true
     → prefix_len (λ (name : Slot). not (same_slot name slot)) names ≡ i
 prefix-at [] ids slot i e rising at same = absurd cc
 prefix-at (name ∷ names) [] slot i e rising at same = absurd cc
@@ -164,9 +178,11 @@ prefix-at (name ∷ names) (id ∷ ids) slot zero e rising at same =
 prefix-at (name ∷ names) (id ∷ ids) slot (suc i) e rising at same =
     let more : 1 + i ≡ suc i = omega arith in
     let other : same_slot name slot ≡ false = differs name e.slot slot (named-in (ComesBefore name) names ids i e rising.0 at) same in
-    ap (λ (b : Bool). cond (not b) (1 + prefix_len (λ (n : Slot). not (same_slot n slot)) names) 0) other ∙ ap (λ (n : ℕ). 1 + n) (prefix-at names ids slot i e rising.1 at same) ∙ more
+    ap (λ (b : Bool). cond (not b) (1 + prefix_len (λ (n : Slot). not (same_slot n slot)) names) 0) other
+    ∙ ap (λ (n : ℕ). 1 + n) (prefix-at names ids slot i e rising.1 at same) ∙ more
 
-index-of-named : (names : List Slot) (ids : List ℕ) (slot : Slot) (i : ℕ) (e : SlotEntry) → length names ≡ length ids → IsRising names → slice_get (named_slots names ids) i ≡ Some e → same_slot e.slot slot ≡ true
+index-of-named : (names : List Slot) (ids : List ℕ) (slot : Slot) (i : ℕ) (e : SlotEntry) → length names ≡ length ids → IsRising names
+    → slice_get (named_slots names ids) i ≡ Some e → same_slot e.slot slot ≡ true
     → position (λ (name : Slot). same_slot name slot) names ≡ Some i
 index-of-named names ids slot i e many rising at same =
     let within : i < length names = omega (arith, slice_get_within (named_slots names ids) i e at, length-named_slots names ids many) in
@@ -183,12 +199,14 @@ first-named : (names : List Slot) (ids : List ℕ) (slot : Slot) → length name
     → position (λ (name : Slot). same_slot name slot) names ≡ position (λ (e : SlotEntry). same_slot e.slot slot) (named_slots names ids)
 first-named names ids slot many =
     ap (λ (n : ℕ). cond (ltb n (length names)) (Some n) None) (prefix-named names ids slot many)
-    ∙ ap (λ (m : ℕ). cond (ltb (prefix_len (λ (e : SlotEntry). not (same_slot e.slot slot)) (named_slots names ids)) m) (Some (prefix_len (λ (e : SlotEntry). not (same_slot e.slot slot)) (named_slots names ids))) None)
+    ∙ ap (λ (m : ℕ). cond (ltb (prefix_len (λ (e : SlotEntry). not (same_slot e.slot slot)) (named_slots names ids)) m)
+    (Some (prefix_len (λ (e : SlotEntry). not (same_slot e.slot slot)) (named_slots names ids))) None)
     (many ∙ sym (length-named_slots names ids many))
 
 -- a kind makes no difference to a slot's index
 prefix-with-kind : (referent : Option Slot) (kind : EdgeKind) (slot : Slot) (es : List SlotEntry)
-    → prefix_len (λ (e : SlotEntry). not (same_slot e.slot slot)) (map (with_kind referent kind) es) ≡ prefix_len (λ (e : SlotEntry). not (same_slot e.slot slot)) es
+    → prefix_len (λ (e : SlotEntry). not (same_slot e.slot slot)) (map (with_kind referent kind) es) ≡ prefix_len
+    (λ (e : SlotEntry). not (same_slot e.slot slot)) es
 prefix-with-kind referent kind slot [] = refl
 prefix-with-kind referent kind slot (e ∷ es) = ap (λ (n : ℕ). cond (not (same_slot e.slot slot)) (1 + n) 0) (prefix-with-kind referent kind slot es)
 
@@ -196,15 +214,19 @@ index-with-kind : (referent : Option Slot) (kind : EdgeKind) (slot : Slot) (es :
     → position (λ (e : SlotEntry). same_slot e.slot slot) (map (with_kind referent kind) es) ≡ position (λ (e : SlotEntry). same_slot e.slot slot) es
 index-with-kind referent kind slot es =
     ap (λ (n : ℕ). cond (ltb n (length (map (with_kind referent kind) es))) (Some n) None) (prefix-with-kind referent kind slot es)
-    ∙ ap (λ (m : ℕ). cond (ltb (prefix_len (λ (e : SlotEntry). not (same_slot e.slot slot)) es) m) (Some (prefix_len (λ (e : SlotEntry). not (same_slot e.slot slot)) es)) None) (length-map es (with_kind referent kind))
+    ∙ ap (λ (m : ℕ). cond (ltb (prefix_len (λ (e : SlotEntry). not (same_slot e.slot slot)) es) m)
+    (Some (prefix_len (λ (e : SlotEntry). not (same_slot e.slot slot)) es)) None) (length-map es (with_kind referent kind))
 
-pub first-slot_index : (shape : ObjectShape) (row : List ℕ) (slot : Slot) → HasShape shape row → shape_index shape (length row) slot ≡ position (λ (e : SlotEntry). same_slot e.slot slot) (shape_slots shape row)
+pub first-slot_index : (shape : ObjectShape) (row : List ℕ) (slot : Slot) → HasShape shape row → shape_index shape (length row) slot ≡ position
+    (λ (e : SlotEntry). same_slot e.slot slot) (shape_slots shape row)
 first-slot_index (ObjectArray bytes) row slot fit = first-index row slot
 first-slot_index (PrimitiveArray element bytes) row slot fit = first-index row slot
 first-slot_index (ClassObject bytes names) row slot fit = first-named names row slot fit.0
-first-slot_index (Instance bytes names referent kind) row slot fit = first-named names row slot fit.0 ∙ sym (index-with-kind referent kind slot (named_slots names row))
+first-slot_index (Instance bytes names referent kind) row slot fit = first-named names row slot fit.0
+    ∙ sym (index-with-kind referent kind slot (named_slots names row))
 
-pub slot_index-of : (shape : ObjectShape) (row : List ℕ) (slot : Slot) (i : ℕ) (e : SlotEntry) → HasShape shape row → slice_get (shape_slots shape row) i ≡ Some e → same_slot e.slot slot ≡ true
+pub slot_index-of : (shape : ObjectShape) (row : List ℕ) (slot : Slot) (i : ℕ) (e : SlotEntry) → HasShape shape row
+    → slice_get (shape_slots shape row) i ≡ Some e → same_slot e.slot slot ≡ true
     → shape_index shape (length row) slot ≡ Some i
 slot_index-of (ObjectArray bytes) row slot i e fit at same = index-of-slot row slot i e at same
 slot_index-of (PrimitiveArray element bytes) row slot i e fit at same = index-of-slot row slot i e at same

@@ -62,12 +62,15 @@ module _ (shapes : List ObjectShape) (ids : List ℕ) (rows : List (List ℕ)) (
     pub named-here : IsNamedAt shape i
     named-here = subst (λ (x : ObjectShape). IsNamedAt x i) shape-is (named-there shape_here row_here i fits-here in-row)
 
-    pub kind-here : (s : SlotEntry) → slice_get (get_or (row_objects shapes ids rows) o no_object).slots i ≡ Some s → slot_kind shape (slot_name shape (length row_here) i) ≡ s.kind
+    pub kind-here : (s : SlotEntry) → slice_get (get_or (row_objects shapes ids rows) o no_object).slots i ≡ Some s
+        → slot_kind shape (slot_name shape (length row_here) i) ≡ s.kind
     kind-here s at = ap (λ (x : ObjectShape). slot_kind x (slot_name x (length row_here) i)) (sym shape-is) ∙ ap (λ (e : SlotEntry). e.kind) (entry-here s at)
 
 -- the objects that the slots of an object refer to
-pub targets-here : (shapes : List ObjectShape) (ids : List ℕ) (rows : List (List ℕ)) → AreColumns shapes ids rows → (o : ℕ) → o < length (row_objects shapes ids rows)
-    → map (λ (id : ℕ). position (λ x. eqb id x) ids) (get_or rows o []) ≡ map (λ (s : SlotEntry). index_of (row_objects shapes ids rows) s.id) (get_or (row_objects shapes ids rows) o no_object).slots
+pub targets-here : (shapes : List ObjectShape) (ids : List ℕ) (rows : List (List ℕ)) → AreColumns shapes ids rows → (o : ℕ)
+    → o < length (row_objects shapes ids rows)
+    → map (λ (id : ℕ). position (λ x. eqb id x) ids) (get_or rows o []) ≡ map (λ (s : SlotEntry). index_of (row_objects shapes ids rows) s.id)
+    (get_or (row_objects shapes ids rows) o no_object).slots
 targets-here shapes ids rows columns o lt =
     let entries = (get_or (row_objects shapes ids rows) o no_object).slots in
     let by_entry : SlotEntry → Option ℕ = λ s. index_of (row_objects shapes ids rows) s.id in
@@ -78,7 +81,8 @@ targets-here shapes ids rows columns o lt =
     (λ i at. sym (target-here shapes ids rows columns o i lt (omega (arith, long, many))))
 
 -- what isn't an instance has strong slots
-pub strong-elsewhere : (shape : declared_shape.Shape) → ((layout : Bor LayoutShape) → shape ≡ read.Instance layout → ⊥) → (slot : Slot) → slot_kind (shape_view shape) slot ≡ kinds.Strong
+pub strong-elsewhere : (shape : declared_shape.Shape) → ((layout : Bor LayoutShape) → shape ≡ read.Instance layout → ⊥) → (slot : Slot)
+    → slot_kind (shape_view shape) slot ≡ kinds.Strong
 strong-elsewhere (read.ObjectArray bytes) other slot = refl
 strong-elsewhere (read.PrimitiveArray element bytes) other slot = refl
 strong-elsewhere (read.Class class) other slot = refl
@@ -95,4 +99,5 @@ module _ (layout : LayoutShape) (n i : ℕ) where
   strong-instance none = strong-without layout.referent layout.kind (slot_name (layout_view layout) n i) none
 
   pub name-of-instance : i < length layout.names.items → (name : Slot) → name ≡ get_or layout.names.items i name → slot_name (layout_view layout) n i ≡ name
-  name-of-instance named name there = get_or_from_slice_get layout.names.items i name slots.OfClass (slice_get-get_or layout.names.items i name named ∙ ap (λ (s : Slot). Some s) (sym there))
+  name-of-instance named name there = get_or_from_slice_get layout.names.items i name slots.OfClass (slice_get-get_or layout.names.items i name named
+      ∙ ap (λ (s : Slot). Some s) (sym there))

@@ -26,18 +26,21 @@ module _ (known : KnownClasses) (bytes : List ℕ) (size : IdSize) (fits : lengt
   abbrev HasSmall : ObjectEntry → Type 0
   HasSmall a = IsSmall a.2
 
-  item-small : (at : ℕ) (i : Item) (rest : List ObjectEntry) → IsItemWithin size bytes at i → All HasSmall rest → All HasSmall (cons_option (entry_of_item known bytes size i) rest)
+  item-small : (at : ℕ) (i : Item) (rest : List ObjectEntry) → IsItemWithin size bytes at i → All HasSmall rest
+      → All HasSmall (cons_option (entry_of_item known bytes size i) rest)
   item-small at (subs.Root kind id) rest within all = all
   item-small at (subs.Class c) rest within all = All-cons HasSmall _ rest (omega (arith, within.0.bytes)) all
   item-small at (subs.Instance id class values) rest within all =
-      All-cons HasSmall _ rest (omega (arith, within.0, instance-bytes bytes size id class values (known class) (fitting size values.len (known class)) refl)) all
+      All-cons HasSmall _ rest (omega (arith, within.0, instance-bytes bytes size id class values (known class) (fitting size values.len (known class)) refl))
+      all
   item-small at (ObjArray id class elements) rest within all = All-cons HasSmall _ rest (omega (arith, within.0)) all
   item-small at (PrimArray id element count) rest within all = All-cons HasSmall _ rest (omega arith) all
 
   items-small : (list : List Sub) → All (IsSubWithin size bytes) list → All HasSmall (filter_map (entry_of known bytes size) list)
   items-small [] within = All-nil HasSmall
   items-small (s ∷ list) within =
-      item-small s.offset s.item (filter_map (entry_of known bytes size) list) (All-head (IsSubWithin size bytes) s list within) (items-small list (All-tail (IsSubWithin size bytes) s list within))
+      item-small s.offset s.item (filter_map (entry_of known bytes size) list) (All-head (IsSubWithin size bytes) s list within)
+      (items-small list (All-tail (IsSubWithin size bytes) s list within))
 
   firsts-small : (key : ObjectEntry → ℕ) (before xs : List ObjectEntry) → All HasSmall xs → All HasSmall (firsts_from key before xs)
   firsts-small key before [] all = All-nil HasSmall
@@ -49,7 +52,8 @@ module _ (known : KnownClasses) (bytes : List ℕ) (size : IdSize) (fits : lengt
       by_known false rest more = All-cons HasSmall x rest (All-head HasSmall x xs all) more
 
   pub shapes-small : (list : List Sub) → AreWithin size bytes list → All IsSmall (map shape_of_entry (entries_of known bytes size list))
-  shapes-small list within = All-map IsSmall shape_of_entry (entries_of known bytes size list) (firsts-small _ [] (filter_map (entry_of known bytes size) list) (items-small list within.each))
+  shapes-small list within = All-map IsSmall shape_of_entry (entries_of known bytes size list)
+      (firsts-small _ [] (filter_map (entry_of known bytes size) list) (items-small list within.each))
 
 -- each object's shape fits its row
 module _ (known : KnownClasses) (bytes : List ℕ) (size : IdSize) where
@@ -59,7 +63,8 @@ module _ (known : KnownClasses) (bytes : List ℕ) (size : IdSize) where
   item-fits : (i : Item) (rest : List ObjectEntry) → All Fits rest → All Fits (cons_option (entry_of_item known bytes size i) rest)
   item-fits (subs.Root kind id) rest all = all
   item-fits (subs.Class c) rest all = All-cons Fits _ rest (class-names-many bytes size c, class-names-rise c) all
-  item-fits (subs.Instance id class values) rest all = All-cons Fits _ rest (instance-fits bytes size id class values (fitting size values.len (known class))) all
+  item-fits (subs.Instance id class values) rest all =
+      All-cons Fits _ rest (instance-fits bytes size id class values (fitting size values.len (known class))) all
   item-fits (ObjArray id class elements) rest all = All-cons Fits _ rest tt all
   item-fits (PrimArray id element count) rest all = All-cons Fits _ rest tt all
 
@@ -80,5 +85,6 @@ module _ (known : KnownClasses) (bytes : List ℕ) (size : IdSize) where
   zipped [] all = tt
   zipped (x ∷ xs) all = (All-head Fits x xs all, zipped xs (All-tail Fits x xs all))
 
-  pub shapes-fit : (list : List Sub) → AllZip HasShape (map shape_of_entry (entries_of known bytes size list)) (map row_of_entry (entries_of known bytes size list))
+  pub shapes-fit : (list : List Sub) → AllZip HasShape (map shape_of_entry (entries_of known bytes size list))
+      (map row_of_entry (entries_of known bytes size list))
   shapes-fit list = zipped (entries_of known bytes size list) (firsts-fit _ [] (filter_map (entry_of known bytes size) list) (items-fit list))

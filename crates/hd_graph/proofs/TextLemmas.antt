@@ -12,11 +12,13 @@ use Rattle.hd_decode.proofs.SpanLemmas.{after_body, ends}
 
 module _ (bytes : List ℕ) where
   -- the texts among the records lie in the file
-  case-text : (b : Bool) (x : Text) (xs : List Text) → IsTextWithin (length bytes) x → All (IsTextWithin (length bytes)) xs → All (IsTextWithin (length bytes)) (cons_option (cond b (Some x) None) xs)
+  case-text : (b : Bool) (x : Text) (xs : List Text) → IsTextWithin (length bytes) x → All (IsTextWithin (length bytes)) xs
+      → All (IsTextWithin (length bytes)) (cons_option (cond b (Some x) None) xs)
   case-text true x xs here rest = All-cons (IsTextWithin (length bytes)) x xs here rest
   case-text false x xs here rest = rest
 
-  pub texts-in-file : (size : IdSize) → length bytes ≤ largest_file → (at : ℕ) (rs : List Record) → drop at bytes ≡ flat_map record_text rs → AllByRecursion (IsRecord size) rs
+  pub texts-in-file : (size : IdSize) → length bytes ≤ largest_file → (at : ℕ) (rs : List Record) → drop at bytes ≡ flat_map record_text rs
+      → AllByRecursion (IsRecord size) rs
       → All (IsTextWithin (length bytes)) (filter_map (text_of size) (placed at rs))
   texts-in-file size fits at [] whole each = All-nil (IsTextWithin (length bytes))
   texts-in-file size fits at (r ∷ rs) whole each =
@@ -25,8 +27,12 @@ module _ (bytes : List ℕ) where
       by_tag (r.tag == 0x01) refl more
     where
       by_tag : (b : Bool) → (r.tag == 0x01) ≡ b → All (IsTextWithin (length bytes)) (filter_map (text_of size) (placed (at + 9 + length r.body) rs))
-          → All (IsTextWithin (length bytes)) (cons_option (cond b (Some (record { id = big_number (id_len size) r.body; text = record { start = at + 9 + id_len size; len = length r.body - id_len size } })) None) (filter_map (text_of size) (placed (at + 9 + length r.body) rs)))
+          → All (IsTextWithin (length bytes))
+          (cons_option (cond b (Some
+          (record { id = big_number (id_len size) r.body; text = record { start = at + 9 + id_len size; len = length r.body - id_len size } })) None)
+          (filter_map (text_of size) (placed (at + 9 + length r.body) rs)))
       by_tag false is rest_within = rest_within
       by_tag true is rest_within =
-          let least : id_len size ≤ length r.body = subst (λ (n : ℕ). n ≤ length r.body) (ap (λ (b : Bool). cond b (id_len size) (cond (r.tag == 0x02) (8 + 2 * id_len size) 0)) is) each.0.fields in
+          let least : id_len size ≤ length r.body =
+          subst (λ (n : ℕ). n ≤ length r.body) (ap (λ (b : Bool). cond b (id_len size) (cond (r.tag == 0x02) (8 + 2 * id_len size) 0)) is) each.0.fields in
           case-text true _ _ (omega (arith, ends bytes at r (flat_map record_text rs) each.0.framed whole, least)) rest_within

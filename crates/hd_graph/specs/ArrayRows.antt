@@ -1,6 +1,7 @@
 -- The rows and shapes of objects, read from the file by their sub-records' spans.
 -- Source: HPROF binary format, CLASS DUMP, INSTANCE DUMP, OBJECT ARRAY DUMP and PRIMITIVE ARRAY DUMP.
-use Rattle.std.specs.Prelude.{◌≡◌, ℕ, zero, suc, ◌+◌, ◌*◌, ◌/◌, ◌≤◌, ◌==◌, if◌then◌else◌, map, List, [], ◌∷◌, ◌++◌, length, drop, sum_by, All, Option, Some, None}
+use Rattle.std.specs.Prelude.{◌≡◌, ℕ, zero, suc, ◌+◌, ◌*◌, ◌/◌, ◌≤◌, ◌==◌, if◌then◌else◌, map, List, [], ◌∷◌, ◌++◌, length, drop, sum_by, All, Option, Some}
+use Rattle.std.specs.Prelude.{None}
 use Rattle.std.specs.Option.{option_map, option_map_or, option_and_then}
 use Rattle.std.specs.List.{filter_map}
 use Rattle.byteorder.specs.Endian.{big_number}
@@ -54,7 +55,8 @@ value_names slot i (v ∷ vs) = if is_id_type v.0 then slot i ∷ value_names sl
 -- the row of a class: the IDs in its statics and constants, then those of its super class, loader, signers and domain
 abbrev pub class_row : List ℕ → IdSize → ClassItem → List ℕ
 class_row bytes size c =
-    value_ids bytes size (values_of_statics c.statics) ++ value_ids bytes size (values_of_constants c.constants) ++ c.super ∷ c.loader ∷ c.signers ∷ c.domain ∷ []
+    value_ids bytes size (values_of_statics c.statics) ++ value_ids bytes size (values_of_constants c.constants)
+    ++ c.super ∷ c.loader ∷ c.signers ∷ c.domain ∷ []
 
 -- the names of its slots
 abbrev pub class_names : ClassItem → List Slot
@@ -171,7 +173,8 @@ pub record IsClassWithin (size : IdSize) (n : ℕ) (c : ClassItem) : Type 0 wher
 -- IDs that stand one after another from an offset of the file on: a class's super class, loader, signers and protection domain
 abbrev pub links_at : List ℕ → IdSize → ℕ → List ℕ
 links_at bytes size offset =
-    id_at bytes size offset ∷ id_at bytes size (offset + id_len size) ∷ id_at bytes size (offset + 2 * id_len size) ∷ id_at bytes size (offset + 3 * id_len size) ∷ []
+    id_at bytes size offset ∷ id_at bytes size (offset + id_len size) ∷ id_at bytes size (offset + 2 * id_len size) ∷ id_at bytes size
+    (offset + 3 * id_len size) ∷ []
 
 -- a class has these, and they lie in the file
 pub record HasLinks (bytes : List ℕ) (size : IdSize) (offset : ℕ) (c : ClassItem) : Type 0 where

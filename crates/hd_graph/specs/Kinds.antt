@@ -21,7 +21,8 @@ kept_of lists references.Phantom = lists.phantom.items
 
 -- the edge that is kept so: that of the slot at an index of an object
 abbrev pub kept_edge : List Object → KeptEdge → Option Edge
-kept_edge objects kept = option_and_then (λ (x : Object). option_and_then (edge_of objects kept.source) (slice_get x.slots kept.index)) (slice_get objects kept.source)
+kept_edge objects kept = option_and_then (λ (x : Object). option_and_then (edge_of objects kept.source) (slice_get x.slots kept.index))
+    (slice_get objects kept.source)
 
 -- the edges of a kind among edges
 abbrev pub of_kind : RefKind → List Edge → List Edge

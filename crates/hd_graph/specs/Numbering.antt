@@ -1,5 +1,5 @@
 -- What numbering the objects in file order comes to.
-use Rattle.std.specs.Prelude.{◌≡◌, ◌⊎◌, ◌<◌, ◌==◌, ◌+◌, ◌&&◌, not, if◌then◌else◌, ℕ, true, false, List, slice_get, [], ◌∷◌, ◌++◌, map, Some, All}
+use Rattle.std.specs.Prelude.{◌≡◌, ◌⊎◌, ◌<◌, ◌==◌, ◌+◌, ◌^◌, ◌&&◌, not, if◌then◌else◌, ℕ, true, false, List, slice_get, [], ◌∷◌, ◌++◌, map, Some, All}
 use Rattle.std.specs.List.{list_any, filter_map}
 use Rattle.hd_terms.specs.declared.IdSize.{IdSize}
 use Rattle.hd_terms.specs.declared.errors.Cause.TheVariants as causes
@@ -13,9 +13,8 @@ use Rattle.hd_terms.specs.ReadFaults.{fault}
 use Rattle.hd_graph.specs.declared.graph.StoredRoot.{StoredRoot}
 use Rattle.hd_graph.specs.declared.number.Tally.{Tally}
 use Rattle.hd_graph.specs.declared.number.NumberedStretch.{NumberedStretch}
-use Rattle.hd_graph.specs.declared.numbering.Numbered.{Numbered}
 use Rattle.hd_graph.specs.GraphInside.{root_of_row}
-use Rattle.hd_ids.specs.Noted.{is_noted, are_all_apart}
+use Rattle.hd_ids.specs.Noted.{is_noted, are_apart}
 use Rattle.hd_classes.specs.Repeats.{NotesId}
 use Rattle.hd_graph.specs.ArrayRows.{object_id, object_ids, roots_in}
 
@@ -38,12 +37,19 @@ pub record IsNumbered (known : KnownClasses) (size : IdSize) (list : List Sub) (
 abbrev pub joined_tally : Tally → Tally → Tally
 joined_tally front back = record { repeated = front.repeated + back.repeated; opaque = front.opaque + back.opaque }
 
+-- there is room to count both
+pub record HaveRoom (front back : Tally) : Type 0 where
+  pub repeated : front.repeated + back.repeated < 2 ^ 64
+  pub opaque : front.opaque + back.opaque < 2 ^ 64
+
 -- one more sub-record is numbered
 abbrev pub NumbersOneMore : KnownClasses → IdSize → Sub → List ℕ → List StoredRoot → Tally → List ℕ → List StoredRoot → Tally → Type 0
-NumbersOneMore known size s ids roots tally ids' roots' tally' = (front : List Sub) → IsNumbered known size front ids roots tally → IsNumbered known size (front ++ s ∷ []) ids' roots' tally'
+NumbersOneMore known size s ids roots tally ids' roots' tally' = (front : List Sub) → IsNumbered known size front ids roots tally
+    → IsNumbered known size (front ++ s ∷ []) ids' roots' tally'
 
 -- one more sub-record of an object of an ID: it is noted, and if it is new it fits, and is counted if it is opaque
-pub record NotesObject (known : KnownClasses) (size : IdSize) (item : Item) (id : ℕ) (ids : List ℕ) (tally : Tally) (ids' : List ℕ) (tally' : Tally) : Type 0 where
+pub record NotesObject (known : KnownClasses) (size : IdSize) (item : Item) (id : ℕ) (ids : List ℕ) (tally : Tally) (ids' : List ℕ)
+    (tally' : Tally) : Type 0 where
   pub some : 0 < id
   pub noted : NotesId id ids tally.repeated ids' tally'.repeated
   pub fits : is_noted ids id ≡ false → is_size_mismatch known size item ≡ false
@@ -53,7 +59,8 @@ pub record NotesObject (known : KnownClasses) (size : IdSize) (item : Item) (id 
 pub data IsObjectStop (known : KnownClasses) (size : IdSize) (item : Item) (id offset : ℕ) (ids : List ℕ) : ReadFault → Type 0 where
   memory : IsObjectStop known size item id offset ids (fault causes.OutOfMemory 0)
   null : id ≡ 0 → IsObjectStop known size item id offset ids (fault causes.NullObject offset)
-  size_mismatch : 0 < id → is_noted ids id ≡ false → is_size_mismatch known size item ≡ true → IsObjectStop known size item id offset ids (fault causes.InstanceSize offset)
+  size_mismatch : 0 < id → is_noted ids id ≡ false → is_size_mismatch known size item ≡ true
+      → IsObjectStop known size item id offset ids (fault causes.InstanceSize offset)
 
 -- out of memory, or the ID 0 at an offset
 abbrev pub IsNullIdOrMemory : ℕ → ℕ → ReadFault → Type 0
@@ -63,9 +70,9 @@ IsNullIdOrMemory id offset f = (f ≡ fault causes.OutOfMemory 0) ⊎ ((id ≡ 0
 abbrev pub StopsAt : KnownClasses → IdSize → Sub → List ℕ → ReadFault → Type 0
 StopsAt known size s ids f = (f ≡ fault causes.OutOfMemory 0) ⊎ ((id : ℕ) × (object_id s ≡ Some id) × IsObjectStop known size s.item id s.offset ids f)
 
--- four stretches are numbered as one, each behind the one before: no ID is in two
-pub record JoinsNumbers (first second third fourth : NumberedStretch) (all : Numbered) : Type 0 where
-  pub apart : are_all_apart first.ids second.ids third.ids fourth.ids ≡ true
-  pub ids_are : all.ids ≡ ((first.ids ++ second.ids) ++ third.ids) ++ fourth.ids
-  pub roots_are : all.roots.items ≡ ((first.roots.items ++ second.roots.items) ++ third.roots.items) ++ fourth.roots.items
-  pub tally_is : all.tally ≡ joined_tally (joined_tally (joined_tally first.tally second.tally) third.tally) fourth.tally
+-- two stretches are numbered as one, the back behind the front: no ID is in both
+pub record JoinsNumbers (front back all : NumberedStretch) : Type 0 where
+  pub apart : are_apart front.ids back.ids ≡ true
+  pub ids_are : all.ids ≡ front.ids ++ back.ids
+  pub roots_are : all.roots.items ≡ front.roots.items ++ back.roots.items
+  pub tally_is : all.tally ≡ joined_tally front.tally back.tally

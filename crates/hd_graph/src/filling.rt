@@ -1,12 +1,13 @@
 //! Filling the rows and shapes of objects, in the order of their numbers.
-ghost use Rattle.std.specs.Prelude.{◌≡◌, ◌+◌, ◌<◌, ◌≤◌, ◌-◌, ◌^◌, [], ◌++◌, length, All, IfOk, IfSome, OnOk};
+ghost use Rattle.std.specs.Prelude.{◌≡◌, ◌+◌, ◌<◌, ◌≤◌, ◌-◌, ◌^◌, [], ◌∷◌, ◌++◌, length, All, IfOk, IfSome, OnOk};
 ghost use Rattle.std.specs.List.{cons_option};
-ghost use Rattle.std.specs.Arc.{arc_value};
 ghost use Rattle.hd_terms.specs.FirstRecords.{id_of_item};
 ghost use Rattle.hd_classes.specs.Known.{known_at};
+ghost use Rattle.hd_shapes.specs.JoinedShapes.{joined_objects};
 ghost use Rattle.hd_slots.specs.JoinedInside.{joined_table};
 ghost use Rattle.hd_subs.specs.Views.{item_view, sub_view};
 ghost use Rattle.hd_graph.specs.ArrayRows.{AreWithin, IsSubWithin, object_ids, item_weight, shape_of_item, weight};
+ghost use Rattle.hd_graph.specs.Made.{CanBeJoined};
 ghost use Rattle.hd_graph.specs.Building.{HasNoRows, HasRowsOf, HasAllRows, HasAllShapes, AddsItemRow, FillsItem, columns, stretch, AreLayouts, AreFewAndShort};
 
 use crate::array_rows::{bytes_of_elements, push_array};
@@ -30,6 +31,13 @@ pub(crate) struct StretchRows<'a> {
     pub(crate) shapes: Shapes,
 }
 
+/// The references and the shapes of the objects of some parts of the sub-records.
+#[derive(Drop)]
+pub(crate) struct RowParts<'a> {
+    pub(crate) slot_tables: Vec<UnresolvedSlots<'a>>,
+    pub(crate) shapes: Vec<Shapes>,
+}
+
 /// The references of objects, by the file offsets of their IDs, and their shapes.
 #[derive(Drop)]
 pub(crate) struct Rows<'a> {
@@ -37,50 +45,41 @@ pub(crate) struct Rows<'a> {
     pub(crate) shapes: JoinedShapes,
 }
 
-impl<'a> StretchRows<'a> {
-    /// The rows and the shapes of no objects, over these IDs.
-    fn none(
-        alloc: Global,
-        bytes: &'a [u8],
-        id_size: IdSize,
-        ids: Arc<ObjectIds>,
-    ) -> Result<StretchRows<'a>, AllocError>
-        requires small { length bytes.now < 2 ^ 31 }
-        requires few { length (arc_value ids) < 2 ^ 31 }
-        requires no_null { All (λ id. 0 < id) (arc_value ids) }
-        ensures rows { IfOk result (λ r. r.slot_table ≡ record { bytes = bytes.now; size = id_size; ids = arc_value ids; rows = []; filling = []; count = 0 }) }
-        ensures shapes { IfOk result (λ r. r.shapes.objects ≡ []) }
+impl<'a> RowParts<'a> {
+    /// No parts, and room for this many.
+    pub(crate) fn with_capacity(alloc: Global, parts: usize) -> Result<RowParts<'a>, AllocError>
+        ensures slot_tables { IfOk result (λ rows. rows.slot_tables.items ≡ []) }
+        ensures shapes { IfOk result (λ rows. rows.shapes.items ≡ []) }
     {
-        let slot_table = UnresolvedSlots::new(alloc, bytes, id_size, ids, 0)?;
-        let shapes = Shapes::with_capacity(alloc, 0, 0)?;
-        Ok(StretchRows { slot_table, shapes })
+        let slot_tables = Vec::with_capacity(alloc, parts)?;
+        let shapes = Vec::with_capacity(alloc, parts)?;
+        Ok(RowParts {
+            slot_tables,
+            shapes,
+        })
     }
-}
 
-impl<'a> Rows<'a> {
-    /// The rows and the shapes of four stretches, those of each behind those of the one before.
-    pub(crate) fn join(
-        first: StretchRows<'a>,
-        second: StretchRows<'a>,
-        third: StretchRows<'a>,
-        fourth: StretchRows<'a>,
-    ) -> Rows<'a>
-        requires bytes { (second.slot_table.bytes ≡ first.slot_table.bytes) × (third.slot_table.bytes ≡ first.slot_table.bytes) × (fourth.slot_table.bytes ≡ first.slot_table.bytes) }
-        requires size { (second.slot_table.size ≡ first.slot_table.size) × (third.slot_table.size ≡ first.slot_table.size) × (fourth.slot_table.size ≡ first.slot_table.size) }
-        requires ids { (second.slot_table.ids ≡ first.slot_table.ids) × (third.slot_table.ids ≡ first.slot_table.ids) × (fourth.slot_table.ids ≡ first.slot_table.ids) }
-        requires filled { (first.slot_table.filling ≡ []) × (second.slot_table.filling ≡ []) × (third.slot_table.filling ≡ []) × (fourth.slot_table.filling ≡ []) }
-        ensures rows { result.slot_table ≡ joined_table (joined_table (joined_table first.entry.slot_table second.entry.slot_table) third.entry.slot_table) fourth.entry.slot_table }
-        ensures shapes { result.shapes.objects ≡ ((first.entry.shapes.objects ++ second.entry.shapes.objects) ++ third.entry.shapes.objects) ++ fourth.entry.shapes.objects }
+    /// Adds a part behind the others.
+    pub(crate) fn push(&mut self, rows: StretchRows<'a>) -> Result<(), AllocError>
+        ensures slot_tables { OnOk result (self.new.slot_tables.items ≡ self.old.slot_tables.items ++ rows.entry.slot_table ∷ []) }
+        ensures shapes { OnOk result (self.new.shapes.items ≡ self.old.shapes.items ++ rows.entry.shapes ∷ []) }
     {
-        Rows {
-            slot_table: JoinedRows::join(
-                first.slot_table,
-                second.slot_table,
-                third.slot_table,
-                fourth.slot_table,
-            ),
-            shapes: JoinedShapes::join(first.shapes, second.shapes, third.shapes, fourth.shapes),
-        }
+        self.slot_tables.push(rows.slot_table)?;
+        self.shapes.push(rows.shapes)?;
+        Ok(())
+    }
+
+    /// The rows and the shapes of all parts, those of each behind those of the one before.
+    pub(crate) fn join(self, alloc: Global) -> Result<Rows<'a>, AllocError>
+        requires { CanBeJoined self.slot_tables.items self.shapes.items }
+        ensures rows { IfOk result (λ rows. rows.slot_table ≡ joined_table self.entry.slot_tables.items) }
+        ensures shapes { IfOk result (λ rows. rows.shapes.objects ≡ joined_objects self.entry.shapes.items) }
+    {
+        let shapes = JoinedShapes::join(alloc, self.shapes)?;
+        Ok(Rows {
+            slot_table: JoinedRows::join(self.slot_tables),
+            shapes,
+        })
     }
 }
 
@@ -212,13 +211,12 @@ fn first_rows_of<'a>(
     let mut layouts = LayoutBytes::new(alloc, classes, id_size)?;
     let mut shapes = Shapes::with_capacity(alloc, count, classes.len())?;
     let ids = Arc::new(alloc, ids)?;
-    let second = StretchRows::none(alloc, bytes, id_size, Arc::try_clone(&ids)?)?;
-    let third = StretchRows::none(alloc, bytes, id_size, Arc::try_clone(&ids)?)?;
-    let fourth = StretchRows::none(alloc, bytes, id_size, Arc::try_clone(&ids)?)?;
     let mut slot_table = UnresolvedSlots::new(alloc, bytes, id_size, ids, count)?;
     fill_first_rows(alloc, &mut slot_table, &mut shapes, &mut layouts, list)?;
-    let first = StretchRows { slot_table, shapes };
-    Ok(Rows::join(first, second, third, fourth))
+    let mut parts = RowParts::with_capacity(alloc, 1)?;
+    parts.push(StretchRows { slot_table, shapes })?;
+    let rows = parts.join(alloc)?;
+    Ok(rows)
 }
 
 /// The references and the shapes of the objects of these IDs, each once. Those of all sub-records are the same where no ID is

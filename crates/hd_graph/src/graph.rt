@@ -230,7 +230,7 @@ impl Graph {
     }
 
     /// The same graph with these names that go with class objects.
-    pub(crate) fn with_classes(self, classes: NamedClasses) -> Graph
+    pub fn with_classes(self, classes: NamedClasses) -> Graph
         ensures { result ≡ record self { classes = classes } }
     {
         let mut graph = self;

@@ -13,8 +13,8 @@
 //!   shapes of the objects, gives up the list of the sub-records, and has `hd_slots` turn the file offsets in the
 //!   rows into numbers.
 //!
-//! Numbers, rows and shapes are made in one pass, by four threads that take a quarter of the sub-records each
-//! (`sharing.rt`, `stretch.rt`). For each sub-record a thread does two things:
+//! Numbers, rows and shapes are made in one pass, by as many threads as there are workers, each of which takes a part
+//! of the sub-records (`sharing.rt`, `stretch.rt`). For each sub-record a thread does two things:
 //!
 //! - `number.rt` numbers the object by its ID, or keeps the root. It counts repeated IDs and opaque instances, and
 //!   finds the faults NullObject and InstanceSize.
@@ -22,14 +22,14 @@
 //!   for arrays, `instance_rows.rt` for instances, `class_rows.rt` for classes. The shape is made by
 //!   `instance_shapes.rt` and `class_shapes.rt`, and `layouts.rt` makes what all instances of a class share.
 //!
-//! `numbering.rt` puts the four parts together. Two cases need a further pass, for the first sub-record of each ID
-//! counts alone:
+//! The IDs of all parts are put together (`numbering.rt`); rows and shapes stay in their parts. Two cases need a further
+//! pass, for the first sub-record of each ID counts alone:
 //!
-//! - An ID is in two quarters, or a quarter other than the first has a fault. That fault may lie at a repeated ID,
-//!   where an instance of the wrong size is no fault. One thread numbers all objects (`number_alone`), and rows and
-//!   shapes are made again. A fault of the first quarter is the answer as it is.
-//! - The shapes are more than the IDs, so an ID is repeated within a quarter. Rows and shapes are made again, of the
-//!   first object of each ID (`rows_of`).
+//! - An ID is in two parts, or a part other than the first has a fault. That fault may lie at a repeated ID, where an
+//!   instance of the wrong size is no fault. One thread numbers all objects (`number_alone`), and rows and shapes are
+//!   made again. A fault of the first part is the answer as it is.
+//! - The shapes are more than the IDs, so an ID is repeated within a part. Rows and shapes are made again, of the first
+//!   object of each ID (`rows_of`).
 //!
 //! An opaque instance, whose class isn't known, has a row like that of an array without elements, and is kept as one.
 //!
@@ -43,6 +43,7 @@
 #![tactic(auto)]
 
 mod array_rows;
+mod building;
 mod class_rows;
 mod class_shapes;
 mod counts;
@@ -54,10 +55,8 @@ mod kinds;
 mod layouts;
 mod number;
 mod numbering;
-mod opening;
 mod sharing;
 mod stretch;
 
 pub use graph::{Graph, RootRead, SlotName, SlotRead};
 pub use kinds::KindLists;
-pub use opening::{open_dump, open_named_dump};

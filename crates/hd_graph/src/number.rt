@@ -10,7 +10,7 @@ ghost use Rattle.hd_subs.specs.Views.{sub_view};
 ghost use Rattle.hd_ids.specs.Noted.{is_noted};
 ghost use Rattle.hd_classes.specs.Repeats.{NotesId};
 ghost use Rattle.hd_graph.specs.Building.{stretch};
-ghost use Rattle.hd_graph.specs.Numbering.{IsNumbered, joined_tally, NumbersOneMore, IsObjectFaultOrMemory, NotesObject, IsObjectStop, IsNullIdOrMemory, StopsAt};
+ghost use Rattle.hd_graph.specs.Numbering.{IsNumbered, joined_tally, HaveRoom, NumbersOneMore, IsObjectFaultOrMemory, NotesObject, IsObjectStop, IsNullIdOrMemory, StopsAt};
 
 use crate::graph::StoredRoot;
 use hd_classes::{Classes, Fit, LayoutBytes, note_id};
@@ -31,8 +31,7 @@ pub(crate) struct Tally {
 impl Tally {
     /// What is counted of both.
     pub(crate) fn with(self, more: Tally) -> Tally
-        requires repeated { self.repeated + more.repeated < 2 ^ 64 }
-        requires opaque { self.opaque + more.opaque < 2 ^ 64 }
+        requires { HaveRoom self more }
         ensures { result ≡ joined_tally self more }
     {
         Tally {

@@ -1,10 +1,9 @@
-//! The numbers of the objects of a file, by those of four stretches of its sub-records, or made by one thread.
-ghost use Rattle.std.specs.Prelude.{◌≡◌, ◌+◌, ◌-◌, ◌<◌, ◌≤◌, ◌^◌, ℕ, false, length, All, IfOk, IfErr, MatchOption};
+//! The numbers of the objects of a file, by those of the parts of its sub-records, or made by one thread.
+ghost use Rattle.std.specs.Prelude.{◌≡◌, ◌<◌, ◌^◌, ℕ, [], false, length, All, IfOk, IfErr, MatchOption};
 ghost use Rattle.hd_terms.specs.Classes as classes_of;
-ghost use Rattle.hd_ids.specs.Noted.{are_all_apart};
+ghost use Rattle.hd_ids.specs.Noted.{are_apart};
 ghost use Rattle.hd_classes.specs.Known.{known_at};
-ghost use Rattle.hd_graph.specs.Building.{stretch};
-ghost use Rattle.hd_graph.specs.Numbering.{IsNumbered, IsObjectFaultOrMemory, JoinsNumbers};
+ghost use Rattle.hd_graph.specs.Numbering.{IsNumbered, IsObjectFaultOrMemory, JoinsNumbers, HaveRoom};
 
 use crate::graph::StoredRoot;
 use crate::number::{NumberedStretch, Tally, number_stretch};
@@ -22,37 +21,49 @@ pub(crate) struct Numbered {
     pub(crate) tally: Tally,
 }
 
-/// The objects of four stretches of sub-records, those of each numbered behind those of the one before; `None` if an ID is in two.
-pub(crate) fn join_numbers(
-    first: NumberedStretch,
-    second: NumberedStretch,
-    third: NumberedStretch,
-    fourth: NumberedStretch,
-) -> Result<Option<Numbered>, AllocError>
-    requires repeated { first.tally.repeated + second.tally.repeated + third.tally.repeated + fourth.tally.repeated < 2 ^ 64 }
-    requires opaque { first.tally.opaque + second.tally.opaque + third.tally.opaque + fourth.tally.opaque < 2 ^ 64 }
-    ensures { IfOk result (λ joined. MatchOption joined (are_all_apart first.ids second.ids third.ids fourth.ids ≡ false) (JoinsNumbers first second third fourth)) }
-{
-    let tally = first
-        .tally
-        .with(second.tally)
-        .with(third.tally)
-        .with(fourth.tally);
-    let mut roots = first.roots;
-    let Some(ids) = first.ids.followed_by(second.ids)? else {
-        return Ok(None);
-    };
-    let Some(ids) = ids.followed_by(third.ids)? else {
-        return Ok(None);
-    };
-    let Some(ids) = ids.followed_by(fourth.ids)? else {
-        return Ok(None);
-    };
-    roots.extend_from_slice(second.roots.as_slice())?;
-    roots.extend_from_slice(third.roots.as_slice())?;
-    roots.extend_from_slice(fourth.roots.as_slice())?;
-    let ids = ids.indexed();
-    Ok(Some(Numbered { ids, roots, tally }))
+impl NumberedStretch {
+    /// The numbers of no objects, and no roots. The secret is for the hashes of IDs.
+    pub(crate) fn none(alloc: Global, secret: u64) -> Result<NumberedStretch, AllocError>
+        ensures { IfOk result (λ n. (n.ids ≡ []) × (n.roots.items ≡ []) × (n.tally ≡ record { repeated = 0; opaque = 0 })) }
+    {
+        let ids = ObjectIds::with_capacity(alloc, 0, secret)?;
+        Ok(NumberedStretch {
+            ids,
+            roots: Vec::new(alloc),
+            tally: Tally {
+                repeated: 0,
+                opaque: 0,
+            },
+        })
+    }
+
+    /// The objects of both stretches of sub-records, those of `back` numbered behind these; `None` if an ID is in both.
+    pub(crate) fn followed_by(
+        self,
+        back: NumberedStretch,
+    ) -> Result<Option<NumberedStretch>, AllocError>
+        requires { HaveRoom self.tally back.tally }
+        ensures { IfOk result (λ joined. MatchOption joined (are_apart self.ids back.ids ≡ false) (JoinsNumbers self back)) }
+    {
+        let tally = self.tally.with(back.tally);
+        let mut roots = self.roots;
+        let Some(ids) = self.ids.followed_by(back.ids)? else {
+            return Ok(None);
+        };
+        roots.extend_from_slice(back.roots.as_slice())?;
+        Ok(Some(NumberedStretch { ids, roots, tally }))
+    }
+
+    /// These as the numbers of all objects of a file.
+    pub(crate) fn indexed(self) -> Numbered
+        ensures { result ≡ record { ids = self.ids; roots = self.roots; tally = self.tally } }
+    {
+        Numbered {
+            ids: self.ids.indexed(),
+            roots: self.roots,
+            tally: self.tally,
+        }
+    }
 }
 
 /// The numbers of the objects of a file, numbered one after the other: each ID once, how many objects are repeated or opaque, and the
@@ -68,15 +79,6 @@ pub(crate) fn number_alone(
     ensures ok { IfOk result (λ n. IsNumbered (known_at classes.now) id_size list.now n.ids n.roots.items n.tally) }
     ensures err { IfErr result (λ f. IsObjectFaultOrMemory (known_at classes.now) id_size list.now f) }
 {
-    let NumberedStretch { ids, roots, tally } = number_stretch(
-        alloc,
-        list,
-        classes,
-        id_size,
-        secret,
-        0,
-        list.len(),
-    )?;
-    let ids = ids.indexed();
-    Ok(Numbered { ids, roots, tally })
+    let numbers = number_stretch(alloc, list, classes, id_size, secret, 0, list.len())?;
+    Ok(numbers.indexed())
 }

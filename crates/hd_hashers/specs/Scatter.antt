@@ -4,7 +4,9 @@ use Rattle.std.specs.Prelude.{ℕ, ◌+◌, ◌*◌, ◌/◌, ◌%◌, ◌^◌, 
 
 -- the number that eight bytes are, the lowest first
 abbrev pub number : List ℕ → ℕ
-number bs = slice_index bs 0 + 256 * (slice_index bs 1 + 256 * (slice_index bs 2 + 256 * (slice_index bs 3 + 256 * (slice_index bs 4 + 256 * (slice_index bs 5 + 256 * (slice_index bs 6 + 256 * slice_index bs 7))))))
+number bs = slice_index bs 0 + 256 *
+    (slice_index bs 1 + 256 *
+    (slice_index bs 2 + 256 * (slice_index bs 3 + 256 * (slice_index bs 4 + 256 * (slice_index bs 5 + 256 * (slice_index bs 6 + 256 * slice_index bs 7))))))
 
 -- the upper half of a number of 64 bits, folded into the lower one
 abbrev pub folded : ℕ → ℕ

@@ -50,7 +50,8 @@ module _ (mask place : ℕ) (low : mask < 2 ^ place) where
     higher : 2 ^ place + 2 ^ place ≤ 2 ^ p
     higher =
         let e : p ≡ p - place - 1 + 1 + place = omega (arith, lt) in
-        let product : 2 ^ p ≡ 2 ^ (p - place - 1) * 2 * 2 ^ place = ap (λ (n : ℕ). 2 ^ n) e ∙ pow-add 2 (p - place - 1 + 1) place ∙ ap (λ (n : ℕ). n * 2 ^ place) (pow-add 2 (p - place - 1) 1) in
+        let product : 2 ^ p ≡ 2 ^ (p - place - 1) * 2 * 2 ^ place = ap (λ (n : ℕ). 2 ^ n) e ∙ pow-add 2 (p - place - 1 + 1) place
+        ∙ ap (λ (n : ℕ). n * 2 ^ place) (pow-add 2 (p - place - 1) 1) in
         grind (arith, product, pow_pos (p - place - 1))
 
     pub no-bit : bit_at (mask + 2 ^ place) p ≡ 0

@@ -1,5 +1,7 @@
 -- Rows that are told of pages, as entries and pages are added.
-use Rattle.std.proofs.Common.{◌≡◌, ◌≢◌, ◌∙◌, ◌⊎◌, inl, inr, ℕ, ◌+◌, ◌-◌, ◌/◌, ◌%◌, ◌<◌, ◌≤◌, ◌==◌, ◌&&◌, not, Bool, true, false, cond, eqb, nat_lt, nat_eq, List, [], ◌∷◌, ◌++◌, length, replicate, get_or, slice_set, slice_index, refl, sym, ap, arith, length-append, eq-eqb, get_or-set_same, get_or-set_other}
+use Rattle.std.proofs.Common.{◌≡◌, ◌≢◌, ◌∙◌, ◌⊎◌, inl, inr, ℕ, ◌+◌, ◌-◌, ◌/◌, ◌%◌, ◌<◌, ◌≤◌, ◌==◌, ◌&&◌, not, Bool, true, false, cond, eqb, nat_lt, nat_eq}
+use Rattle.std.proofs.Common.{List, [], ◌∷◌, ◌++◌, length, replicate, get_or, slice_set, slice_index, refl, sym, ap, arith, length-append, eq-eqb}
+use Rattle.std.proofs.Common.{get_or-set_same, get_or-set_other}
 use Rattle.std.specs.List.{IsDistinct}
 use Rattle.std.proofs.lemmas.Bool.{eqb-true, le-ltb, ltb-false}
 use Rattle.std.proofs.lemmas.Bool.Decides.{eqb_tells}
@@ -11,7 +13,8 @@ use Rattle.hd_ids.proofs.RowLemmas.{zeros, row-others, row-of-place}
 told-some : (d : Entries) (page row : ℕ) → told d page ≡ row + 1 → (page % 8 ≡ 0) × (d.first ≤ page / 8) × (slice_index d.rows (page / 8 - d.first) ≡ row + 1)
 told-some d page row e = by (page % 8 == 0) (nat_lt (page / 8) d.first) refl refl e
   where
-    by : (even below : Bool) → (page % 8 == 0) ≡ even → nat_lt (page / 8) d.first ≡ below → cond (even && not below) (slice_index d.rows (page / 8 - d.first)) 0 ≡ row + 1
+    by : (even below : Bool) → (page % 8 == 0) ≡ even → nat_lt (page / 8) d.first ≡ below
+        → cond (even && not below) (slice_index d.rows (page / 8 - d.first)) 0 ≡ row + 1
         → (page % 8 ≡ 0) × (d.first ≤ page / 8) × (slice_index d.rows (page / 8 - d.first) ≡ row + 1)
     by true false a b is = (eqb-true (page % 8) 0 a, ltb-false (page / 8) d.first b, is)
     by true true a b is = absurd (omega (arith, is))
@@ -31,7 +34,8 @@ none-told pages d none page row e = absurd (omega (arith, none page, e))
 
 -- an entry is made for a page
 pub entry-made : (first : ℕ) (rows : List ℕ) (page place n row : ℕ) → page % 8 ≡ 0 → place + first ≡ page / 8 → place < length rows → n ≡ row + 1 → (p r : ℕ)
-    → told (record { first = first; rows = slice_set rows place n }) p ≡ r + 1 → ((p ≡ page) × (r ≡ row)) ⊎ (told (record { first = first; rows = rows }) p ≡ r + 1)
+    → told (record { first = first; rows = slice_set rows place n }) p ≡ r + 1 → ((p ≡ page) × (r ≡ row))
+    ⊎ (told (record { first = first; rows = rows }) p ≡ r + 1)
 entry-made first rows page place n row even at lt is p r e = by (eqb_tells (p / 8 - first) place)
   where
     some : (p % 8 ≡ 0) × (first ≤ p / 8) × (slice_index (slice_set rows place n) (p / 8 - first) ≡ r + 1)

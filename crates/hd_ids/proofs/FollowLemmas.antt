@@ -1,5 +1,6 @@
 -- IDs that are noted behind others, one after another.
-use Rattle.std.proofs.Common.{◌≡◌, ◌≢◌, ◌∙◌, ℕ, zero, suc, ◌+◌, ◌<◌, ◌≤◌, Bool, true, false, true≢false, ◌||◌, not, eqb, nat_eq, List, [], ◌∷◌, ◌++◌, length, get_or, take, refl, sym, ap, arith, eq-eqb, append_assoc}
+use Rattle.std.proofs.Common.{◌≡◌, ◌≢◌, ◌∙◌, ℕ, zero, suc, ◌+◌, ◌<◌, ◌≤◌, Bool, true, false, true≢false, not, eqb, nat_eq, List, [], ◌∷◌, ◌++◌, length, get_or}
+use Rattle.std.proofs.Common.{take, refl, sym, ap, arith, eq-eqb, append_assoc}
 use Rattle.std.specs.List.{list_any, IsDistinct}
 use Rattle.std.proofs.lemmas.Bool.{ne_eqb}
 use Rattle.std.proofs.Math.Bool.{or-false}
@@ -28,7 +29,8 @@ module _ (front back : List ℕ) (distinct : IsDistinct nat_eq back) (i : ℕ) (
   pub next-noted : is_noted (front ++ take i back) next ≡ false → noted (front ++ take i back) next ≡ front ++ take (i + 1) back
   next-noted new = rw new (append_assoc front (take i back) (next ∷ []) ∙ ap (λ (xs : List ℕ). front ++ xs) (sym (take_more back i 0 lt)))
 
-  pub none-yet : list_any (is_noted front) (take i back) ≡ false → is_noted (front ++ take i back) next ≡ false → list_any (is_noted front) (take (i + 1) back) ≡ false
+  pub none-yet : list_any (is_noted front) (take i back) ≡ false → is_noted (front ++ take i back) next ≡ false
+      → list_any (is_noted front) (take (i + 1) back) ≡ false
   none-yet none new =
       ap (list_any (is_noted front)) (take_more back i 0 lt)
       ∙ list_any-append (is_noted front) (take i back) (next ∷ [])

@@ -4,5 +4,9 @@ pub mod BlockLemmas
 pub mod NumberLemmas
 pub mod RowLemmas
 pub mod SlotLemmas
+pub mod PutLemmas
+pub mod GotLemmas
 pub mod DirectoryLemmas
+pub mod BehindLemmas
+pub mod BehindSlots
 pub mod FollowLemmas

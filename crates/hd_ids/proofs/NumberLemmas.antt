@@ -1,5 +1,7 @@
 -- Numbers that are kept by blocks, as they are written and as rows are added.
-use Rattle.std.proofs.Common.{◌≡◌, ◌≢◌, ◌∙◌, ◌⊎◌, inl, inr, ℕ, ◌+◌, ◌-◌, ◌*◌, ◌/◌, ◌%◌, ◌<◌, ◌≤◌, ◌^◌, ◌==◌, ◌&&◌, not, Bool, true, false, eqb, List, ◌++◌, length, map, replicate, get_or, slice_set, refl, sym, ap, subst, arith, length-append, ne_eqb, get_or-set_same, get_or-set_other, length-set}
+use Rattle.std.proofs.Common.{◌≡◌, ◌≢◌, ◌∙◌, ◌⊎◌, inl, inr, ℕ, ◌+◌, ◌-◌, ◌*◌, ◌/◌, ◌%◌, ◌<◌, ◌≤◌, ◌^◌, ◌==◌, ◌&&◌, not, Bool, true, false, eqb, List, ◌++◌}
+use Rattle.std.proofs.Common.{length, map, replicate, get_or, slice_set, refl, sym, ap, subst, arith, length-append, ne_eqb, get_or-set_same, get_or-set_other}
+use Rattle.std.proofs.Common.{length-set}
 use Rattle.std.specs.List.{range_with_len}
 use Rattle.std.proofs.lemmas.Bool.{cases_lt, cases_Bool}
 use Rattle.std.proofs.lemmas.Bool.Decides.{eqb_tells}
@@ -19,7 +21,8 @@ module _ (blocks : List Block) (scattered : List ℕ) where
   at-slot slot lt = get_or-map-range_with_len (number_at blocks scattered) 0 (length blocks * 32) slot slot 0 lt (omega arith)
 
 -- a list of numbers is these, if it has as many and the same at each place
-pub numbers-are : (blocks : List Block) (scattered view : List ℕ) → length view ≡ length blocks * 32 → ((q : ℕ) → q < length blocks * 32 → number_at blocks scattered q ≡ get_or view q 0) → numbers_of blocks scattered ≡ view
+pub numbers-are : (blocks : List Block) (scattered view : List ℕ) → length view ≡ length blocks * 32
+    → ((q : ℕ) → q < length blocks * 32 → number_at blocks scattered q ≡ get_or view q 0) → numbers_of blocks scattered ≡ view
 numbers-are blocks scattered view long same =
     ext_get_or 0 (numbers_of blocks scattered) view (length-numbers blocks scattered ∙ sym long)
     (λ q below. let lt : q < length blocks * 32 = omega (arith, below, length-numbers blocks scattered) in at-slot blocks scattered q lt ∙ same q lt)
@@ -46,15 +49,66 @@ pub by-follows : (scattered : List ℕ) (b : Block) (place : ℕ) → is_scatter
 by-follows scattered b place e = rw e refl
 
 -- and of one that is
-pub by-row : (scattered : List ℕ) (b : Block) (place : ℕ) → is_scattered b ≡ true → number_in scattered b place ≡ get_or scattered ((b.first - 1) * 32 + place) 0
+pub by-row : (scattered : List ℕ) (b : Block) (place : ℕ) → is_scattered b ≡ true → number_in scattered b place ≡ get_or scattered
+    ((b.first - 1) * 32 + place) 0
 by-row scattered b place e = rw e refl
 
 -- what is read of a block is the block
 pub read-block : (blocks : List Block) (i : ℕ) (b : Block) → i < length blocks → b ≡ get_or blocks i b → b ≡ block_at blocks i
 read-block blocks i b lt e = e ∙ get_or_default blocks i b no_numbers lt
 
+-- another block, whose numbers follow one another, stands where one did
+module _ (blocks : List Block) (scattered : List ℕ) (i : ℕ) (b : Block) (inside : i < length blocks) (low : b.first ≤ 2 ^ 31)
+    (follows : is_scattered b ≡ false) where
+  abbrev replaced : List Block
+  replaced = slice_set blocks i b
+
+  -- of another block nothing changes, and this one isn't scattered
+  untouched : (j : ℕ) → is_scattered (block_at replaced j) ≡ true → block_at replaced j ≡ block_at blocks j
+  untouched j e = by (eqb_tells j i)
+    where
+      by : ((eqb j i ≡ true) × (j ≡ i)) ⊎ ((eqb j i ≡ false) × (j ≢ i)) → block_at replaced j ≡ block_at blocks j
+      by (inl (_, same)) =
+          let here : block_at replaced j ≡ b = ap (λ (k : ℕ). block_at replaced k) same ∙ get_or-set_same blocks i b no_numbers inside in
+          absurd (differ (sym e ∙ ap is_scattered here ∙ follows))
+      by (inr (_, other)) = get_or-set_other blocks i j b no_numbers other
+
+  pub whole-kept : AreBlocks blocks scattered → AreBlocks replaced scattered
+  whole-kept h = record {
+    few = omega (arith, h.few, length-set blocks i b);
+    low = All-set (λ (x : Block). x.first ≤ 2 ^ 31) blocks i b low h.low;
+    whole = h.whole;
+    within = λ j e. subst (λ (x : Block). x.first * 32 ≤ length scattered) (sym (untouched j e)) (h.within j (sym (ap is_scattered (untouched j e)) ∙ e));
+    apart = λ j k e f g.
+        let first : (x : ℕ) → is_scattered (block_at replaced x) ≡ true → (block_at replaced x).first ≡ (block_at blocks x).first =
+        λ x is. ap (λ (y : Block). y.first) (untouched x is) in
+        h.apart j k (sym (ap is_scattered (untouched j e)) ∙ e) (sym (ap is_scattered (untouched k f)) ∙ f) (sym (first j e) ∙ g ∙ first k f);
+  }
+
+  pub whole-here : (place : ℕ) → place < 32 → get_or (numbers_of replaced scattered) (i * 32 + place) 0 ≡ number_by b place
+  whole-here place lt =
+      let block : (i * 32 + place) / 32 ≡ i = omega (arith, lt) in
+      let rest : (i * 32 + place) % 32 ≡ place = omega (arith, lt) in
+      at-slot replaced scattered (i * 32 + place) (omega (arith, inside, lt, length-set blocks i b))
+      ∙ ap (λ (k : ℕ). number_in scattered (block_at replaced k) ((i * 32 + place) % 32)) block
+      ∙ ap (number_in scattered (block_at replaced i)) rest
+      ∙ ap (λ (x : Block). number_in scattered x place) (get_or-set_same blocks i b no_numbers inside)
+      ∙ by-follows scattered b place follows
+
+  pub whole-others : (q : ℕ) → q / 32 ≢ i → get_or (numbers_of replaced scattered) q 0 ≡ get_or (numbers_of blocks scattered) q 0
+  whole-others q other = elim (cases_lt q (length blocks * 32)) [
+    | inl lt ↦
+        at-slot replaced scattered q (omega (arith, lt, length-set blocks i b))
+        ∙ ap (λ (x : Block). number_in scattered x (q % 32)) (get_or-set_other blocks i (q / 32) b no_numbers other)
+        ∙ sym (at-slot blocks scattered q lt)
+    | inr le ↦
+        get_or_past (numbers_of replaced scattered) q 0 (omega (arith, le, length-set blocks i b, length-numbers replaced scattered))
+        ∙ sym (get_or_past (numbers_of blocks scattered) q 0 (omega (arith, le, length-numbers blocks scattered)))
+  ]
+
 -- a block in which a number is written stands instead of another
-module _ (blocks : List Block) (scattered : List ℕ) (slot n : ℕ) (b : Block) (lt : slot < length blocks * 32) (is : IsBlockWith (block_at blocks (slot / 32)) (slot % 32) n b) where
+module _ (blocks : List Block) (scattered : List ℕ) (slot n : ℕ) (b : Block) (lt : slot < length blocks * 32)
+    (is : IsBlockWith (block_at blocks (slot / 32)) (slot % 32) n b) where
   abbrev i : ℕ
   i = slot / 32
 
@@ -64,7 +118,8 @@ module _ (blocks : List Block) (scattered : List ℕ) (slot n : ℕ) (b : Block)
   inside : i < length blocks
   inside = omega (arith, lt)
 
-  set-at : (q : ℕ) → ((eqb q slot ≡ true) × (q ≡ slot)) ⊎ ((eqb q slot ≡ false) × (q ≢ slot)) → ((eqb (q / 32) i ≡ true) × (q / 32 ≡ i)) ⊎ ((eqb (q / 32) i ≡ false) × (q / 32 ≢ i))
+  set-at : (q : ℕ) → ((eqb q slot ≡ true) × (q ≡ slot)) ⊎ ((eqb q slot ≡ false) × (q ≢ slot)) → ((eqb (q / 32) i ≡ true) × (q / 32 ≡ i))
+      ⊎ ((eqb (q / 32) i ≡ false) × (q / 32 ≢ i))
       → q < length blocks * 32 → number_at written scattered q ≡ get_or (slice_set (numbers_of blocks scattered) slot n) q 0
   set-at q (inl (_, e)) _ below =
       rw e (
@@ -90,27 +145,12 @@ module _ (blocks : List Block) (scattered : List ℕ) (slot n : ℕ) (b : Block)
       (length-set (numbers_of blocks scattered) slot n ∙ length-numbers blocks scattered ∙ ap (λ (k : ℕ). k * 32) (sym (length-set blocks i b)))
       (λ q below. set-at q (eqb_tells q slot) (eqb_tells (q / 32) i) (omega (arith, below, length-set blocks i b)))
 
-  -- of another block nothing changes, and this one isn't scattered
-  untouched : (j : ℕ) → is_scattered (block_at written j) ≡ true → block_at written j ≡ block_at blocks j
-  untouched j e = by (eqb_tells j i)
-    where
-      by : ((eqb j i ≡ true) × (j ≡ i)) ⊎ ((eqb j i ≡ false) × (j ≢ i)) → block_at written j ≡ block_at blocks j
-      by (inl (_, same)) =
-          let here : block_at written j ≡ b = ap (λ (k : ℕ). block_at written k) same ∙ get_or-set_same blocks i b no_numbers inside in
-          absurd (differ (sym e ∙ ap is_scattered here ∙ is.follows))
-      by (inr (_, other)) = get_or-set_other blocks i j b no_numbers other
-
   pub set-kept : AreBlocks blocks scattered → AreBlocks written scattered
-  set-kept h = record {
-    few = omega (arith, h.few, length-set blocks i b);
-    low = All-set (λ (x : Block). x.first ≤ 2 ^ 31) blocks i b is.low h.low;
-    whole = h.whole;
-    within = λ j e. subst (λ (x : Block). x.first * 32 ≤ length scattered) (sym (untouched j e)) (h.within j (sym (ap is_scattered (untouched j e)) ∙ e));
-    apart = λ j k e f g. h.apart j k (sym (ap is_scattered (untouched j e)) ∙ e) (sym (ap is_scattered (untouched k f)) ∙ f) (sym (ap (λ (x : Block). x.first) (untouched j e)) ∙ g ∙ ap (λ (x : Block). x.first) (untouched k f));
-  }
+  set-kept h = whole-kept blocks scattered i b inside is.low is.follows h
 
 -- a block gets a row of scattered numbers, which are its own
-module _ (blocks : List Block) (scattered : List ℕ) (i row : ℕ) (inside : i < length blocks) (h : AreBlocks blocks scattered) (none : is_scattered (block_at blocks i) ≡ false) (end : length scattered ≡ row * 32) where
+module _ (blocks : List Block) (scattered : List ℕ) (i row : ℕ) (inside : i < length blocks) (h : AreBlocks blocks scattered)
+    (none : is_scattered (block_at blocks i) ≡ false) (end : length scattered ≡ row * 32) where
   abbrev b : Block
   b = block_at blocks i
 
@@ -141,10 +181,12 @@ module _ (blocks : List Block) (scattered : List ℕ) (i row : ℕ) (inside : i 
   row-stays : (j place : ℕ) → place < 32 → number_in more (block_at blocks j) place ≡ number_in scattered (block_at blocks j) place
   row-stays j place lt = by (cases_Bool (is_scattered (block_at blocks j)))
     where
-      by : (is_scattered (block_at blocks j) ≡ true) ⊎ (is_scattered (block_at blocks j) ≡ false) → number_in more (block_at blocks j) place ≡ number_in scattered (block_at blocks j) place
+      by : (is_scattered (block_at blocks j) ≡ true) ⊎ (is_scattered (block_at blocks j) ≡ false)
+          → number_in more (block_at blocks j) place ≡ number_in scattered (block_at blocks j) place
       by (inl own_row) =
           by-row more (block_at blocks j) place own_row
-          ∙ get_or_append_left scattered own 0 (((block_at blocks j).first - 1) * 32 + place) (omega (arith, h.within j own_row, scattered-some (block_at blocks j) own_row, lt))
+          ∙ get_or_append_left scattered own 0 (((block_at blocks j).first - 1) * 32 + place)
+          (omega (arith, h.within j own_row, scattered-some (block_at blocks j) own_row, lt))
           ∙ sym (by-row scattered (block_at blocks j) place own_row)
       by (inr follows) = by-follows more (block_at blocks j) place follows ∙ sym (by-follows scattered (block_at blocks j) place follows)
 
@@ -170,7 +212,8 @@ module _ (blocks : List Block) (scattered : List ℕ) (i row : ℕ) (inside : i 
   own-length : length more ≡ length scattered + 32
   own-length = length-append scattered own ∙ ap (λ (k : ℕ). length scattered + k) (length-map-range_with_len (number_by b) 0 32)
 
-  spread-within : (j : ℕ) → ((eqb j i ≡ true) × (j ≡ i)) ⊎ ((eqb j i ≡ false) × (j ≢ i)) → is_scattered (block_at spread j) ≡ true → (block_at spread j).first * 32 ≤ length more
+  spread-within : (j : ℕ) → ((eqb j i ≡ true) × (j ≡ i)) ⊎ ((eqb j i ≡ false) × (j ≢ i)) → is_scattered (block_at spread j) ≡ true
+      → (block_at spread j).first * 32 ≤ length more
   spread-within j (inl (_, same)) e =
       let here : block_at spread j ≡ moved = ap (λ (k : ℕ). block_at spread k) same ∙ get_or-set_same blocks i moved no_numbers inside in
       omega (arith, ap (λ (x : Block). x.first) here, own-length, end)
@@ -204,7 +247,8 @@ module _ (blocks : List Block) (scattered : List ℕ) (i row : ℕ) (inside : i 
   }
 
 -- a number is written into a row of scattered numbers
-module _ (blocks : List Block) (scattered : List ℕ) (slot n : ℕ) (lt : slot < length blocks * 32) (h : AreBlocks blocks scattered) (in_row : is_scattered (block_at blocks (slot / 32)) ≡ true) where
+module _ (blocks : List Block) (scattered : List ℕ) (slot n : ℕ) (lt : slot < length blocks * 32) (h : AreBlocks blocks scattered)
+    (in_row : is_scattered (block_at blocks (slot / 32)) ≡ true) where
   abbrev place : ℕ
   place = ((block_at blocks (slot / 32)).first - 1) * 32 + slot % 32
 
@@ -230,7 +274,8 @@ module _ (blocks : List Block) (scattered : List ℕ) (slot n : ℕ) (lt : slot 
       place_q : ℕ
       place_q = ((block_at blocks (q / 32)).first - 1) * 32 + q % 32
 
-      by : (is_scattered (block_at blocks (q / 32)) ≡ true) ⊎ (is_scattered (block_at blocks (q / 32)) ≡ false) → number_at blocks changed q ≡ number_at blocks scattered q
+      by : (is_scattered (block_at blocks (q / 32)) ≡ true) ⊎ (is_scattered (block_at blocks (q / 32)) ≡ false)
+          → number_at blocks changed q ≡ number_at blocks scattered q
       by (inl also) =
           let other : place_q ≢ place = λ same.
           let some : 0 < (block_at blocks (q / 32)).first = scattered-some (block_at blocks (q / 32)) also in
@@ -276,7 +321,8 @@ module _ (blocks : List Block) (scattered : List ℕ) (m : ℕ) (h : AreBlocks b
   long : length longer ≡ length blocks + m
   long = length-append blocks (replicate m no_numbers) ∙ ap (λ (k : ℕ). length blocks + k) (length-replicate m no_numbers)
 
-  longer-at : (q : ℕ) → (q < length blocks * 32) ⊎ (length blocks * 32 ≤ q) → q < length longer * 32 → number_at longer scattered q ≡ get_or (numbers_of blocks scattered ++ replicate (m * 32) 0) q 0
+  longer-at : (q : ℕ) → (q < length blocks * 32) ⊎ (length blocks * 32 ≤ q) → q < length longer * 32
+      → number_at longer scattered q ≡ get_or (numbers_of blocks scattered ++ replicate (m * 32) 0) q 0
   longer-at q (inl lt) below =
       ap (λ (x : Block). number_in scattered x (q % 32)) (get_or_append_left blocks (replicate m no_numbers) no_numbers (q / 32) (omega (arith, lt)))
       ∙ sym (at-slot blocks scattered q lt)
@@ -292,7 +338,14 @@ module _ (blocks : List Block) (scattered : List ℕ) (m : ℕ) (h : AreBlocks b
   pub blocks-added : numbers_of longer scattered ≡ numbers_of blocks scattered ++ replicate (m * 32) 0
   blocks-added =
       numbers-are longer scattered (numbers_of blocks scattered ++ replicate (m * 32) 0)
-      (omega (arith, length-append (numbers_of blocks scattered) (replicate (m * 32) 0), length-replicate {A = ℕ} (m * 32) 0, length-numbers blocks scattered, long))
+      (omega (
+        arith,
+        length-append (numbers_of blocks scattered) (replicate (m * 32) 0),
+        length-replicate {A = ℕ}
+            (m * 32) 0,
+        length-numbers blocks scattered,
+        long,
+      ))
       (λ q below. longer-at q (cases_lt q (length blocks * 32)) below)
 
   old-block : (i : ℕ) → is_scattered (block_at longer i) ≡ true → block_at longer i ≡ block_at blocks i
@@ -305,11 +358,14 @@ module _ (blocks : List Block) (scattered : List ℕ) (m : ℕ) (h : AreBlocks b
   pub longer-kept : length blocks + m ≤ 2 ^ 27 → AreBlocks longer scattered
   longer-kept fits = record {
     few = omega (arith, fits, long);
-    low = All-append (λ (x : Block). x.first ≤ 2 ^ 31) blocks (replicate m no_numbers) h.low (All-from_get_or (λ (x : Block). x.first ≤ 2 ^ 31) (replicate m no_numbers) no_numbers (λ i lt. low-none i lt));
+    low = All-append (λ (x : Block). x.first ≤ 2 ^ 31) blocks (replicate m no_numbers) h.low
+        (All-from_get_or (λ (x : Block). x.first ≤ 2 ^ 31) (replicate m no_numbers) no_numbers (λ i lt. low-none i lt));
     whole = h.whole;
     within = λ j e. subst (λ (x : Block). x.first * 32 ≤ length scattered) (sym (old-block j e)) (h.within j (sym (ap is_scattered (old-block j e)) ∙ e));
-    apart = λ j k e f g. h.apart j k (sym (ap is_scattered (old-block j e)) ∙ e) (sym (ap is_scattered (old-block k f)) ∙ f) (sym (ap (λ (x : Block). x.first) (old-block j e)) ∙ g ∙ ap (λ (x : Block). x.first) (old-block k f));
+    apart = λ j k e f g. h.apart j k (sym (ap is_scattered (old-block j e)) ∙ e) (sym (ap is_scattered (old-block k f)) ∙ f)
+        (sym (ap (λ (x : Block). x.first) (old-block j e)) ∙ g ∙ ap (λ (x : Block). x.first) (old-block k f));
   }
     where
       low-none : (i : ℕ) → i < length (replicate m no_numbers) → (get_or (replicate m no_numbers) i no_numbers).first ≤ 2 ^ 31
-      low-none i lt = subst (λ (x : Block). x.first ≤ 2 ^ 31) (sym (get_or-replicate m i no_numbers no_numbers (omega (arith, lt, length-replicate m no_numbers)))) (omega arith)
+      low-none i lt = subst (λ (x : Block). x.first ≤ 2 ^ 31)
+          (sym (get_or-replicate m i no_numbers no_numbers (omega (arith, lt, length-replicate m no_numbers)))) (omega arith)

@@ -7,7 +7,8 @@ use Rattle.indexmap.specs.IndexSet.{insert_all, insert_key}
 use Rattle.indexmap.proofs.SetLemmas.{set_all_distinct, set_all_push}
 
 -- one more ID is inserted
-pub one-more : (ids keys : List ℕ) (i : ℕ) → i < length ids → keys ≡ insert_all nat_eq [] (take i ids) → insert_key nat_eq keys (get_or ids i 0) ≡ insert_all nat_eq [] (take (i + 1) ids)
+pub one-more : (ids keys : List ℕ) (i : ℕ) → i < length ids → keys ≡ insert_all nat_eq [] (take i ids)
+    → insert_key nat_eq keys (get_or ids i 0) ≡ insert_all nat_eq [] (take (i + 1) ids)
 one-more ids keys i lt so_far =
     ap (λ (ks : List ℕ). insert_key nat_eq ks (get_or ids i 0)) so_far
     ∙ sym (set_all_push nat_eq [] (take i ids) (get_or ids i 0))

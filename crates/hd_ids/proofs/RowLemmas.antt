@@ -1,5 +1,7 @@
 -- The numbers in the rows, as rows and IDs are added.
-use Rattle.std.proofs.Common.{◌≡◌, ◌≢◌, ◌∙◌, ℕ, suc, ◌+◌, ◌-◌, ◌*◌, ◌<◌, ◌≤◌, ◌^◌, ◌⊎◌, inl, inr, Bool, true, false, ◌||◌, not, cond, eqb, nat_eq, nat_lt, List, [], ◌∷◌, ◌++◌, length, replicate, get_or, slice_set, position, slice_index, Option, None, Some, refl, sym, ap, arith, length-append, eq-eqb, get_or-set_same, get_or-set_other, length-set}
+use Rattle.std.proofs.Common.{◌≡◌, ◌≢◌, ◌∙◌, ℕ, suc, ◌+◌, ◌-◌, ◌*◌, ◌<◌, ◌≤◌, ◌^◌, ◌⊎◌, inl, inr, Bool, true, false, ◌||◌, not, cond, eqb, nat_eq, nat_lt, List}
+use Rattle.std.proofs.Common.{[], ◌∷◌, ◌++◌, length, replicate, get_or, slice_set, position, slice_index, Option, None, Some, refl, sym, ap, arith}
+use Rattle.std.proofs.Common.{length-append, eq-eqb, get_or-set_same, get_or-set_other, length-set}
 use Rattle.std.specs.List.{list_any, position_or_len, IsDistinct}
 use Rattle.std.specs.Option.{SomeIff}
 use Rattle.std.specs.Cmp.{nat_eq_equiv}
@@ -22,7 +24,8 @@ module _ (p : ℕ → Bool) where
   any-within [] = refl
   any-within (x ∷ xs) = by (p x) (any-within xs)
     where
-      by : (b : Bool) → list_any p xs ≡ nat_lt (position_or_len p xs) (length xs) → (b || list_any p xs) ≡ nat_lt (cond (not b) (1 + position_or_len p xs) 0) (length (x ∷ xs))
+      by : (b : Bool) → list_any p xs ≡ nat_lt (position_or_len p xs) (length xs) → (b || list_any p xs) ≡ nat_lt (cond (not b) (1 + position_or_len p xs) 0)
+          (length (x ∷ xs))
       by true e = sym (lt-ltb 0 (length (x ∷ xs)) (omega arith))
       by false e = e ∙ shifted (position_or_len p xs) (length xs)
 
@@ -31,7 +34,8 @@ module _ (p : ℕ → Bool) where
 
   pub none-past : (xs : List ℕ) → None ≡ position p xs → length xs ≡ position_or_len p xs
   none-past xs e = elim (cases_lt (position_or_len p xs) (length xs)) [
-    | inl lt ↦ absurd (let s : position p xs ≡ Some (position_or_len p xs) = ap (λ (b : Bool). cond b (Some (position_or_len p xs)) None) (lt-ltb (position_or_len p xs) (length xs) lt) in cc)
+    | inl lt ↦ absurd (let s : position p xs ≡ Some (position_or_len p xs) = ap (λ (b : Bool). cond b (Some (position_or_len p xs)) None)
+        (lt-ltb (position_or_len p xs) (length xs) lt) in cc)
     | inr le ↦ let most = prefix_len-le-length (λ x. not (p x)) xs in omega arith
   ]
 
@@ -72,7 +76,8 @@ same-slot pages a b lt e =
 
 -- a new page has the next row
 pub row-here : (pages : List ℕ) (page : ℕ) → row_of pages page ≡ length pages → row_of (pages ++ page ∷ []) page ≡ length pages
-row-here pages page new = position_or_len_push (λ k. eqb page k) pages page ∙ rw (eq-eqb (row_of pages page) (length pages) new, eq-eqb page page refl) (omega arith)
+row-here pages page new = position_or_len_push (λ k. eqb page k) pages page ∙ rw (eq-eqb (row_of pages page) (length pages) new, eq-eqb page page refl)
+    (omega arith)
 
 -- the others keep theirs, or have none
 pub row-others : (pages : List ℕ) (page q : ℕ) → row_of pages q < length pages → row_of (pages ++ page ∷ []) q ≡ row_of pages q
@@ -94,7 +99,8 @@ module _ (pages numbers ids : List ℕ) (h : AreNumbers pages numbers ids) where
     distinct = h.distinct;
   }
     where
-      at_id : (id : ℕ) → (row_of pages (page_of id) < length pages) ⊎ (length pages ≤ row_of pages (page_of id)) → get_or (numbers ++ replicate n 0) (slot_of (pages ++ page ∷ []) id) 0 ≡ get_or numbers (slot_of pages id) 0
+      at_id : (id : ℕ) → (row_of pages (page_of id) < length pages) ⊎ (length pages ≤ row_of pages (page_of id))
+          → get_or (numbers ++ replicate n 0) (slot_of (pages ++ page ∷ []) id) 0 ≡ get_or numbers (slot_of pages id) 0
       at_id id (inl lt) =
           ap (λ (r : ℕ). get_or (numbers ++ replicate n 0) (r * 512 + place_of id) 0) (row-others pages page (page_of id) lt)
           ∙ get_or_append_left numbers (replicate n 0) 0 (slot_of pages id) (omega (arith, h.rows, lt))
@@ -135,9 +141,11 @@ module _ (pages numbers ids : List ℕ) (h : AreNumbers pages numbers ids) where
       distinct = IsDistinct-push nat_eq_equiv ids id h.distinct absent;
     }
       where
-        at_id : (q : ℕ) → ((eqb q id ≡ true) × (q ≡ id)) ⊎ ((eqb q id ≡ false) × (q ≢ id)) → get_or (slice_set numbers slot (length ids + 1)) (slot_of pages q) 0 ≡ number_of (ids ++ id ∷ []) q
+        at_id : (q : ℕ) → ((eqb q id ≡ true) × (q ≡ id)) ⊎ ((eqb q id ≡ false) × (q ≢ id)) → get_or (slice_set numbers slot (length ids + 1))
+            (slot_of pages q) 0 ≡ number_of (ids ++ id ∷ []) q
         at_id q (inl (_, e)) = rw e (rw is (get_or-set_same numbers (slot_of pages id) (length ids + 1) 0 (omega (arith, h.rows, within)) ∙ sym number-here))
-        at_id q (inr (_, ne)) = get_or-set_other numbers slot (slot_of pages q) (length ids + 1) 0 (λ e. ne (sym (same-slot pages id q within (sym (e ∙ is))))) ∙ h.at q ∙ sym (number-others q ne)
+        at_id q (inr (_, ne)) = get_or-set_other numbers slot (slot_of pages q) (length ids + 1) 0 (λ e. ne (sym (same-slot pages id q within (sym (e ∙ is)))))
+            ∙ h.at q ∙ sym (number-others q ne)
 
 -- an ID whose number is 0 isn't there
 pub absent-by-number : (ids : List ℕ) (id : ℕ) → number_of ids id ≡ 0 → is_noted ids id ≡ false
@@ -163,7 +171,8 @@ module _ (pages numbers ids : List ℕ) (last_page last_row : ℕ) (h : AreRows 
   slot-is = slot_is ∙ ap (λ (r : ℕ). r * 512 + place_of id) row_is
 
   -- a new ID of a page that has a row
-  pub id-noted : slot < length numbers → slice_index numbers slot ≡ 0 → AreRows pages (slice_set numbers slot (length ids + 1)) (ids ++ id ∷ []) (page_of id) row
+  pub id-noted : slot < length numbers → slice_index numbers slot ≡ 0 → AreRows pages (slice_set numbers slot (length ids + 1)) (ids ++ id ∷ [])
+      (page_of id) row
   id-noted lt zero =
       let within : row_of pages (page_of id) < length pages = omega (arith, lt, slot_is, row_is, h.numbers_are.rows) in
       let absent = absent-by-number ids id (sym (h.numbers_are.at id) ∙ ap (λ (i : ℕ). get_or numbers i 0) (sym slot-is) ∙ zero) in
@@ -188,15 +197,25 @@ module _ (pages numbers ids : List ℕ) (last_page last_row : ℕ) (h : AreRows 
       let absent = absent-by-number ids id (sym (h.numbers_are.at id) ∙ get_or_past numbers (slot_of pages id) 0 (omega (arith, le, slot-is))) in
       let same : slot ≡ slot_of (pages ++ page_of id ∷ []) id = omega (arith, slot_is, row_is, here, new) in
       record {
-        numbers_are = id-added (pages ++ page_of id ∷ []) (numbers ++ replicate n 0) ids (row-added pages numbers ids h.numbers_are (page_of id) n size) id (omega (arith, here, one_more)) absent slot same;
+        numbers_are = id-added (pages ++ page_of id ∷ []) (numbers ++ replicate n 0) ids (row-added pages numbers ids h.numbers_are (page_of id) n size) id
+            (omega (arith, here, one_more)) absent slot same;
         last = here ∙ sym new ∙ sym row_is;
         within = omega (arith, one_more, row_is, new);
-        small = omega (arith, small, length-set (numbers ++ replicate n 0) slot (length ids + 1), length-append numbers (replicate n 0), length-replicate {A = ℕ} n 0, length-append ids (id ∷ []));
+        small = omega (
+          arith,
+          small,
+          length-set (numbers ++ replicate n 0) slot (length ids + 1),
+          length-append numbers
+              (replicate n 0),
+          length-replicate {A = ℕ} n 0,
+          length-append ids (id ∷ []),
+        );
         few_ids = omega (arith, few, length-append ids (id ∷ []));
       }
 
   -- the row alone, where its first ID isn't added
-  pub row-noted : length numbers ≤ slot → (n : ℕ) → n ≡ 512 → length numbers + n ≤ length ids * 64 + 2 ^ 16 → AreRows (pages ++ page_of id ∷ []) (numbers ++ replicate n 0) ids (page_of id) row
+  pub row-noted : length numbers ≤ slot → (n : ℕ) → n ≡ 512 → length numbers + n ≤ length ids * 64 + 2 ^ 16
+      → AreRows (pages ++ page_of id ∷ []) (numbers ++ replicate n 0) ids (page_of id) row
   row-noted le n size small =
       let new : row_of pages (page_of id) ≡ length pages = sym row_is ∙ new-page le in
       let here : row_of (pages ++ page_of id ∷ []) (page_of id) ≡ length pages = row-here pages (page_of id) new in
@@ -212,7 +231,8 @@ module _ (pages numbers ids : List ℕ) (last_page last_row : ℕ) (h : AreRows 
 pub row-of-place : (pages : List ℕ) (page row : ℕ) → IsDistinct nat_eq pages → row < length pages → slice_index pages row ≡ page → row_of pages page ≡ row
 row-of-place pages page row distinct lt is =
     position_or_len_is (λ k. eqb page k) pages row 0 (omega arith)
-    (λ k below. ne_eqb page (get_or pages k 0) (λ e. eqb-false (get_or pages k 0) (get_or pages row 0) (apart_from_distinct nat_eq pages k row 0 distinct below lt) (sym e ∙ sym is)))
+    (λ k below. ne_eqb page (get_or pages k 0)
+    (λ e. eqb-false (get_or pages k 0) (get_or pages row 0) (apart_from_distinct nat_eq pages k row 0 distinct below lt) (sym e ∙ sym is)))
     (λ _. eq-eqb page (get_or pages row 0) (sym is))
 
 -- an ID at a place of distinct ones has that position

@@ -1,5 +1,6 @@
 -- IDs by the slots of their numbers, as rows and IDs are added.
-use Rattle.std.proofs.Common.{◌≡◌, false, ◌∙◌, ℕ, ◌+◌, ◌*◌, ◌/◌, ◌%◌, ◌<◌, ◌≤◌, ◌^◌, eqb, List, [], ◌∷◌, ◌++◌, length, Result, Ok, Err, replicate, get_or, slice_set, slice_index, refl, sym, ap, subst, arith, All, length-append, length-set}
+use Rattle.std.proofs.Common.{◌≡◌, false, ◌∙◌, ℕ, ◌+◌, ◌*◌, ◌/◌, ◌%◌, ◌<◌, ◌≤◌, ◌^◌, eqb, List, [], ◌∷◌, ◌++◌, length, Result, Ok, Err, replicate, get_or}
+use Rattle.std.proofs.Common.{slice_set, slice_index, refl, sym, ap, subst, arith, All, length-append, length-set}
 use Rattle.std.specs.Result.{OnErr}
 use Rattle.std.proofs.lemmas.Bool.{eqb-true}
 use Rattle.std.proofs.lemmas.List.{map-append, length-map, get_or_append_left, get_or_past, length-replicate}
@@ -17,7 +18,8 @@ on-err (Err e) p = p
 -- the slot of an ID tells the ID
 pub id-of-slot : (pages : List ℕ) (id slot : ℕ) → row_of pages (page_of id) < length pages → slot ≡ slot_of pages id → id_of_slot pages slot ≡ id
 id-of-slot pages id slot lt is =
-    let page : page_of id ≡ get_or pages (row_of pages (page_of id)) 0 = eqb-true (page_of id) (get_or pages (row_of pages (page_of id)) 0) (passes_at_first (λ k. eqb (page_of id) k) pages 0 lt) in
+    let page : page_of id ≡ get_or pages (row_of pages (page_of id)) 0 = eqb-true (page_of id) (get_or pages (row_of pages (page_of id)) 0)
+    (passes_at_first (λ k. eqb (page_of id) k) pages 0 lt) in
     let row : slot / 512 ≡ row_of pages (page_of id) = omega (arith, is) in
     let place : slot % 512 ≡ place_of id = omega (arith, is) in
     let whole : id_at (page_of id) (place_of id) ≡ id = omega arith in
@@ -27,7 +29,8 @@ id-of-slot pages id slot lt is =
     ∙ whole
 
 -- one more slot is one more ID
-pub ids-more : (pages slots : List ℕ) (id slot : ℕ) → row_of pages (page_of id) < length pages → slot ≡ slot_of pages id → ids_in pages (slots ++ slot ∷ []) ≡ ids_in pages slots ++ id ∷ []
+pub ids-more : (pages slots : List ℕ) (id slot : ℕ) → row_of pages (page_of id) < length pages → slot ≡ slot_of pages id
+    → ids_in pages (slots ++ slot ∷ []) ≡ ids_in pages slots ++ id ∷ []
 ids-more pages slots id slot lt is =
     map-append (id_of_slot pages) slots (slot ∷ []) ∙ ap (λ (i : ℕ). ids_in pages slots ++ i ∷ []) (id-of-slot pages id slot lt is)
 
@@ -72,12 +75,14 @@ module _ (pages numbers slots : List ℕ) (last_page last_row : ℕ) (h : AreSlo
       let there : row_of pages (page_of id) < length pages = omega (arith, lt, h.rows.numbers_are.rows, slot-is) in
       ids-more pages slots id slot there slot-is ∙ sym (noted-new ids id (new-here zero))
 
-  pub slot-noted : slot < length numbers → slice_index numbers slot ≡ 0 → AreSlots pages (slice_set numbers slot (length slots + 1)) (slots ++ slot ∷ []) (page_of id) row
+  pub slot-noted : slot < length numbers → slice_index numbers slot ≡ 0 → AreSlots pages (slice_set numbers slot (length slots + 1)) (slots ++ slot ∷ [])
+      (page_of id) row
   slot-noted lt zero =
       let within : slot < length pages * 512 = omega (arith, lt, h.rows.numbers_are.rows) in
       let there : row_of pages (page_of id) < length pages = omega (arith, within, slot-is) in
       record {
-        rows = subst (λ (is : List ℕ). AreRows pages (slice_set numbers slot (length slots + 1)) is (page_of id) row) (sym (ids-more pages slots id slot there slot-is))
+        rows = subst (λ (is : List ℕ). AreRows pages (slice_set numbers slot (length slots + 1)) is (page_of id) row)
+            (sym (ids-more pages slots id slot there slot-is))
             (subst (λ (n : ℕ). AreRows pages (slice_set numbers slot (n + 1)) (ids ++ id ∷ []) (page_of id) row) len
             (id-noted pages numbers ids last_page last_row h.rows few-ids id slot row row_is slot_is lt zero));
         low = h.low;
@@ -85,7 +90,8 @@ module _ (pages numbers slots : List ℕ) (last_page last_row : ℕ) (h : AreSlo
         few = omega (arith, h.few, length-set numbers slot (length slots + 1));
       }
 
-  module _ (past : length numbers ≤ slot) (n : ℕ) (size : n ≡ 512) (small : length numbers + n ≤ length slots * 64 + 2 ^ 16) (most : length numbers + n ≤ 2 ^ 32) (low : id < 2 ^ 64) where
+  module _ (past : length numbers ≤ slot) (n : ℕ) (size : n ≡ 512) (small : length numbers + n ≤ length slots * 64 + 2 ^ 16)
+      (most : length numbers + n ≤ 2 ^ 32) (low : id < 2 ^ 64) where
     one-more : length (pages ++ page_of id ∷ []) ≡ length pages + 1
     one-more = length-append pages (page_of id ∷ [])
 
@@ -105,7 +111,8 @@ module _ (pages numbers slots : List ℕ) (last_page last_row : ℕ) (h : AreSlo
     low-page = All-push (λ (p : ℕ). p < 2 ^ 55) pages (page_of id) h.low (omega (arith, low))
 
     wider : All (λ (s : ℕ). s < length (pages ++ page_of id ∷ []) * 512) slots
-    wider = All-weaker (λ (s : ℕ). s < length pages * 512) (λ (s : ℕ). s < length (pages ++ page_of id ∷ []) * 512) (λ s lt. omega (arith, lt, one-more)) slots h.within
+    wider = All-weaker (λ (s : ℕ). s < length pages * 512) (λ (s : ℕ). s < length (pages ++ page_of id ∷ []) * 512)
+        (λ s lt. omega (arith, lt, one-more)) slots h.within
 
     -- a new ID of a page that has none
     pub id-is-noted-too : ids_in (pages ++ page_of id ∷ []) (slots ++ slot ∷ []) ≡ noted ids id
@@ -114,7 +121,8 @@ module _ (pages numbers slots : List ℕ) (last_page last_row : ℕ) (h : AreSlo
         let there : row_of (pages ++ page_of id ∷ []) (page_of id) < length (pages ++ page_of id ∷ []) = omega (arith, here, one-more) in
         ids-more (pages ++ page_of id ∷ []) slots id slot there same ∙ ap (λ (is : List ℕ). is ++ id ∷ []) kept ∙ sym (noted-new ids id (new-past past))
 
-    pub page-slot-noted : AreSlots (pages ++ page_of id ∷ []) (slice_set (numbers ++ replicate n 0) slot (length slots + 1)) (slots ++ slot ∷ []) (page_of id) row
+    pub page-slot-noted : AreSlots (pages ++ page_of id ∷ []) (slice_set (numbers ++ replicate n 0) slot (length slots + 1)) (slots ++ slot ∷ [])
+        (page_of id) row
     page-slot-noted =
         let same : slot ≡ slot_of (pages ++ page_of id ∷ []) id = omega (arith, slot_is, row_is, here, new) in
         let there : row_of (pages ++ page_of id ∷ []) (page_of id) < length (pages ++ page_of id ∷ []) = omega (arith, here, one-more) in
@@ -125,7 +133,14 @@ module _ (pages numbers slots : List ℕ) (last_page last_row : ℕ) (h : AreSlo
               (page-noted pages numbers ids last_page last_row h.rows few-ids id slot row row_is slot_is past n size small-ids));
           low = low-page;
           within = All-push (λ (s : ℕ). s < length (pages ++ page_of id ∷ []) * 512) slots slot wider (omega (arith, same, there));
-          few = omega (arith, most, length-set (numbers ++ replicate n 0) slot (length slots + 1), length-append numbers (replicate n 0), length-replicate {A = ℕ} n 0);
+          few = omega (
+            arith,
+            most,
+            length-set (numbers ++ replicate n 0) slot (length slots + 1),
+            length-append numbers
+                (replicate n 0),
+            length-replicate {A = ℕ} n 0,
+          );
         }
 
     -- the row alone, where its first ID isn't added

@@ -1,6 +1,6 @@
 -- Rows of pages, told by where the pages lie in the heap.
 -- Source: this project.
-use Rattle.std.specs.Prelude.{◌≡◌, ℕ, ◌==◌, ◌&&◌, not, nat_lt, ◌+◌, ◌-◌, ◌*◌, ◌/◌, ◌%◌, ◌<◌, List, length, slice_index, if◌then◌else◌}
+use Rattle.std.specs.Prelude.{◌≡◌, ℕ, ◌==◌, ◌&&◌, not, nat_lt, ◌+◌, ◌-◌, ◌/◌, ◌%◌, ◌<◌, List, length, slice_index, if◌then◌else◌}
 use Rattle.hd_ids.specs.Rows.{row_of, AreSlots}
 
 -- a number for each page of IDs that are multiples of 8, from a first one on: one more than its row, or 0

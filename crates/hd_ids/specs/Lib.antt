@@ -1,7 +1,9 @@
 pub mod Noted
 pub mod Numbers
 pub mod Rows
+pub mod Put
 pub mod Directory
 pub mod AtHand
 pub mod FoundBy
 pub mod Index
+pub mod Following

@@ -1,6 +1,6 @@
 -- Noting IDs one after another, each once.
 -- Source: this project.
-use Rattle.std.specs.Prelude.{ℕ, ◌==◌, Bool, not, ◌&&◌, if◌then◌else◌, List, [], ◌∷◌, ◌++◌}
+use Rattle.std.specs.Prelude.{ℕ, ◌==◌, Bool, not, if◌then◌else◌, List, [], ◌∷◌, ◌++◌}
 use Rattle.std.specs.List.{list_any}
 
 -- an ID is one of these
@@ -14,7 +14,3 @@ noted ids id = if is_noted ids id then ids else ids ++ id ∷ []
 -- no ID is in both
 abbrev pub are_apart : List ℕ → List ℕ → Bool
 are_apart front back = not (list_any (is_noted front) back)
-
--- no ID is in two of the four parts: each part is apart from all before it
-abbrev pub are_all_apart : (first second third fourth : List ℕ) → Bool
-are_all_apart first second third fourth = are_apart first second && are_apart (first ++ second) third && are_apart ((first ++ second) ++ third) fourth

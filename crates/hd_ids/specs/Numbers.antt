@@ -1,6 +1,7 @@
 -- Numbers of IDs, by blocks of 32 places.
 -- Source: this project.
-use Rattle.std.specs.Prelude.{◌≡◌, ◌≢◌, ℕ, ◌==◌, ◌&&◌, not, Bool, true, false, ◌+◌, ◌-◌, ◌*◌, ◌/◌, ◌%◌, ◌≤◌, ◌^◌, List, get_or, length, map, slice_index, if◌then◌else◌, count_ones, All}
+use Rattle.std.specs.Prelude.{◌≡◌, ◌≢◌, ℕ, ◌==◌, ◌&&◌, not, Bool, true, false, ◌+◌, ◌-◌, ◌*◌, ◌/◌, ◌%◌, ◌≤◌, ◌^◌, List, get_or, length, map, slice_index}
+use Rattle.std.specs.Prelude.{if◌then◌else◌, count_ones, All}
 use Rattle.std.specs.List.{range_with_len}
 use Rattle.std.specs.Int.{bit_at}
 use Rattle.hd_ids.specs.declared.block.Block.{Block}
@@ -48,4 +49,5 @@ pub record AreBlocks (blocks : List Block) (scattered : List ℕ) : Type 0 where
   pub low : All (λ (b : Block). b.first ≤ 2 ^ 31) blocks
   pub whole : length scattered % 32 ≡ 0
   pub within : (i : ℕ) → is_scattered (block_at blocks i) ≡ true → (block_at blocks i).first * 32 ≤ length scattered
-  pub apart : (i j : ℕ) → is_scattered (block_at blocks i) ≡ true → is_scattered (block_at blocks j) ≡ true → (block_at blocks i).first ≡ (block_at blocks j).first → i ≡ j
+  pub apart : (i j : ℕ) → is_scattered (block_at blocks i) ≡ true → is_scattered (block_at blocks j) ≡ true
+      → (block_at blocks i).first ≡ (block_at blocks j).first → i ≡ j

@@ -1,6 +1,7 @@
 //! The numbers of places that lie side by side.
-ghost use Rattle.std.specs.Prelude.{◌≡◌, ◌<◌, ◌≤◌, ◌^◌, IfSome};
+ghost use Rattle.std.specs.Prelude.{◌≡◌, ◌<◌, ◌≤◌, ◌^◌, true, IfSome};
 ghost use Rattle.hd_ids.specs.Numbers.{is_scattered, no_numbers, number_by, IsBlockWith};
+ghost use Rattle.hd_ids.specs.Put.{IsBehind};
 
 /// How many places a block has.
 pub(crate) const BLOCK: usize = 32;
@@ -24,6 +25,14 @@ impl Block {
         ensures { result ≡ no_numbers }
     {
         Block { mask: 0, first: 0 }
+    }
+
+    /// Whether no place has a number.
+    #[inline(always)]
+    pub(crate) fn is_empty(self) -> bool
+        ensures { result ≡ true → self ≡ no_numbers }
+    {
+        self.mask == 0 && self.first == 0
     }
 
     /// Whether the numbers don't follow one another.
@@ -74,6 +83,26 @@ impl Block {
         Some(Block {
             mask: self.mask + (1 << place),
             first: self.first,
+        })
+    }
+
+    /// The block with each number `base` higher, if they follow one another, have at most 31 bits then, and none is 0.
+    #[inline(always)]
+    pub(crate) fn behind(self, base: u32) -> Option<Block>
+        requires low { self.first ≤ 2 ^ 31 }
+        requires base { base < 2 ^ 31 }
+        ensures { IfSome result (IsBehind self base) }
+    {
+        if self.mask == 0 || self.first == 0 {
+            return None;
+        }
+        let first = self.first + base;
+        if first > 1 << 31 {
+            return None;
+        }
+        Some(Block {
+            mask: self.mask,
+            first,
         })
     }
 }

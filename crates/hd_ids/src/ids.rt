@@ -1,10 +1,12 @@
 //! Numbering IDs: the number of an ID is its index in the order in which IDs are first met.
 ghost use Rattle.std.specs.Prelude.{◌≡◌, nat_eq, ◌<◌, ◌^◌, ◌==◌, ℕ, [], ◌++◌, length, not, position, false, true, Some, slice_index, IfOk, OnOk, OnErr, MatchOption};
 ghost use Rattle.std.specs.List.{IsDistinct};
+ghost use Rattle.hd_ids.specs.Following.{Follows};
+ghost use Rattle.hd_ids.specs.Index.{ids_of};
 ghost use Rattle.hd_ids.specs.Noted.{are_apart, is_noted, noted};
 
 use crate::finder::{Finder, FoundBy};
-use crate::paged::PagedIds;
+use crate::paged::{Following, PagedIds};
 use crate::plain::PlainIds;
 use std::alloc::{AllocError, Global};
 use std::marker::Model;
@@ -38,6 +40,27 @@ impl Model for ObjectIds {
     ghost Value = { List ℕ };
 
     ghost view = { λ a. ids_of a.index };
+}
+
+/// The IDs of `front`, and those of `back` behind them, as far as rows serve for all.
+fn by_rows(front: PagedIds, back: &ObjectIds) -> Result<Following, AllocError>
+    ensures { IfOk result (Follows front back.now) }
+{
+    match &back.index {
+        Index::Paged(back) => front.followed_by(back),
+        Index::Plain(_) => Ok(Following::Unserved(front)),
+    }
+}
+
+/// The IDs of `front`, and those of `back` noted behind them one after another; `None` if an ID is in both.
+fn noted_behind(front: Index, back: &ObjectIds) -> Result<Option<ObjectIds>, AllocError>
+    ensures { IfOk result (λ joined. MatchOption joined (are_apart (ids_of front) back.now ≡ false) (λ ids. (are_apart (ids_of front) back.now ≡ true) × (ids ≡ ids_of front ++ back.now))) }
+{
+    let mut ids = ObjectIds { index: front };
+    if ids.note_all(back)? {
+        return Ok(Some(ids));
+    }
+    Ok(None)
 }
 
 impl ObjectIds {
@@ -155,16 +178,24 @@ impl ObjectIds {
     /// # Errors
     ///
     /// Out of memory.
-    pub fn followed_by(mut self, back: ObjectIds) -> Result<Option<ObjectIds>, AllocError>
+    pub fn followed_by(self, back: ObjectIds) -> Result<Option<ObjectIds>, AllocError>
         ensures { IfOk result (λ joined. MatchOption joined (are_apart self back ≡ false) (λ ids. (are_apart self back ≡ true) × (ids ≡ self ++ back))) }
     {
         if self.is_empty() {
             return Ok(Some(back));
         }
-        if self.note_all(&back)? {
-            return Ok(Some(self));
+        let Self { index } = self;
+        let front = match index {
+            Index::Paged(front) => front,
+            Index::Plain(front) => return noted_behind(Index::Plain(front), &back),
+        };
+        match by_rows(front, &back)? {
+            Following::Ids(ids) => Ok(Some(ObjectIds {
+                index: Index::Paged(ids),
+            })),
+            Following::Repeated => Ok(None),
+            Following::Unserved(front) => noted_behind(Index::Paged(front), &back),
         }
-        Ok(None)
     }
 
     /// The same IDs, once all are noted: a directory of their pages is made, by which each is found quicker.

@@ -20,13 +20,16 @@
 //! - `finder.rt`, `near.rt`: a `Finder` asks the directory, and keeps at hand the rows of up to 256 pages of which that
 //!   tells nothing.
 //!
-//! The threads that read a dump note the IDs of a part of it each. `followed_by` notes the IDs of the next part behind
+//! The threads that read a dump note the IDs of a part of it each. `followed_by` puts the IDs of the next part behind
 //! those of the parts before, and answers `None` where one was there before. So there is one index for the whole dump.
+//! Where rows serve for all, the rows of the part are put into those before (`following.rt`), mostly a block of 32
+//! places at a time, and no ID is looked up. Else its IDs are noted one after another.
 #![tactic(auto)]
 
 mod block;
 mod directory;
 mod finder;
+mod following;
 mod ids;
 mod near;
 mod numbers;

@@ -1,7 +1,8 @@
 //! Numbers of IDs in rows, 2 bits for each.
-ghost use Rattle.std.specs.Prelude.{◌≡◌, ℕ, ◌+◌, ◌-◌, ◌*◌, ◌/◌, ◌<◌, ◌≤◌, ◌^◌, [], ◌++◌, length, map, replicate, slice_index, slice_set, true, false, IfOk, OnOk, OnErr};
+ghost use Rattle.std.specs.Prelude.{◌≡◌, ℕ, ◌+◌, ◌-◌, ◌*◌, ◌/◌, ◌<◌, ◌≤◌, ◌^◌, [], ◌++◌, length, map, replicate, slice_index, slice_set, true, false, ◌≢◌, IfOk, MatchBool, OnOk, OnErr};
 ghost use Rattle.std.specs.List.{range_with_len};
 ghost use Rattle.hd_ids.specs.Numbers.{block_at, is_scattered, no_numbers, number_by, numbers_of, AreBlocks};
+ghost use Rattle.hd_ids.specs.Put.{ArePut, IsPutAt, Meet};
 
 use crate::block::{BLOCK, Block};
 use std::alloc::{AllocError, Global};
@@ -9,6 +10,9 @@ use std::marker::Model;
 
 /// How many numbers a row has.
 pub(crate) const ROW: usize = 512;
+
+/// How many blocks a row has.
+const BLOCKS: usize = ROW / BLOCK;
 
 /// How many rows of scattered numbers there may be.
 const MOST_SCATTERED: usize = 1 << 31;
@@ -180,5 +184,109 @@ impl Numbers {
     {
         push_blocks(&mut self.blocks)?;
         Ok(())
+    }
+
+    /// Puts another block, whose numbers follow one another, where one is.
+    #[inline(always)]
+    fn put_whole(&mut self, index: usize, block: Block)
+        requires within { index * 32 < length self.old }
+        requires low { block.first ≤ 2 ^ 31 }
+        requires follows { is_scattered block ≡ false }
+        ensures count { length self.new ≡ length self.old }
+        ensures here { (place : ℕ) → place < 32 → slice_index self.new (index * 32 + place) ≡ number_by block place }
+        ensures others { (q : ℕ) → q / 32 ≢ index → slice_index self.new q ≡ slice_index self.old q }
+    {
+        self.blocks[index] = block;
+    }
+
+    /// Puts a number at a place, `base` higher, or none where it is 0, and answers whether the place has no number of both.
+    fn put_at(&mut self, slot: usize, number: u32, base: u32) -> Result<bool, AllocError>
+        requires within { slot < length self.old }
+        requires low { number + base ≤ 2 ^ 31 }
+        ensures { IfOk result (λ apart. MatchBool apart (IsPutAt self.old self.new slot number base) ((slice_index self.old slot ≢ 0) × (number ≢ 0))) }
+    {
+        if number == 0 {
+            return Ok(true);
+        }
+        if self.get(slot) != 0 {
+            return Ok(false);
+        }
+        self.set(slot, number + base)?;
+        Ok(true)
+    }
+
+    /// Puts the numbers of 32 places of `more` at as many places, each `base` higher, and answers whether none has a number of both.
+    fn put_places(
+        &mut self,
+        start: usize,
+        more: &Numbers,
+        from: usize,
+        base: u32,
+    ) -> Result<bool, AllocError>
+        requires within { start + 32 ≤ length self.old }
+        requires there { from + 32 ≤ length more.now }
+        requires few { (length self.old ≤ 2 ^ 32) × (length more.now ≤ 2 ^ 32) }
+        requires low { (q : ℕ) → slice_index more.now q + base ≤ 2 ^ 31 }
+        ensures { IfOk result (λ apart. MatchBool apart (ArePut self.old self.new start more.now from base 32) (Meet self.old start more.now from 32)) }
+    {
+        for i in 0..BLOCK {
+            if !self.put_at(start + i, more.get(from + i), base)? {
+                return Ok(false);
+            }
+        }
+        Ok(true)
+    }
+
+    /// Puts the numbers of a block of `more` where one is, each `base` higher, and answers whether no place has a number of both.
+    /// Where no place has one yet, the block is put there as a whole.
+    #[inline(always)]
+    fn put_block(
+        &mut self,
+        index: usize,
+        more: &Numbers,
+        from: usize,
+        base: u32,
+    ) -> Result<bool, AllocError>
+        requires within { index * 32 + 32 ≤ length self.old }
+        requires there { from * 32 + 32 ≤ length more.now }
+        requires few { (length self.old ≤ 2 ^ 32) × (length more.now ≤ 2 ^ 32) }
+        requires base { base < 2 ^ 31 }
+        requires low { (q : ℕ) → slice_index more.now q + base ≤ 2 ^ 31 }
+        ensures { IfOk result (λ apart. MatchBool apart (ArePut self.old self.new (index * 32) more.now (from * 32) base 32) (Meet self.old (index * 32) more.now (from * 32) 32)) }
+    {
+        let block = more.block(from);
+        if block.is_empty() {
+            return Ok(true);
+        }
+        if self.block(index).is_empty()
+            && let Some(moved) = block.behind(base)
+        {
+            self.put_whole(index, moved);
+            return Ok(true);
+        }
+        self.put_places(index * BLOCK, more, from * BLOCK, base)
+    }
+
+    /// Puts the numbers of a row of `more` into a row, each `base` higher, and answers whether no place has a number of both.
+    pub(crate) fn put_row(
+        &mut self,
+        row: usize,
+        more: &Numbers,
+        from: usize,
+        base: u32,
+    ) -> Result<bool, AllocError>
+        requires within { row * 512 + 512 ≤ length self.old }
+        requires there { from * 512 + 512 ≤ length more.now }
+        requires few { (length self.old ≤ 2 ^ 32) × (length more.now ≤ 2 ^ 32) }
+        requires base { base < 2 ^ 31 }
+        requires low { (q : ℕ) → slice_index more.now q + base ≤ 2 ^ 31 }
+        ensures { IfOk result (λ apart. MatchBool apart (ArePut self.old self.new (row * 512) more.now (from * 512) base 512) (Meet self.old (row * 512) more.now (from * 512) 512)) }
+    {
+        for i in 0..BLOCKS {
+            if !self.put_block(row * BLOCKS + i, more, from * BLOCKS + i, base)? {
+                return Ok(false);
+            }
+        }
+        Ok(true)
     }
 }

@@ -1,13 +1,15 @@
 //! IDs by pages of the heap.
-ghost use Rattle.std.specs.Prelude.{◌≡◌, nat_eq, ◌<◌, ◌^◌, ◌==◌, ℕ, [], length, not, position, Some, slice_index, true, IfOk, OnOk, OnErr, IfSome, IfNone};
+ghost use Rattle.std.specs.Prelude.{◌≡◌, nat_eq, ◌+◌, ◌*◌, ◌<◌, ◌≤◌, ◌^◌, ◌==◌, ℕ, [], length, not, position, Some, slice_index, true, IfOk, OnOk, OnErr, IfSome, IfNone};
 ghost use Rattle.std.specs.List.{IsDistinct};
+ghost use Rattle.hd_ids.specs.Following.{Follows};
 ghost use Rattle.hd_ids.specs.Noted.{is_noted, noted};
 
 use crate::directory::Directory;
+use crate::following::{add_rows, put_rows, put_slots};
 use crate::near::NearIds;
 use crate::numbers::{Numbers, ROW};
 use crate::plain::PlainIds;
-use crate::rows::{add_row, add_slot, id_at, number_at, page_of, place_of, row_after};
+use crate::rows::{add_row, add_slot, id_at, number_at, page_of, place_of, row_after, row_of};
 use hd_hashers::PageHasher;
 use indexmap::IndexSet;
 use std::alloc::{AllocError, Global};
@@ -18,6 +20,24 @@ const MOST_NUMBERS: usize = 1 << 32;
 
 /// How many numbers the rows may have for each ID, 2 bits each: fewer bytes than one index of all IDs takes.
 const MOST_SPREAD: usize = 64;
+
+/// IDs by pages with others behind them, or why rows don't tell them.
+pub(crate) enum Following {
+    /// The IDs of both.
+    Ids(PagedIds),
+    /// An ID is in both.
+    Repeated,
+    /// The IDs in front, as they were: the rows of both would have too few IDs, or too many numbers.
+    Unserved(PagedIds),
+}
+
+/// Whether so many numbers in rows serve for so many IDs.
+fn serve(numbers: usize, ids: usize) -> bool
+    requires { ids < 2 ^ 62 }
+    ensures { result ≡ true → (numbers ≤ 2 ^ 32) × (numbers ≤ ids * 64 + 2 ^ 16) × (ids ≤ 2 ^ 31) }
+{
+    ids <= 1 << 31 && numbers <= (ids * MOST_SPREAD + (1 << 16)).min(MOST_NUMBERS)
+}
 
 /// IDs by pages of the heap: the numbers of those of one page stand in one row.
 ///
@@ -193,5 +213,46 @@ impl PagedIds {
         let mut plain = self.to_plain()?;
         let new = plain.note(id)?;
         Ok((plain, new))
+    }
+
+    /// These IDs, and those of `back` behind them, as far as rows serve for all.
+    ///
+    /// The rows are put together, mostly a block of 32 places at a time, so that no ID is looked up.
+    pub(crate) fn followed_by(self, back: &PagedIds) -> Result<Following, AllocError>
+        ensures { IfOk result (Follows self back.now) }
+    {
+        let ids = self.slots.len() + back.slots.len();
+        let base = self.slots.len();
+        if base >= 1 << 31 || !serve(self.numbers.len() + back.numbers.len(), ids) {
+            return Ok(Following::Unserved(self));
+        }
+        let Self {
+            alloc,
+            secret,
+            mut slots,
+            mut pages,
+            mut numbers,
+            last_page,
+            last_row: _,
+            directory,
+        } = self;
+        drop(directory);
+        let rows = add_rows(alloc, &mut pages, &mut numbers, back.pages.as_slice())?;
+        let rows = rows.as_slice();
+        let last_row = row_of(&pages, last_page);
+        if !put_rows(&mut numbers, rows, &back.numbers, base as u32)? {
+            return Ok(Following::Repeated);
+        }
+        put_slots(&mut slots, rows, back.slots.as_slice())?;
+        Ok(Following::Ids(PagedIds {
+            alloc,
+            secret,
+            slots,
+            pages,
+            numbers,
+            last_page,
+            last_row,
+            directory: Directory::none(alloc),
+        }))
     }
 }

@@ -1,5 +1,6 @@
 //! Rows of numbers, one for each page of IDs.
-ghost use Rattle.std.specs.Prelude.{◌≡◌, ◌+◌, ◌*◌, ◌<◌, ◌≤◌, ◌^◌, [], ◌∷◌, ◌++◌, length, replicate, slice_index, slice_set, OnOk, OnErr};
+ghost use Rattle.std.specs.Prelude.{◌≡◌, nat_eq, ◌+◌, ◌*◌, ◌<◌, ◌≤◌, ◌^◌, [], ◌∷◌, ◌++◌, length, replicate, slice_index, slice_set, OnOk, OnErr};
+ghost use Rattle.std.specs.List.{IsDistinct};
 ghost use Rattle.hd_ids.specs.Rows as rows;
 
 use crate::numbers::{Numbers, ROW};
@@ -35,10 +36,12 @@ pub(crate) fn id_at(page: u64, place: usize) -> u64
 pub(crate) fn row_of(pages: &IndexSet<u64, PageHasher>, page: u64) -> usize
     ensures row { result ≡ rows.row_of pages.now.keys page }
     ensures within { result ≤ length pages.now.keys }
+    ensures distinct { IsDistinct nat_eq pages.now.keys }
 {
+    let past = pages.len();
     match pages.get_index_of(&page) {
         Some(row) => row,
-        None => pages.len(),
+        None => past,
     }
 }
 

@@ -38,9 +38,11 @@ same_line dump log count other a b group =
     (same_flat_map (λ (s : Strength). 32 ∷ decimal (count group s)) (λ (s : Strength). 32 ∷ decimal (other group s)) falling_strengths
     (λ s. ap (λ (n : ℕ). 32 ∷ decimal n) (counts s)))
 
-pub one_found : (dump : Dump) (log : List Event) (text : List ℕ) (answer other : Answer) → IsFound dump log text answer → IsFound dump log text other → answer ≡ other
+pub one_found : (dump : Dump) (log : List Event) (text : List ℕ) (answer other : Answer) → IsFound dump log text answer → IsFound dump log text other
+    → answer ≡ other
 one_found dump log text answer other a b =
     a.lines
-    ∙ ap (λ (ls : List (List ℕ)). Ok ls) (same_map (found_line dump a.count) (found_line dump b.count) a.groups (same_line dump log a.count b.count a.counts b.counts))
+    ∙ ap (λ (ls : List (List ℕ)). Ok ls)
+    (same_map (found_line dump a.count) (found_line dump b.count) a.groups (same_line dump log a.count b.count a.counts b.counts))
     ∙ ap (λ (gs : List Group). Ok (map (found_line dump b.count) gs)) (one_groups dump _ a.groups b.groups a.are b.are)
     ∙ sym b.lines

@@ -53,7 +53,8 @@ module _ (dump : Dump) (before after : List Event) where
       ∙ ap (λ (n : ℕ). let row : MovedRow = record { before = b.before; after = b.after; count = b.count; bytes = n } in row) bytes
 
   -- a row of one list is one of the other
-  carried : (rows others : List MovedRow) → AreMovedRows dump before after rows → AreMovedRows dump before after others → (z : MovedRow) → Contains rows z → Contains others z
+  carried : (rows others : List MovedRow) → AreMovedRows dump before after rows → AreMovedRows dump before after others → (z : MovedRow) → Contains rows z
+      → Contains others z
   carried rows others are too z at =
       let there = (too.pairs z.before z.after).1 ((are.pairs z.before z.after).0 (pair-there rows z at)) in
       let found = row-there others (pair z) there in

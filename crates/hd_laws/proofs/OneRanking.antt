@@ -101,9 +101,11 @@ of-each P (x ∷ xs) h z at = ⊎_elim (λ is. subst P is h.0) (λ there. of-eac
 
 module _ (dump : Dump) (IsMeant : ℕ → Type 0) where
   -- a row goes by its group
-  same_row : (a b : ClassRow) → a.group ≡ b.group → IsTotalOf dump (IsMeantIn dump IsMeant a.group) a.count a.bytes → IsTotalOf dump (IsMeantIn dump IsMeant b.group) b.count b.bytes → a ≡ b
+  same_row : (a b : ClassRow) → a.group ≡ b.group → IsTotalOf dump (IsMeantIn dump IsMeant a.group) a.count a.bytes
+      → IsTotalOf dump (IsMeantIn dump IsMeant b.group) b.count b.bytes → a ≡ b
   same_row a b same t u =
-      let moved : IsTotalOf dump (IsMeantIn dump IsMeant a.group) b.count b.bytes = subst (λ (g : Group). IsTotalOf dump (IsMeantIn dump IsMeant g) b.count b.bytes) (sym same) u in
+      let moved : IsTotalOf dump (IsMeantIn dump IsMeant a.group) b.count b.bytes =
+      subst (λ (g : Group). IsTotalOf dump (IsMeantIn dump IsMeant g) b.count b.bytes) (sym same) u in
       let counts = same_count dump (IsMeantIn dump IsMeant a.group) a.count a.bytes b.count b.bytes t moved in
       let bytes = same_bytes dump (IsMeantIn dump IsMeant a.group) a.count a.bytes b.count b.bytes t moved in
       ap (λ (g : Group). let row : ClassRow = record { group = g; count = a.count; bytes = a.bytes } in row) same
@@ -115,7 +117,8 @@ module _ (dump : Dump) (IsMeant : ℕ → Type 0) where
   carried rows others are too z at =
       let there = (too.groups z.group).1 ((are.groups z.group).0 (group-there rows z at)) in
       let found = row-there others z.group there in
-      let same = same_row found.0 z found.2 (of-each (λ (row : ClassRow). IsTotalOf dump (IsMeantIn dump IsMeant row.group) row.count row.bytes) others too.totals found.0 found.1)
+      let same = same_row found.0 z found.2
+      (of-each (λ (row : ClassRow). IsTotalOf dump (IsMeantIn dump IsMeant row.group) row.count row.bytes) others too.totals found.0 found.1)
       (of-each (λ (row : ClassRow). IsTotalOf dump (IsMeantIn dump IsMeant row.group) row.count row.bytes) rows are.totals z at) in
       subst (Contains others) same found.1
 

@@ -20,7 +20,9 @@ use Rattle.hd_terms.specs.Fell.{Falls, FellCount}
 use Rattle.hd_terms.specs.Listed.{AreIdsOf, group_key}
 use Rattle.hd_lines.specs.Memory.{Memory}
 use Rattle.hd_lines.specs.Names.{group_text, group_name}
-use Rattle.hd_lines.specs.Replies.{Answer, answer_text, answered, class_line, id_line, object_line, strength_name, AnswersStrength, AnswersObject, AnswersClasses, AnswersIds, AnswersFell, AnswersFreed, AnswersMoved, AnswersTop, IsAnswer, IsFreed, moved_line, total_line, RefusesPrivate, RefusesBack, RepliesTo, RepliesDone, event_line}
+use Rattle.hd_lines.specs.Replies.{Answer, answer_text, answered, class_line, id_line, object_line, strength_name, AnswersStrength, AnswersObject}
+use Rattle.hd_lines.specs.Replies.{AnswersClasses, AnswersIds, AnswersFell, AnswersFreed, AnswersMoved, AnswersTop, IsAnswer, IsFreed, moved_line, total_line}
+use Rattle.hd_lines.specs.Replies.{RefusesPrivate, RefusesBack, RepliesTo, RepliesDone, event_line}
 use Rattle.hd_terms.specs.Strengths.{HasStrength}
 use Rattle.hd_terms.specs.Totals.{IsMember, IsGroupTotal}
 use Rattle.hd_terms.proofs.OneStrength.{one_strength}
@@ -43,7 +45,8 @@ pub one_fell : (dump : Dump) (before after : List Event) (n k : ℕ) → FellCou
 one_fell dump before after n k a b = a.count ∙ same_number dump (Falls dump before after) a.falls b.falls a.decides b.decides ∙ sym b.count
 
 -- what is answered to an event that the log has taken
-pub one_done : (dump : Dump) (before after : List Event) (reply other : List ℕ) → RepliesDone dump before after reply → RepliesDone dump before after other → reply ≡ other
+pub one_done : (dump : Dump) (before after : List Event) (reply other : List ℕ) → RepliesDone dump before after reply → RepliesDone dump before after other
+    → reply ≡ other
 one_done dump before after reply other a b =
     a.reply_is
     ∙ ap (λ (n : ℕ). answered (event_line (length before) n a.back ∷ [])) (one_fell dump before after a.fell b.fell a.fell_is b.fell_is)
@@ -52,7 +55,8 @@ one_done dump before after reply other a b =
 
 module _ (dump : Dump) (log : List Event) (s : Strength) where
   -- the line of a row goes by its group
-  same_row : (a b : ClassRow) → a.group ≡ b.group → IsGroupTotal dump log a.group s a.count a.bytes → IsGroupTotal dump log b.group s b.count b.bytes → class_line dump a ≡ class_line dump b
+  same_row : (a b : ClassRow) → a.group ≡ b.group → IsGroupTotal dump log a.group s a.count a.bytes → IsGroupTotal dump log b.group s b.count b.bytes
+      → class_line dump a ≡ class_line dump b
   same_row a b same t u =
       let moved : IsGroupTotal dump log a.group s b.count b.bytes = subst (λ (g : Group). IsGroupTotal dump log g s b.count b.bytes) (sym same) u in
       let counts = same_count dump (IsMember dump log a.group s) a.count a.bytes b.count b.bytes t moved in
@@ -74,7 +78,8 @@ module _ (dump : Dump) (log : List Event) (s : Strength) where
       ∙ ap (λ (ls : List (List ℕ)). class_line dump b ∷ ls) (same_rows more others t.1 u.1 rest)
 
   -- the groups of rows rise
-  rising : (rows : List ClassRow) → IsStrictlyIncreasing (map (λ (row : ClassRow). group_key row.group) rows) → IsStrictlyIncreasing (map group_key (map (λ (row : ClassRow). row.group) rows))
+  rising : (rows : List ClassRow) → IsStrictlyIncreasing (map (λ (row : ClassRow). group_key row.group) rows)
+      → IsStrictlyIncreasing (map group_key (map (λ (row : ClassRow). row.group) rows))
   rising rows h = subst IsStrictlyIncreasing (sym (twice rows)) h
     where
       twice : (rows : List ClassRow) → map group_key (map (λ (row : ClassRow). row.group) rows) ≡ map (λ (row : ClassRow). group_key row.group) rows
@@ -85,7 +90,8 @@ module _ (dump : Dump) (log : List Event) (s : Strength) where
   one_classes answer other (rows, are, is) (others, too, also) =
       let gs = map (λ (row : ClassRow). row.group) rows in
       let hs = map (λ (row : ClassRow). row.group) others in
-      let groups : gs ≡ hs = one_list group_key gs hs (rises_keys group_key gs (rising rows are.in_order)) (rises_keys group_key hs (rising others too.in_order))
+      let groups : gs ≡ hs = one_list group_key gs hs (rises_keys group_key gs (rising rows are.in_order))
+      (rises_keys group_key hs (rising others too.in_order))
       (λ g at. (too.groups g).1 ((are.groups g).0 at))
       (λ g at. (are.groups g).1 ((too.groups g).0 at)) in
       is ∙ ap (λ (ls : List (List ℕ)). Ok ls) (same_rows rows others are.totals too.totals groups) ∙ sym also
@@ -102,11 +108,13 @@ module _ (dump : Dump) (log : List Event) where
       is ∙ ap (λ (x : Strength). Ok (object_line dump o x ∷ [])) (one_strength (standing dump log) o s t has also) ∙ sym too
 
   module _ (names : Bool) where
-    ids_of : (IsMeant : ℕ → Type 0) (answer other : Answer) → AnswersIds dump names (AreIdsOf dump IsMeant) answer → AnswersIds dump names (AreIdsOf dump IsMeant) other → answer ≡ other
+    ids_of : (IsMeant : ℕ → Type 0) (answer other : Answer) → AnswersIds dump names (AreIdsOf dump IsMeant) answer
+        → AnswersIds dump names (AreIdsOf dump IsMeant) other → answer ≡ other
     ids_of IsMeant answer other (ids, are, is) (others, too, also) =
         is ∙ ap (λ (xs : List ℕ). Ok (map (id_line dump names) xs)) (one_ids dump IsMeant ids others are too) ∙ sym also
 
-    fell_of : (before : Option (List Event)) (answer other : Answer) → AnswersFell dump names log before answer → AnswersFell dump names log before other → answer ≡ other
+    fell_of : (before : Option (List Event)) (answer other : Answer) → AnswersFell dump names log before answer → AnswersFell dump names log before other
+        → answer ≡ other
     fell_of None answer other a b = a ∙ sym b
     fell_of (Some before) answer other a b = ids_of (Falls dump before log) answer other a b
 
@@ -133,7 +141,8 @@ module _ (dump : Dump) (log : List Event) where
 
   top_of : (s : Strength) (answer other : Answer) → AnswersTop dump log s answer → AnswersTop dump log s other → answer ≡ other
   top_of s answer other (rows, are, is) (others, too, also) =
-      is ∙ ap (λ (rs : List ClassRow). Ok (map (class_line dump) rs)) (one_top dump (λ (o : ℕ). HasStrength (standing dump log) o s) rows others are too) ∙ sym also
+      is ∙ ap (λ (rs : List ClassRow). Ok (map (class_line dump) rs)) (one_top dump (λ (o : ℕ). HasStrength (standing dump log) o s) rows others are too)
+      ∙ sym also
 
 private_of : (home : Option (List Event)) (reply other : List ℕ) → RefusesPrivate home reply → RefusesPrivate home other → reply ≡ other
 private_of None reply other a b = absurd a
@@ -148,7 +157,8 @@ abbrev IsNoChain : Query → Type 0
 IsNoChain query = (id : ℕ) → query ≡ queries.Chain id → ⊥
 
 -- the answer to a query that asks for no chain
-one_answer : (dump : Dump) (m : Memory) (text : List ℕ) (query : Query) (answer other : Answer) → IsNoChain query → IsAnswer dump m text query answer → IsAnswer dump m text query other → answer ≡ other
+one_answer : (dump : Dump) (m : Memory) (text : List ℕ) (query : Query) (answer other : Answer) → IsNoChain query → IsAnswer dump m text query answer
+    → IsAnswer dump m text query other → answer ≡ other
 one_answer dump m text (queries.Strength id) answer other no_chain a b = strength_of dump m.log (index_of dump.objects id) answer other a b
 one_answer dump m text (queries.Chain id) answer other no_chain a b = absurd (no_chain id refl)
 one_answer dump m text (queries.Slots id) answer other no_chain a b = a ∙ sym b
@@ -165,7 +175,8 @@ one_answer dump m text (queries.Moved k) answer other no_chain a b = moved_of du
 one_answer dump m text queries.Find answer other no_chain a b = one_found dump m.log text answer other a b
 
 -- what is answered to a command that changes nothing and asks for no chain
-pub one_reply : (dump : Dump) (m : Memory) (text : List ℕ) (r : Result Command LineFault) (reply other : List ℕ) → AsksNoChain r → RepliesTo dump m text r reply → RepliesTo dump m text r other → reply ≡ other
+pub one_reply : (dump : Dump) (m : Memory) (text : List ℕ) (r : Result Command LineFault) (reply other : List ℕ) → AsksNoChain r → RepliesTo dump m text r reply
+    → RepliesTo dump m text r other → reply ≡ other
 one_reply dump m text (Err f) reply other no_chain a b = a ∙ sym b
 one_reply dump m text (Ok (commands.Ask most query)) reply other no_chain (answer, are, is) (others, too, also) =
     let asked : IsNoChain query = λ id same. no_chain most id (ap (λ (q : Query). Ok (commands.Ask most q)) same) in

@@ -58,12 +58,18 @@ same_line s t u counts bytes =
 -- the lines go by each
 same_lines : (t u : Strength → Total) → ((s : Strength) → total_line s (t s) ≡ total_line s (u s)) → total_lines t ≡ total_lines u
 same_lines t u h =
-    ap (λ (x : List ℕ). x ∷ line t strengths.Soft ∷ line t strengths.Weak ∷ line t strengths.Final ∷ line t strengths.Phantom ∷ line t strengths.Unreachable ∷ []) (h strengths.Strong)
-    ∙ ap (λ (x : List ℕ). line u strengths.Strong ∷ x ∷ line t strengths.Weak ∷ line t strengths.Final ∷ line t strengths.Phantom ∷ line t strengths.Unreachable ∷ []) (h strengths.Soft)
-    ∙ ap (λ (x : List ℕ). line u strengths.Strong ∷ line u strengths.Soft ∷ x ∷ line t strengths.Final ∷ line t strengths.Phantom ∷ line t strengths.Unreachable ∷ []) (h strengths.Weak)
-    ∙ ap (λ (x : List ℕ). line u strengths.Strong ∷ line u strengths.Soft ∷ line u strengths.Weak ∷ x ∷ line t strengths.Phantom ∷ line t strengths.Unreachable ∷ []) (h strengths.Final)
-    ∙ ap (λ (x : List ℕ). line u strengths.Strong ∷ line u strengths.Soft ∷ line u strengths.Weak ∷ line u strengths.Final ∷ x ∷ line t strengths.Unreachable ∷ []) (h strengths.Phantom)
-    ∙ ap (λ (x : List ℕ). line u strengths.Strong ∷ line u strengths.Soft ∷ line u strengths.Weak ∷ line u strengths.Final ∷ line u strengths.Phantom ∷ x ∷ []) (h strengths.Unreachable)
+    ap (λ (x : List ℕ). x ∷ line t strengths.Soft ∷ line t strengths.Weak ∷ line t strengths.Final ∷ line t strengths.Phantom ∷ line t strengths.Unreachable
+    ∷ []) (h strengths.Strong)
+    ∙ ap (λ (x : List ℕ). line u strengths.Strong ∷ x ∷ line t strengths.Weak ∷ line t strengths.Final ∷ line t strengths.Phantom ∷ line t strengths.Unreachable
+    ∷ []) (h strengths.Soft)
+    ∙ ap (λ (x : List ℕ). line u strengths.Strong ∷ line u strengths.Soft ∷ x ∷ line t strengths.Final ∷ line t strengths.Phantom ∷ line t strengths.Unreachable
+    ∷ []) (h strengths.Weak)
+    ∙ ap (λ (x : List ℕ). line u strengths.Strong ∷ line u strengths.Soft ∷ line u strengths.Weak ∷ x ∷ line t strengths.Phantom ∷ line t strengths.Unreachable
+    ∷ []) (h strengths.Final)
+    ∙ ap (λ (x : List ℕ). line u strengths.Strong ∷ line u strengths.Soft ∷ line u strengths.Weak ∷ line u strengths.Final ∷ x ∷ line t strengths.Unreachable
+    ∷ []) (h strengths.Phantom)
+    ∙ ap (λ (x : List ℕ). line u strengths.Strong ∷ line u strengths.Soft ∷ line u strengths.Weak ∷ line u strengths.Final ∷ line u strengths.Phantom ∷ x ∷ [])
+    (h strengths.Unreachable)
   where
     line : (Strength → Total) → Strength → List ℕ
     line v s = total_line s (v s)
@@ -73,5 +79,6 @@ pub one_stat : (dump : Dump) (text other : List ℕ) → IsStat dump text → Is
 one_stat dump text other a b =
     a.text_is
     ∙ ap (λ (ls : List (List ℕ)). flat_map with_newline (count_lines (counts_of dump) ++ ls))
-    (same_lines a.totals b.totals (λ s. same_line s (a.totals s) (b.totals s) (same_count dump _ _ _ _ _ (a.are s) (b.are s)) (same_bytes dump _ _ _ _ _ (a.are s) (b.are s))))
+    (same_lines a.totals b.totals
+    (λ s. same_line s (a.totals s) (b.totals s) (same_count dump _ _ _ _ _ (a.are s) (b.are s)) (same_bytes dump _ _ _ _ _ (a.are s) (b.are s))))
     ∙ sym b.text_is

@@ -74,7 +74,8 @@ module _ (a : Analyst) (m : Memory) (text : List ℕ) (found : List Event) where
   abbrev pub Outcome : Result Command LineFault → (reply : List ℕ) → (after : Memory) → Type 0
   Outcome r reply after = Quiet r reply after ⊎ (Asks r reply after ⊎ (Marks r reply after ⊎ Renames r reply after))
 
-  one_end : (x : Result What Refusal) (reply other : List ℕ) (after later : Memory) → Ends x reply after → Ends x other later → (reply ≡ other) × (after ≡ later)
+  one_end : (x : Result What Refusal) (reply other : List ℕ) (after later : Memory) → Ends x reply after → Ends x other later → (reply ≡ other)
+      × (after ≡ later)
   one_end (Err r) reply other after later (says, l) (too, also) = (says ∙ sym too, l ∙ sym also)
   one_end (Ok what) reply other after later (inl (r, refuses, says, l)) (inl (q, also, too, k)) =
       (says ∙ ap (λ (x : Refusal). refused (refusal_name x)) (some_same r q (sym refuses ∙ also)) ∙ sym too, l ∙ sym k)
@@ -106,7 +107,8 @@ module _ (a : Analyst) (m : Memory) (text : List ℕ) (found : List Event) where
   same_switch : (r : Result Command LineFault) (on off : Bool) → r ≡ Ok (commands.Names on) → r ≡ Ok (commands.Names off) → on ≡ off
   same_switch r on off is also = cc
 
-  pub one_outcome : (r : Result Command LineFault) (reply other : List ℕ) (after later : Memory) → Outcome r reply after → Outcome r other later → (AsksNoChain r → reply ≡ other) × (after ≡ later)
+  pub one_outcome : (r : Result Command LineFault) (reply other : List ℕ) (after later : Memory) → Outcome r reply after → Outcome r other later
+      → (AsksNoChain r → reply ≡ other) × (after ≡ later)
   one_outcome r reply other after later (inl (says, l)) (inl (too, k)) = ((λ no_chain. one_reply a.dump m text r reply other no_chain says too), l ∙ sym k)
   one_outcome r reply other after later (inl (says, l)) (inr (inl (x, asks, ends))) = absurd (quiet_asks a.dump m text a.who r reply x says asks)
   one_outcome r reply other after later (inl (says, l)) (inr (inr (inl (is, room, too, k)))) = absurd (no_room r reply says is room)
@@ -119,7 +121,8 @@ module _ (a : Analyst) (m : Memory) (text : List ℕ) (found : List Event) where
   one_outcome r reply other after later (inr (inl (x, asks, ends))) (inr (inr (inr (on, is, too, k)))) = absurd (no_asking r x on asks is)
   one_outcome r reply other after later (inr (inr (inl (is, room, says, l)))) (inl (too, k)) = absurd (no_room r other too is room)
   one_outcome r reply other after later (inr (inr (inl (is, room, says, l)))) (inr (inl (x, asks, ends))) = absurd (no_event r x asks is)
-  one_outcome r reply other after later (inr (inr (inl (is, room, says, l)))) (inr (inr (inl (too, also, replies, k)))) = ((λ no_chain. says ∙ sym replies), l ∙ sym k)
+  one_outcome r reply other after later (inr (inr (inl (is, room, says, l)))) (inr (inr (inl (too, also, replies, k)))) =
+      ((λ no_chain. says ∙ sym replies), l ∙ sym k)
   one_outcome r reply other after later (inr (inr (inl (is, room, says, l)))) (inr (inr (inr (on, also, too, k)))) = absurd (no_mark r on is also)
   one_outcome r reply other after later (inr (inr (inr (on, is, says, l)))) (inl (too, k)) = absurd (no_quiet r other on too is)
   one_outcome r reply other after later (inr (inr (inr (on, is, says, l)))) (inr (inl (x, asks, ends))) = absurd (no_asking r x on asks is)
@@ -140,11 +143,14 @@ module _ (a : Analyst) (m : Memory) (text : List ℕ) (found : List Event) where
   none_open r reply after (inr (inr (inr (on, is, says, l)))) none = ap (λ (k : Memory). k.home) l ∙ none
 
 -- a plain turn outside a private part comes out so
-pub outcome_of : (a : Analyst) (t : Turn) → IsTurn a t → IsPlain t → t.before.home ≡ None → Outcome a t.before (last_word t.line) t.found (command_of t.line) t.reply t.after
+pub outcome_of : (a : Analyst) (t : Turn) → IsTurn a t → IsPlain t → t.before.home ≡ None
+    → Outcome a t.before (last_word t.line) t.found (command_of t.line) t.reply t.after
 outcome_of a t (sessions.answered r f l) plain none = inl (r, l)
 outcome_of a t (sessions.declined c r is asks says f l) plain none = inr (inl (Err r, ap (asked_by a.dump t.before.log a.who) is ∙ asks, (says, l)))
-outcome_of a t (sessions.rejected c what r is asks refuses says l) plain none = inr (inl (Ok what, ap (asked_by a.dump t.before.log a.who) is ∙ asks, inl (r, refuses, says, l)))
-outcome_of a t (sessions.accepted c what is asks takes done l) plain none = inr (inl (Ok what, ap (asked_by a.dump t.before.log a.who) is ∙ asks, inr (takes, done, l)))
+outcome_of a t (sessions.rejected c what r is asks refuses says l) plain none =
+    inr (inl (Ok what, ap (asked_by a.dump t.before.log a.who) is ∙ asks, inl (r, refuses, says, l)))
+outcome_of a t (sessions.accepted c what is asks takes done l) plain none =
+    inr (inl (Ok what, ap (asked_by a.dump t.before.log a.who) is ∙ asks, inr (takes, done, l)))
 outcome_of a t (sessions.unfinished c what is asks takes says l) plain none = absurd (plain.finished (length t.found) says)
 outcome_of a t (sessions.marked is room says f l) plain none = inr (inr (inl (is, room, says, l)))
 outcome_of a t (sessions.renamed on is says f l) plain none = inr (inr (inr (on, is, says, l)))

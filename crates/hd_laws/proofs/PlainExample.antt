@@ -49,12 +49,23 @@ served reply begins h =
     h
 
 strong_is_plain : IsPlain (turn (codes "strength 0x2") ok_strong)
-strong_is_plain = record { is_open = λ h. absurd cc; served = served ok_strong refl; finished = λ event is. no_refusal ok_strong (codes "Accepted " ++ decimal event) refl is }
+strong_is_plain = record {
+  is_open = λ h. absurd cc;
+  served = served ok_strong refl;
+  finished =
+      λ event is. no_refusal ok_strong (codes "Accepted " ++ decimal event) refl is;
+}
 
 quit_is_plain : IsPlain (turn (codes "quit") ok_none)
-quit_is_plain = record { is_open = λ h. absurd cc; served = served ok_none refl; finished = λ event is. no_refusal ok_none (codes "Accepted " ++ decimal event) refl is }
+quit_is_plain = record {
+  is_open = λ h. absurd cc;
+  served = served ok_none refl;
+  finished =
+      λ event is. no_refusal ok_none (codes "Accepted " ++ decimal event) refl is;
+}
 
-pub plain_session : IsReply examples.two_arrays (beginning false [] []) (codes "strength 0x2") ok_strong → (turns : List Turn) × IsServedPlainly examples.two_arrays false (codes "strength 0x2" ++ 10 ∷ codes "quit" ++ 10 ∷ []) (ok_strong ++ ok_none) turns
+pub plain_session : IsReply examples.two_arrays (beginning false [] []) (codes "strength 0x2") ok_strong → (turns : List Turn)
+    × IsServedPlainly examples.two_arrays false (codes "strength 0x2" ++ 10 ∷ codes "quit" ++ 10 ∷ []) (ok_strong ++ ok_none) turns
 plain_session strong = (
   turn (codes "strength 0x2") ok_strong ∷ turn (codes "quit") ok_none ∷ [],
   record {

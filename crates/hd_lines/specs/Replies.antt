@@ -1,7 +1,8 @@
 -- The reply to a line: bytes that are a function of the dump, of logs and of the line, but for which chain is shown, and for
 -- replies that say that memory ran out or that a log is foreign.
 -- Source: this project's protocol (docs/PROTOCOL.md).
-use Rattle.std.specs.Prelude.{◌≡◌, ◌⊎◌, ◌≤◌, ℕ, false, Bool, not, if◌then◌else◌, List, [], ◌∷◌, ◌++◌, length, map, slice_get, codes, decimal, Option, Some, None, Result, Ok, Err}
+use Rattle.std.specs.Prelude.{◌≡◌, ◌⊎◌, ◌≤◌, ℕ, false, Bool, not, if◌then◌else◌, List, [], ◌∷◌, ◌++◌, length, map, slice_get, codes, decimal, Option, Some}
+use Rattle.std.specs.Prelude.{None, Result, Ok, Err}
 use Rattle.std.specs.Option.{option_map}
 use Rattle.std.specs.List.{flat_map, enumerate_from}
 use Rattle.hd_terms.specs.declared.Strength.{Strength}
@@ -332,7 +333,8 @@ AnswersFell dump names log (Some before) answer = AnswersIds dump names (AreFall
 
 -- the answer to `top`: the lines of `classes`, those with the most bytes first
 abbrev pub AnswersTop : Dump → List Event → Strength → Answer → Type 0
-AnswersTop dump log s answer = (rows : List ClassRow) × AreTopRows dump (λ (o : ℕ). HasStrength (standing dump log) o s) rows × (answer ≡ Ok (map (class_line dump) rows))
+AnswersTop dump log s answer = (rows : List ClassRow) × AreTopRows dump (λ (o : ℕ). HasStrength (standing dump log) o s) rows
+    × (answer ≡ Ok (map (class_line dump) rows))
 
 -- what fell from one log to another: how many objects, and their recorded bytes; and by groups, those with the most bytes first
 pub record IsFreed (dump : Dump) (before after : List Event) (answer : Answer) : Type 0 where

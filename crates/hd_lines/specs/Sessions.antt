@@ -13,7 +13,8 @@ use Rattle.hd_lines.specs.Memory.{Memory, beginning, at_log, most_marks, with_ma
 use Rattle.hd_lines.specs.Memory as memories
 use Rattle.hd_terms.specs.Appending.{append_refusal, event_by, with_event}
 use Rattle.hd_lines.specs.Lines.{command_of, whole_lines, lines_of, run_lines, is_quit}
-use Rattle.hd_lines.specs.Replies.{IsReply, RepliesDone, IsUnserved, accepted_reply, back_reply, mark_reply, names_reply, private_reply, refused, refusal_name, refreshes}
+use Rattle.hd_lines.specs.Replies.{IsReply, RepliesDone, IsUnserved, accepted_reply, back_reply, mark_reply, names_reply, private_reply, refused, refusal_name}
+use Rattle.hd_lines.specs.Replies.{refreshes}
 use Rattle.hd_lines.specs.Asking.{asked}
 use Rattle.hd_terms.specs.Log.{IsLawful, own}
 
@@ -81,10 +82,12 @@ pub data IsTurn (a : Analyst) (t : Turn) : Type 0 where
   gone_private : command_of t.line ≡ Ok commands.Private → t.before.home ≡ None → t.reply ≡ private_reply (length t.before.log)
       → t.found ≡ t.before.log → t.after ≡ memories.gone_private t.before → IsTurn a t
   -- a private part ends: the log is its home again, and how many events came after that is answered
-  gone_back : (home : List Event) → command_of t.line ≡ Ok commands.Back → t.before.home ≡ Some home → t.reply ≡ back_reply (length (drop (length home) t.before.log))
+  gone_back : (home : List Event) → command_of t.line ≡ Ok commands.Back → t.before.home ≡ Some home
+      → t.reply ≡ back_reply (length (drop (length home) t.before.log))
       → t.found ≡ t.before.log → t.after ≡ memories.gone_back t.before home → IsTurn a t
   -- replies show names from here on, or no longer
-  renamed : (on : Bool) → command_of t.line ≡ Ok (commands.Names on) → t.reply ≡ names_reply → t.found ≡ t.before.log → t.after ≡ with_names t.before on → IsTurn a t
+  renamed : (on : Bool) → command_of t.line ≡ Ok (commands.Names on) → t.reply ≡ names_reply → t.found ≡ t.before.log → t.after ≡ with_names t.before on
+      → IsTurn a t
   -- a command that comes to nothing, since memory ran out or the board's log is foreign: nothing is added
   unserved : refreshes (command_of t.line) ≡ true → IsUnserved t.reply → t.found ≡ t.before.log → LeavesLog t t.found → IsTurn a t
 

@@ -20,7 +20,8 @@ enumerate-push n (y ∷ xs) x =
     ap (λ (ys : List _). (n, y) ∷ ys) (enumerate-push (n + 1) xs x ∙ ap (λ (m : ℕ). enumerate_from (n + 1) xs ++ (m, x) ∷ []) same)
 
 -- one more numbered element
-pub numbered_more : {X : Type 0} (xs : List X) (k : ℕ) (x : X) → slice_get xs k ≡ Some x → enumerate_from 0 (take (k + 1) xs) ≡ enumerate_from 0 (take k xs) ++ (k, x) ∷ []
+pub numbered_more : {X : Type 0} (xs : List X) (k : ℕ) (x : X) → slice_get xs k ≡ Some x → enumerate_from 0 (take (k + 1) xs) ≡ enumerate_from 0 (take k xs)
+    ++ (k, x) ∷ []
 numbered_more xs k x is =
     let lt : k < length xs = slice_get_within xs k x is in
     let more : take (k + 1) xs ≡ take k xs ++ x ∷ [] = take_more xs k x lt ∙ ap (λ (y : _). take k xs ++ y ∷ []) (get_or_from_slice_get xs k x x is) in
@@ -34,7 +35,8 @@ last-option o [] (Some x) = refl
 last-option o (y ∷ xs) x = last-option (Some y) xs x
 
 -- one more event is looked at
-pub one_more : (log : List Event) (who k : ℕ) (e : Event) → slice_get log k ≡ Some e → last_of log who (k + 1) ≡ cond (is_some (own_live log who (k, e))) (own_live log who (k, e)) (last_of log who k)
+pub one_more : (log : List Event) (who k : ℕ) (e : Event) → slice_get log k ≡ Some e → last_of log who (k + 1) ≡ cond (is_some (own_live log who (k, e)))
+    (own_live log who (k, e)) (last_of log who k)
 one_more log who k e is =
     ap (λ (ns : List (ℕ × Event)). last_or None (filter_map (own_live log who) ns)) (numbered_more log k e is)
     ∙ ap (last_or None) (filter_map-append (own_live log who) (enumerate_from 0 (take k log)) ((k, e) ∷ []))
@@ -46,8 +48,12 @@ by_event [] k lt h = absurd (omega arith)
 by_event (x ∷ log) k lt h = h (get_or (x ∷ log) k x) (slice_get-get_or (x ∷ log) k x lt)
 
 -- one more event is looked at, by what it has
-pub own_seen : (log : List Event) (who k own : ℕ) (r : Option ℕ) → k < length log → ((e : Event) → slice_get log k ≡ Some e → r ≡ own_live log who (k, e)) → r ≡ Some own → Some own ≡ last_of log who (k + 1)
-own_seen log who k own r lt is some = by_event log k lt (λ e at. sym (one_more log who k e at ∙ ap (λ (o : Option ℕ). cond (is_some o) o (last_of log who k)) (sym (is e at) ∙ some)))
+pub own_seen : (log : List Event) (who k own : ℕ) (r : Option ℕ) → k < length log → ((e : Event) → slice_get log k ≡ Some e → r ≡ own_live log who (k, e))
+    → r ≡ Some own → Some own ≡ last_of log who (k + 1)
+own_seen log who k own r lt is some =
+    by_event log k lt (λ e at. sym (one_more log who k e at ∙ ap (λ (o : Option ℕ). cond (is_some o) o (last_of log who k)) (sym (is e at) ∙ some)))
 
-pub other_seen : (log : List Event) (who k : ℕ) (last : Option ℕ) (r : Option ℕ) → k < length log → ((e : Event) → slice_get log k ≡ Some e → r ≡ own_live log who (k, e)) → r ≡ None → last ≡ last_of log who k → last ≡ last_of log who (k + 1)
-other_seen log who k last r lt is none so_far = so_far ∙ by_event log k lt (λ e at. sym (one_more log who k e at ∙ ap (λ (o : Option ℕ). cond (is_some o) o (last_of log who k)) (sym (is e at) ∙ none)))
+pub other_seen : (log : List Event) (who k : ℕ) (last : Option ℕ) (r : Option ℕ) → k < length log
+    → ((e : Event) → slice_get log k ≡ Some e → r ≡ own_live log who (k, e)) → r ≡ None → last ≡ last_of log who k → last ≡ last_of log who (k + 1)
+other_seen log who k last r lt is none so_far = so_far
+    ∙ by_event log k lt (λ e at. sym (one_more log who k e at ∙ ap (λ (o : Option ℕ). cond (is_some o) o (last_of log who k)) (sym (is e at) ∙ none)))

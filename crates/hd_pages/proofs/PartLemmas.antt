@@ -1,6 +1,8 @@
 -- Lists in parts: where an item is, and what a write to it and a further part change.
-use Rattle.std.proofs.Common.{◌≡◌, ◌∙◌, ℕ, zero, suc, ◌+◌, ◌-◌, ◌*◌, ◌/◌, ◌%◌, ◌<◌, ◌≤◌, ◌⊎◌, inl, inr, List, [], ◌∷◌, ◌++◌, length, map, reverse, take, drop, get_or, set, slice_get, Some, Result, Ok, Err, OnErr, sym, ap, refl, arith, length-append}
-use Rattle.std.proofs.lemmas.List.{append_assoc, append-nil, set-append_left, set-append_right, length-set, length-map, length-reverse, reverse-append, get_or-map, map-set, map_push, set-get_or, take-map, map-append, drop_more, length-drop}
+use Rattle.std.proofs.Common.{◌≡◌, ◌∙◌, ℕ, zero, suc, ◌+◌, ◌-◌, ◌*◌, ◌/◌, ◌%◌, ◌<◌, ◌≤◌, ◌⊎◌, inl, inr, List, [], ◌∷◌, ◌++◌, length, map, reverse, take, drop}
+use Rattle.std.proofs.Common.{get_or, set, slice_get, Some, Result, Ok, Err, OnErr, sym, ap, refl, arith, length-append}
+use Rattle.std.proofs.lemmas.List.{append_assoc, append-nil, set-append_left, set-append_right, length-set, length-map, length-reverse, reverse-append}
+use Rattle.std.proofs.lemmas.List.{get_or-map, map-set, map_push, set-get_or, take-map, map-append, drop_more, length-drop}
 use Rattle.std.proofs.lemmas.Option.{slice_get_within, get_or_from_slice_get}
 use Rattle.std.proofs.Math.Seq.{drop-append-add}
 use Rattle.hd_pages.specs.Parts.{joined, IsFilled}
@@ -28,14 +30,16 @@ slice_get-append_left (x ∷ xs) ys (suc i) lt = slice_get-append_left xs ys i (
 
 slice_get-append_right : {X : Type 0} (xs ys : List X) (i : ℕ) → slice_get (xs ++ ys) (length xs + i) ≡ slice_get ys i
 slice_get-append_right [] ys i = ap (slice_get ys) (let e : 0 + i ≡ i = omega arith in e)
-slice_get-append_right (x ∷ xs) ys i = let e : suc (length xs) + i ≡ suc (length xs + i) = omega arith in ap (slice_get (x ∷ (xs ++ ys))) e ∙ slice_get-append_right xs ys i
+slice_get-append_right (x ∷ xs) ys i = let e : suc (length xs) + i ≡ suc (length xs + i) = omega arith in ap (slice_get (x ∷ (xs ++ ys))) e
+    ∙ slice_get-append_right xs ys i
 
 -- a part is not longer than n, and none follows one that is shorter
 full : {X : Type 0} (n : ℕ) (p : List X) (ps : List (List X)) (k j : ℕ) → IsFilled n (p ∷ ps) → suc k * n + j < length (joined (p ∷ ps)) → j < n → length p ≡ n
 full n p [] k j is lt below = absurd (omega (arith, is.0, length-append p []))
 full n p (q ∷ ps) k j is lt below = is.1 (omega arith)
 
-later : {X : Type 0} (n : ℕ) (p : List X) (ps : List (List X)) (k j : ℕ) → length p ≡ n → suc k * n + j < length (joined (p ∷ ps)) → k * n + j < length (joined ps)
+later : {X : Type 0} (n : ℕ) (p : List X) (ps : List (List X)) (k j : ℕ) → length p ≡ n → suc k * n + j < length (joined (p ∷ ps))
+    → k * n + j < length (joined ps)
 later n p ps k j is lt = omega (arith, length-append p (joined ps))
 
 first : {X : Type 0} (n : ℕ) (p : List X) (ps : List (List X)) (j : ℕ) → IsFilled n (p ∷ ps) → 0 * n + j < length (joined (p ∷ ps)) → j < n → j < length p
@@ -51,13 +55,15 @@ part_within n (p ∷ ps) (suc k) j is lt below =
     omega arith
 
 -- the place in it is one of its places
-place_within : {X : Type 0} (n : ℕ) (ps : List (List X)) (k j : ℕ) (d : List X) → IsFilled n ps → k * n + j < length (joined ps) → j < n → j < length (get_or ps k d)
+place_within : {X : Type 0} (n : ℕ) (ps : List (List X)) (k j : ℕ) (d : List X) → IsFilled n ps → k * n + j < length (joined ps) → j < n
+    → j < length (get_or ps k d)
 place_within n [] k j d is lt below = absurd (omega arith)
 place_within n (p ∷ ps) zero j d is lt below = first n p ps j is lt below
 place_within n (p ∷ ps) (suc k) j d is lt below = place_within n ps k j d is.2 (later n p ps k j (full n p ps k j is lt below) lt) below
 
 -- what stands there
-slice_get-joined : {X : Type 0} (n : ℕ) (ps : List (List X)) (k j : ℕ) (d : List X) → IsFilled n ps → k * n + j < length (joined ps) → j < n → slice_get (joined ps) (k * n + j) ≡ slice_get (get_or ps k d) j
+slice_get-joined : {X : Type 0} (n : ℕ) (ps : List (List X)) (k j : ℕ) (d : List X) → IsFilled n ps → k * n + j < length (joined ps) → j < n
+    → slice_get (joined ps) (k * n + j) ≡ slice_get (get_or ps k d) j
 slice_get-joined n [] k j d is lt below = absurd (omega arith)
 slice_get-joined n (p ∷ ps) zero j d is lt below =
     let e : 0 * n + j ≡ j = omega arith in
@@ -68,7 +74,8 @@ slice_get-joined n (p ∷ ps) (suc k) j d is lt below =
     ap (slice_get (p ++ joined ps)) e ∙ slice_get-append_right p (joined ps) (k * n + j) ∙ slice_get-joined n ps k j d is.2 (later n p ps k j whole lt) below
 
 -- a write there
-joined-set : {X : Type 0} (n : ℕ) (ps : List (List X)) (k j : ℕ) (d : List X) (x : X) → IsFilled n ps → k * n + j < length (joined ps) → j < n → joined (set ps k (set (get_or ps k d) j x)) ≡ set (joined ps) (k * n + j) x
+joined-set : {X : Type 0} (n : ℕ) (ps : List (List X)) (k j : ℕ) (d : List X) (x : X) → IsFilled n ps → k * n + j < length (joined ps) → j < n
+    → joined (set ps k (set (get_or ps k d) j x)) ≡ set (joined ps) (k * n + j) x
 joined-set n [] k j d x is lt below = absurd (omega arith)
 joined-set n (p ∷ ps) zero j d x is lt below =
     let e : 0 * n + j ≡ j = omega arith in
@@ -138,7 +145,8 @@ module _ {A X : Type 0} (f : A → List X) (n : ℕ) (ks : List A) (i : ℕ) (so
 
   pub IsFilled-kept_put : (a b : A) (x : X) → f b ≡ set (f (get_or ks (i / n) a)) (i % n) x → IsFilled n (map f (set ks (i / n) b))
   IsFilled-kept_put a b x put =
-      let same : length (f b) ≡ length (get_or (map f ks) (i / n) (f a)) = ap length put ∙ length-set (f (get_or ks (i / n) a)) (i % n) x ∙ sym (ap length (kept_at a)) in
+      let same : length (f b) ≡ length (get_or (map f ks) (i / n) (f a)) = ap length put ∙ length-set (f (get_or ks (i / n) a)) (i % n) x
+      ∙ sym (ap length (kept_at a)) in
       rw map-set (IsFilled-set n (map f ks) (i / n) (f a) (f b) is same)
 
 -- one more part p, kept by k
@@ -172,7 +180,8 @@ module _ {A X : Type 0} (f : A → List X) (ks vs : List A) (k : A) (p : List X)
       ∙ ap (map f) (reverse-append ks (k ∷ []))
       ∙ ap (λ (q : List X). q ∷ map f (reverse ks)) keeps
 
-  pub held_front : (rest before items : List X) → rest ++ joined (map f (reverse ks)) ≡ items → before ++ p ≡ rest → before ++ joined (map f (reverse vs)) ≡ items
+  pub held_front : (rest before items : List X) → rest ++ joined (map f (reverse ks)) ≡ items → before ++ p ≡ rest → before
+      ++ joined (map f (reverse vs)) ≡ items
   held_front rest before items held more =
       ap (λ (ps : List (List X)). before ++ joined ps) kept_front
       ∙ sym (append_assoc before p (joined (map f (reverse ks))))
@@ -196,7 +205,8 @@ AreFull-take n (suc k) (p ∷ ps) is some le =
     (whole, AreFull-take n k ps is.2 some (omega (arith, whole, length-append p (joined ps))))
 
 -- and the items are theirs, and those behind
-joined-take : {X : Type 0} (n k : ℕ) (ps : List (List X)) → IsFilled n ps → 0 < n → k * n ≤ length (joined ps) → joined (take k ps) ++ drop (k * n) (joined ps) ≡ joined ps
+joined-take : {X : Type 0} (n k : ℕ) (ps : List (List X)) → IsFilled n ps → 0 < n → k * n ≤ length (joined ps) → joined (take k ps)
+    ++ drop (k * n) (joined ps) ≡ joined ps
 joined-take n zero ps is some le = let e : 0 * n ≡ 0 = omega arith in ap (λ (i : ℕ). drop i (joined ps)) e
 joined-take n (suc k) [] is some le = absurd (omega (arith, some))
 joined-take n (suc k) (p ∷ ps) is some le =
@@ -217,7 +227,8 @@ IsFilled-append n [] qs are is = is
 IsFilled-append n (p ∷ ps) qs are is = (omega (arith, are.0), λ more. are.0, IsFilled-append n ps qs are.1 is)
 
 -- the first k of parts, as they are kept, which are full, and others behind these
-module _ {A X : Type 0} (f : A → List X) (n k : ℕ) (ks more vs : List A) (some : 0 < n) (is : IsFilled n (map f ks)) (le : k * n ≤ length (joined (map f ks))) (next : vs ≡ take k ks ++ more) where
+module _ {A X : Type 0} (f : A → List X) (n k : ℕ) (ks more vs : List A) (some : 0 < n) (is : IsFilled n (map f ks)) (le : k * n ≤ length (joined (map f ks)))
+    (next : vs ≡ take k ks ++ more) where
   kept_behind : map f vs ≡ take k (map f ks) ++ map f more
   kept_behind = ap (map f) next ∙ map-append f (take k ks) more ∙ ap (λ (ps : List (List X)). ps ++ map f more) (sym (take-map f k ks))
 
@@ -234,14 +245,26 @@ module _ {A X : Type 0} (f : A → List X) (n k : ℕ) (ks more vs : List A) (so
       ∙ ap (λ (xs : List X). xs ++ items) (joined-take n k (map f ks) is some le)
 
   -- there are as many items as full parts and the others have
-  pub length_behind : (items : List X) → joined (map f more) ≡ drop (k * n) (joined (map f ks)) ++ items → k * n + length (joined (map f more)) ≡ length (joined (map f vs))
+  pub length_behind : (items : List X) → joined (map f more) ≡ drop (k * n) (joined (map f ks)) ++ items
+      → k * n + length (joined (map f more)) ≡ length (joined (map f vs))
   length_behind items held =
-      omega (arith, le, ap length held, length-append (drop (k * n) (joined (map f ks))) items, length-drop (k * n) (joined (map f ks)), ap length (held_behind items held), length-append (joined (map f ks)) items)
+      omega (
+        arith,
+        le,
+        ap length held,
+        length-append (drop (k * n) (joined (map f ks))) items,
+        length-drop (k * n) (joined (map f ks)),
+        ap length
+            (held_behind items held),
+        length-append (joined (map f ks)) items,
+      )
 
 -- one more item is copied, from the place i on
-pub one_copied : {X : Type 0} (xs all before after : List X) (i : ℕ) (x : X) → before ++ drop i xs ≡ all → slice_get xs i ≡ Some x → after ≡ before ++ x ∷ [] → after ++ drop (i + 1) xs ≡ all
+pub one_copied : {X : Type 0} (xs all before after : List X) (i : ℕ) (x : X) → before ++ drop i xs ≡ all → slice_get xs i ≡ Some x → after ≡ before ++ x ∷ []
+    → after ++ drop (i + 1) xs ≡ all
 one_copied xs all before after i x held at next =
     ap (λ (ys : List _). ys ++ drop (i + 1) xs) next
     ∙ append_assoc before (x ∷ []) (drop (i + 1) xs)
-    ∙ ap (λ (ys : List _). before ++ ys) (sym (drop_more xs i x (slice_get_within xs i x at) ∙ ap (λ (y : _). y ∷ drop (i + 1) xs) (get_or_from_slice_get xs i x x at)))
+    ∙ ap (λ (ys : List _). before ++ ys)
+    (sym (drop_more xs i x (slice_get_within xs i x at) ∙ ap (λ (y : _). y ∷ drop (i + 1) xs) (get_or_from_slice_get xs i x x at)))
     ∙ held

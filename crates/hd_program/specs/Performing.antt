@@ -81,7 +81,8 @@ pub record TellsVersion (version : List ℕ) (input rest before after : Option (
 
 -- what is asked for is done: a version is told, or a task over the bytes that are read from the file, or these can't be read
 abbrev pub Performs : Task → (input rest before after : Option (List ℕ)) → (exit : ℕ) → Type 0
-Performs (tasks.Run opening) input rest before after exit = RunsFile opening.mode opening.names input rest before after exit ⊎ FailsFirst input rest before after exit
+Performs (tasks.Run opening) input rest before after exit = RunsFile opening.mode opening.names input rest before after exit
+    ⊎ FailsFirst input rest before after exit
 Performs (tasks.Stat opening) input rest before after exit = StatsFile opening.mode input rest before after exit ⊎ FailsFirst input rest before after exit
 Performs (tasks.Serve serving) input rest before after exit = ServesFile serving.opening.mode input rest before after exit
 Performs (tasks.Web browsing) input rest before after exit = ServesFile browsing.serving.opening.mode input rest before after exit
@@ -90,7 +91,9 @@ Performs (tasks.Version version) input rest before after exit = TellsVersion ver
 -- one of the three tasks over a file is done over the bytes that are read from it, in some mode and with names or without, or nothing
 abbrev pub RunsOnFile : (input rest before after : Option (List ℕ)) → (exit : ℕ) → Type 0
 RunsOnFile input rest before after exit =
-    (mode : Mode) × (names : Bool) × (RunsFile mode names input rest before after exit ⊎ (StatsFile mode input rest before after exit ⊎ (ServesFile mode input rest before after exit ⊎ FailsFirst input rest before after exit)))
+    (mode : Mode) × (names : Bool)
+    × (RunsFile mode names input rest before after exit
+    ⊎ (StatsFile mode input rest before after exit ⊎ (ServesFile mode input rest before after exit ⊎ FailsFirst input rest before after exit)))
 
 -- a run with words: a version is told; or one of the three tasks over a file is done over the bytes that are read from it, in
 -- some mode and with names or without; or nothing

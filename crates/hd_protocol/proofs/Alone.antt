@@ -38,7 +38,8 @@ some_same x y h = cc
 module _ (a : Analyst) (t : Turn) where
   -- outside a private part what the board is left with begins with the log that was found
   left : (after : Memory) (log : List Event) → after ≡ at_log t.before log → t.before.home ≡ None → OnlyBy a.who (board_log after) → OnlyBy a.who log
-  left after log is none h = subst (λ (home : Option (List Event)). OnlyBy a.who (home_or home log)) none (subst (λ (m : Memory). OnlyBy a.who (board_log m)) is h)
+  left after log is none h = subst (λ (home : Option (List Event)). OnlyBy a.who (home_or home log)) none
+      (subst (λ (m : Memory). OnlyBy a.who (board_log m)) is h)
 
   same_found : t.found ≡ t.before.log → OnlyBy a.who t.before.log → OnlyBy a.who t.found
   same_found is h = subst (OnlyBy a.who) (sym is) h
@@ -47,19 +48,25 @@ module _ (a : Analyst) (t : Turn) where
   found_only (sessions.answered r f l) none h = left t.after t.found l none h
   found_only (sessions.declined c r is asks says f l) none h = left t.after t.found l none h
   found_only (sessions.rejected c what r is asks refuses says l) none h = left t.after t.found l none h
-  found_only (sessions.accepted c what is asks takes done l) none h = only_front a.who t.found (event_by a.who what ∷ []) (left t.after (t.found ++ event_by a.who what ∷ []) l none h)
-  found_only (sessions.unfinished c what is asks takes says l) none h = only_front a.who t.found (event_by a.who what ∷ []) (left t.after (t.found ++ event_by a.who what ∷ []) l none h)
+  found_only (sessions.accepted c what is asks takes done l) none h = only_front a.who t.found (event_by a.who what ∷ [])
+      (left t.after (t.found ++ event_by a.who what ∷ []) l none h)
+  found_only (sessions.unfinished c what is asks takes says l) none h = only_front a.who t.found (event_by a.who what ∷ [])
+      (left t.after (t.found ++ event_by a.who what ∷ []) l none h)
   found_only (sessions.marked is room says f l) none h =
-      same_found f (subst (λ (home : Option (List Event)). OnlyBy a.who (home_or home t.before.log)) none (subst (λ (m : Memory). OnlyBy a.who (board_log m)) l h))
+      same_found f (subst (λ (home : Option (List Event)). OnlyBy a.who (home_or home t.before.log)) none
+      (subst (λ (m : Memory). OnlyBy a.who (board_log m)) l h))
   found_only (sessions.renamed on is says f l) none h =
-      same_found f (subst (λ (home : Option (List Event)). OnlyBy a.who (home_or home t.before.log)) none (subst (λ (m : Memory). OnlyBy a.who (board_log m)) l h))
+      same_found f (subst (λ (home : Option (List Event)). OnlyBy a.who (home_or home t.before.log)) none
+      (subst (λ (m : Memory). OnlyBy a.who (board_log m)) l h))
   found_only (sessions.gone_private is none_open says f l) none h = same_found f (subst (λ (m : Memory). OnlyBy a.who (board_log m)) l h)
   found_only (sessions.gone_back home is was_open says f l) none h = absurd (some_none home (sym was_open ∙ none))
   found_only (sessions.unserved needs says f l) none h = left t.after t.found l none h
 
   -- in a private part the board is left with its home
-  stays : (after : Memory) (log home : List Event) → after ≡ at_log t.before log → t.before.home ≡ Some home → OnlyBy a.who (board_log after) → OnlyBy a.who home
-  stays after log home is some h = subst (λ (o : Option (List Event)). OnlyBy a.who (home_or o log)) some (subst (λ (m : Memory). OnlyBy a.who (board_log m)) is h)
+  stays : (after : Memory) (log home : List Event) → after ≡ at_log t.before log → t.before.home ≡ Some home → OnlyBy a.who (board_log after)
+      → OnlyBy a.who home
+  stays after log home is some h = subst (λ (o : Option (List Event)). OnlyBy a.who (home_or o log)) some
+      (subst (λ (m : Memory). OnlyBy a.who (board_log m)) is h)
 
   home_only : (home : List Event) → IsTurn a t → t.before.home ≡ Some home → OnlyBy a.who (board_log t.after) → OnlyBy a.who home
   home_only home (sessions.answered r f l) some h = stays t.after t.found home l some h
@@ -77,7 +84,8 @@ module _ (a : Analyst) (t : Turn) where
   home_only home (sessions.unserved needs says f l) some h = stays t.after t.found home l some h
 
   -- nothing came to a turn outside private parts that leaves the board with the analyst's events alone
-  module _ (first : Memory) (refreshed : IsRefreshed a.who first t.before) (later : IsLater a.who t.before.log t.found) (turn : IsTurn a t) (h : OnlyBy a.who (board_log t.after)) where
+  module _ (first : Memory) (refreshed : IsRefreshed a.who first t.before) (later : IsLater a.who t.before.log t.found) (turn : IsTurn a t)
+      (h : OnlyBy a.who (board_log t.after)) where
     same_home : t.before.home ≡ first.home
     same_home = ap (λ (m : Memory). m.home) refreshed.same
 
@@ -92,7 +100,8 @@ module _ (a : Analyst) (t : Turn) where
     step (Some home) some = (home_only home turn (same_home ∙ some) h, λ none. absurd (some_none home (sym some ∙ none)))
 
 -- nor to any
-alone_from : (a : Analyst) (first : Memory) (ts : List Turn) → IsSession a first ts → OnlyBy a.who (board_log (memory_after first ts)) → OnlyBy a.who (board_log first) × IsAlone first ts
+alone_from : (a : Analyst) (first : Memory) (ts : List Turn) → IsSession a first ts → OnlyBy a.who (board_log (memory_after first ts))
+    → OnlyBy a.who (board_log first) × IsAlone first ts
 alone_from a first [] h all = (all, tt)
 alone_from a first (t ∷ ts) h all =
     let rest = alone_from a t.after ts h.3 all in

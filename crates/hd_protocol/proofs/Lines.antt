@@ -1,11 +1,13 @@
 -- Lemmas on the lines of what was read, and on what is kept of one.
-use Rattle.std.proofs.Common.{◌≡◌, ◌∙◌, ℕ, ◌<◌, ◌≤◌, inl, inr, Bool, true, false, cond, List, [], ◌∷◌, ◌++◌, length, refl, sym, ap, arith, append_assoc, append-nil, take_all, take-take, length-take, length-take-le, length-append}
+use Rattle.std.proofs.Common.{◌≡◌, ◌∙◌, ℕ, ◌<◌, ◌≤◌, inl, inr, Bool, true, false, cond, List, [], ◌∷◌, ◌++◌, length, refl, sym, ap, arith, append_assoc}
+use Rattle.std.proofs.Common.{append-nil, take_all, take-take, length-take, length-take-le, length-append}
 use Rattle.std.specs.Prelude.{◌==◌, nat_lt, if◌then◌else◌, Err}
 use Rattle.std.specs.List.{onto_first}
 use Rattle.std.proofs.lemmas.Bool.{cases_lt, lt-ltb}
 use Rattle.std.proofs.lemmas.List.{take-append-le}
 use Rattle.hd_lines.specs.declared.commands.LineFault.TheVariants as line_faults
-use Rattle.hd_lines.specs.Lines.{pieces, all_but_last, without_empty_end, whole_lines, lines_of, run_lines, is_quit, command_of, command_of_words, last_of, last_word, words_of}
+use Rattle.hd_lines.specs.Lines.{pieces, all_but_last, without_empty_end, whole_lines, lines_of, run_lines, is_quit, command_of, command_of_words, last_of}
+use Rattle.hd_lines.specs.Lines.{last_word, words_of}
 use Rattle.hd_protocol.specs.Steps.{last_piece, open_line, kept_of, NoneQuits}
 
 -- a list with a first

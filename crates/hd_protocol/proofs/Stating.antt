@@ -32,13 +32,15 @@ six t t1 t2 t3 t4 t5 t6 a b c d e f h1 h2 h3 h4 h5 h6 =
     h6 ∙ ap (λ l. l ++ f) (h5 ∙ ap (λ l. l ++ e) (h4 ∙ ap (λ l. l ++ d) (h3 ∙ ap (λ l. l ++ c) (h2 ∙ ap (λ l. l ++ b) h1)))) ∙ grouped t a b c d e f
 
 -- one more line, of a total that is another's equal
-pub one_total : (old new : List ℕ) (s : Strength) (t t' : Total) → t ≡ t' → new ≡ old ++ with_newline (total_line s (shown_total t)) → new ≡ old ++ with_newline (total_line s (shown_total t'))
+pub one_total : (old new : List ℕ) (s : Strength) (t t' : Total) → t ≡ t' → new ≡ old ++ with_newline (total_line s (shown_total t)) → new ≡ old
+    ++ with_newline (total_line s (shown_total t'))
 one_total old new s t t' same h = h ∙ ap (λ (x : Total). old ++ with_newline (total_line s (shown_total x))) same
 
 -- counts and then totals
 pub is_stat : (dump : Dump) (log : List Event) (counts : Counts) (totals : StrengthTotals) (t t1 t2 : List ℕ) → log ≡ [] → t ≡ [] → counts ≡ counts_of dump
     → ((s : Strength) → IsTotal dump log s (total_for totals s).count (total_for totals s).bytes)
-    → t1 ≡ t ++ flat_map with_newline (count_lines counts) → t2 ≡ t1 ++ flat_map with_newline (total_lines (λ (s : Strength). shown_total (total_for totals s))) → IsStat dump t2
+    → t1 ≡ t ++ flat_map with_newline (count_lines counts) → t2 ≡ t1 ++ flat_map with_newline (total_lines (λ (s : Strength). shown_total (total_for totals s)))
+    → IsStat dump t2
 is_stat dump log counts totals t t1 t2 none empty same are first second = record {
   totals = λ (s : Strength). shown_total (total_for totals s);
   are = λ s. subst (λ (l : List Event). IsTotal dump l s (total_for totals s).count (total_for totals s).bytes) none (are s);
@@ -49,8 +51,10 @@ is_stat dump log counts totals t t1 t2 none empty same are first second = record
 }
 
 -- the whole text was written, but can't be handed on
-pub not_handed_on : (mode : Mode) (bytes text : List ℕ) (before mid after : Option (List ℕ)) (result : Result (Unit {0}) RunFault) → IsStatOf mode bytes text → Appends before mid text → Keeps mid after
+pub not_handed_on : (mode : Mode) (bytes text : List ℕ) (before mid after : Option (List ℕ)) (result : Result (Unit {0}) RunFault) → IsStatOf mode bytes text
+    → Appends before mid text → Keeps mid after
     → result ≡ Err (faults.Serve serve_faults.Write) → StatsDump mode bytes before after result
 not_handed_on mode bytes text before mid after result stat wrote same is =
     let whole : take (length text) text ≡ text = take_all (length text) text (omega arith) in
-    subst (StatsDump mode bytes before after) (sym is) (text, stat, length text, subst (Appends before after) (sym whole) (appends_kept before mid after text wrote same))
+    subst (StatsDump mode bytes before after) (sym is)
+    (text, stat, length text, subst (Appends before after) (sym whole) (appends_kept before mid after text wrote same))

@@ -11,7 +11,8 @@ use Rattle.hd_protocol.specs.Steps.{IsAnsweredSoFar}
 use Rattle.hd_analyst.specs.Work.{Work}
 
 -- one more turn
-session_push : (a : Analyst) (first : Memory) (ts : List Turn) (t : Turn) → IsSession a first ts → IsRefreshed a.who (memory_after first ts) t.before → IsLater a.who t.before.log t.found → IsTurn a t
+session_push : (a : Analyst) (first : Memory) (ts : List Turn) (t : Turn) → IsSession a first ts → IsRefreshed a.who (memory_after first ts) t.before
+    → IsLater a.who t.before.log t.found → IsTurn a t
     → IsSession a first (ts ++ t ∷ [])
 session_push a first [] t h refreshed later turn = (refreshed, later, turn, tt)
 session_push a first (u ∷ ts) t h refreshed later turn = (h.0, h.1, h.2, session_push a u.after ts t h.3 refreshed later turn)
@@ -29,7 +30,8 @@ all_push P [] x h p = (p, tt)
 all_push P (y ∷ ys) x h p = (h.0, all_push P ys x h.1 p)
 
 -- the turn of one more line
-module _ (a : Analyst) (first : Memory) (lines : List (List ℕ)) (written : List ℕ) (old new : Work) (line reply : List ℕ) (is : old.analyst ≡ a) (so_far : IsAnsweredSoFar a first lines written old.memory) (h : IsAnswered old new (last_word line) (command_of line) reply) where
+module _ (a : Analyst) (first : Memory) (lines : List (List ℕ)) (written : List ℕ) (old new : Work) (line reply : List ℕ) (is : old.analyst ≡ a)
+    (so_far : IsAnsweredSoFar a first lines written old.memory) (h : IsAnswered old new (last_word line) (command_of line) reply) where
   abbrev pub last_turn : Turn
   last_turn = turn_of line h.between.memory h.run.found new.memory reply
 
@@ -45,7 +47,8 @@ module _ (a : Analyst) (first : Memory) (lines : List (List ℕ)) (written : Lis
   -- the turns so far with that turn
   pub session_with : IsSessionOver a first (lines ++ line ∷ []) (so_far.turns ++ last_turn ∷ [])
   session_with = record {
-    session = session_push a first so_far.turns last_turn so_far.session.session (subst (λ (m : Memory). IsRefreshed a.who m h.between.memory) so_far.memory_is refreshed) later
+    session = session_push a first so_far.turns last_turn so_far.session.session
+        (subst (λ (m : Memory). IsRefreshed a.who m h.between.memory) so_far.memory_is refreshed) later
         (subst (λ (x : Analyst). IsTurn x last_turn) same (h.run.is_turn line refl refl));
     over = map-append (λ (u : Turn). u.line) so_far.turns (last_turn ∷ []) ∙ ap (λ l. l ++ line ∷ []) so_far.session.over;
   }

@@ -51,6 +51,8 @@ consumes_kept (Some xs) (Some ys) None bs p q = absurd q
 consumes_kept (Some xs) (Some ys) (Some zs) bs p q = p ∙ ap (λ l. bs ++ l) (sym q)
 
 -- n more bytes of a text
-pub appends_more : (a b c : Option (List ℕ)) (text : List ℕ) (i n : ℕ) → Appends a b (take i text) → Appends b c (take n (take (length text - i) (drop i text))) → Appends a c (take (i + n) text)
+pub appends_more : (a b c : Option (List ℕ)) (text : List ℕ) (i n : ℕ) → Appends a b (take i text) → Appends b c (take n (take (length text - i) (drop i text)))
+    → Appends a c (take (i + n) text)
 appends_more a b c text i n p q =
-    subst (Appends a c) (ap (λ l. take i text ++ take n l) (take_rest text i) ∙ sym (take-add i n text)) (appends_both a b c (take i text) (take n (take (length text - i) (drop i text))) p q)
+    subst (Appends a c) (ap (λ l. take i text ++ take n l) (take_rest text i) ∙ sym (take-add i n text))
+    (appends_both a b c (take i text) (take n (take (length text - i) (drop i text))) p q)

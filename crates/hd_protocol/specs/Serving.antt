@@ -48,7 +48,8 @@ IsLeft input rest left = IfSome input (λ all. rest ≡ Some left)
 -- a beginning of the input was read and its whole lines served, and the replies were written
 abbrev pub ServesUntilRead : Analyst → (first last : Memory) → (input rest before after : Option (List ℕ)) → Type 0
 ServesUntilRead a first last input rest before after =
-    OfBytes input (λ bytes. (left : List ℕ) × IsLeft input rest left × ((written : List ℕ) × Appends before after written × ServedUntilReadFrom a first last bytes left written))
+    OfBytes input (λ bytes. (left : List ℕ) × IsLeft input rest left
+    × ((written : List ℕ) × Appends before after written × ServedUntilReadFrom a first last bytes left written))
 
 -- lines of a beginning of the input were served, and a beginning of the replies was written
 abbrev pub ServesUntilWrite : Analyst → (first last : Memory) → (input before after : Option (List ℕ)) → Type 0
@@ -64,7 +65,8 @@ ServesFrom a first last input rest before after (Err serve_faults.OutOfMemory) =
 
 -- a session of a desk at a board was served, which began with names or without. The desk has then seen what the session had seen at
 -- last of the board's log: that of its last turn, or where it ended in a private part, of the part's home
-pub record Serves (board : Board) (names : Bool) (old new : Replica) (input rest before after : Option (List ℕ)) (result : Result Unit ServeFault) : Type 0 where
+pub record Serves (board : Board) (names : Bool) (old new : Replica) (input rest before after : Option (List ℕ))
+    (result : Result Unit ServeFault) : Type 0 where
   pub last : Memory
   pub served : ServesFrom (analyst_at board old) (beginning names old.seen old.front) last input rest before after result
   pub same_who : new.who ≡ old.who
@@ -77,7 +79,8 @@ ServesAlone dump names input before after = OfBytes input (λ bytes. (written : 
 
 -- the only analyst of a board over a dump was served from the empty log. That nothing came between the turns isn't said
 abbrev pub ServesLone : Dump → (names : Bool) → (input rest before after : Option (List ℕ)) → Result (Unit {0}) ServeFault → Type 0
-ServesLone dump names input rest before after ended = (last : Memory) × ServesFrom (lone_analyst dump) (beginning names [] []) last input rest before after ended
+ServesLone dump names input rest before after ended = (last : Memory)
+    × ServesFrom (lone_analyst dump) (beginning names [] []) last input rest before after ended
 
 -- how a run over an open dump ends: an analyst was served alone; or memory ran out before anything was read or written; or
 -- serving ended early; or it ended well, and the board could not be closed then
@@ -103,7 +106,8 @@ RunsOverDump mode names bytes input rest before after ended = (dump : Dump) × I
 -- written
 abbrev pub RunsDump : Mode → (names : Bool) → (bytes : List ℕ) → (input rest before after : Option (List ℕ)) → Result (Unit {0}) RunFault → Type 0
 RunsDump mode names bytes input rest before after (Ok done) = RunsOverDump mode names bytes input rest before after (Ok done)
-RunsDump mode names bytes input rest before after (Err (faults.Dump f)) = ((f ≡ fault OutOfMemory 0) ⊎ IsReadFault bytes f) × Keeps input rest × Keeps before after
+RunsDump mode names bytes input rest before after (Err (faults.Dump f)) = ((f ≡ fault OutOfMemory 0) ⊎ IsReadFault bytes f) × Keeps input rest
+    × Keeps before after
 RunsDump mode names bytes input rest before after (Err faults.Memory) = Keeps input rest × Keeps before after
 RunsDump mode names bytes input rest before after (Err (faults.Serve f)) = RunsOverDump mode names bytes input rest before after (Err (faults.Serve f))
 RunsDump mode names bytes input rest before after (Err faults.Close) = RunsOverDump mode names bytes input rest before after (Err faults.Close)

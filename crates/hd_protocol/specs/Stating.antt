@@ -30,6 +30,7 @@ StatsDump mode bytes before after (Ok done) = (text : List ℕ) × IsStatOf mode
 StatsDump mode bytes before after (Err (faults.Dump f)) = ((f ≡ fault OutOfMemory 0) ⊎ IsReadFault bytes f) × Keeps before after
 StatsDump mode bytes before after (Err faults.Memory) = Keeps before after
 StatsDump mode bytes before after (Err (faults.Serve serve_faults.Read)) = ⊥
-StatsDump mode bytes before after (Err (faults.Serve serve_faults.Write)) = (text : List ℕ) × IsStatOf mode bytes text × (k : ℕ) × Appends before after (take k text)
+StatsDump mode bytes before after (Err (faults.Serve serve_faults.Write)) = (text : List ℕ) × IsStatOf mode bytes text × (k : ℕ)
+    × Appends before after (take k text)
 StatsDump mode bytes before after (Err (faults.Serve serve_faults.OutOfMemory)) = ⊥
 StatsDump mode bytes before after (Err faults.Close) = ⊥

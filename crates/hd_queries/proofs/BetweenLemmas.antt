@@ -24,7 +24,8 @@ module _ (dump : Dump) (test : ℕ → Bool) where
   size-more k = let next : k + 1 ≡ suc k = omega arith in ap (λ (n : ℕ). sum_by (bytes_if dump test) (range_with_len 0 n)) next ∙ sum_suc (bytes_if dump test) k
 
   -- one more object
-  pub one-more : (start k : ℕ) (old new : Total) → IsCountedIf dump test k old new → IsTotalBetween dump test start k old → IsTotalBetween dump test start (k + 1) new
+  pub one-more : (start k : ℕ) (old new : Total) → IsCountedIf dump test k old new → IsTotalBetween dump test start k old
+      → IsTotalBetween dump test start (k + 1) new
   one-more start k old new one h = record {
     counts = omega (arith, one.counts, h.counts, count-more k);
     sizes = omega (arith, one.sizes, h.sizes, size-more k);
@@ -38,16 +39,32 @@ module _ (dump : Dump) (test : ℕ → Bool) where
   count-quiet k (suc n) quiet =
       let next : k + suc n ≡ suc (k + n) = omega arith in
       let none : cond (test (k + n)) 1 0 ≡ 0 = ap (λ (b : Bool). cond {A = ℕ} b 1 0) (quiet (k + n) (omega arith) (omega arith)) in
-      omega (arith, ap (λ (m : ℕ). count_by test (range_with_len 0 m)) next, count_suc test (k + n), none, count-quiet k n (λ o le lt. quiet o le (omega arith)))
+      omega (
+        arith,
+        ap (λ (m : ℕ). count_by test (range_with_len 0 m)) next,
+        count_suc test (k + n),
+        none,
+        count-quiet k n
+            (λ o le lt. quiet o le (omega arith)),
+      )
 
-  size-quiet : (k n : ℕ) → ((o : ℕ) → k ≤ o → o < k + n → test o ≡ false) → sum_by (bytes_if dump test) (range_with_len 0 (k + n)) ≡ sum_by (bytes_if dump test) (range_with_len 0 k)
+  size-quiet : (k n : ℕ) → ((o : ℕ) → k ≤ o → o < k + n → test o ≡ false) → sum_by (bytes_if dump test) (range_with_len 0 (k + n)) ≡ sum_by (bytes_if dump test)
+      (range_with_len 0 k)
   size-quiet k zero quiet = let same : k + 0 ≡ k = omega arith in ap (λ (m : ℕ). sum_by (bytes_if dump test) (range_with_len 0 m)) same
   size-quiet k (suc n) quiet =
       let next : k + suc n ≡ suc (k + n) = omega arith in
       let none : bytes_if dump test (k + n) ≡ 0 = ap (λ (b : Bool). cond b (object_at dump (k + n)).bytes 0) (quiet (k + n) (omega arith) (omega arith)) in
-      omega (arith, ap (λ (m : ℕ). sum_by (bytes_if dump test) (range_with_len 0 m)) next, sum_suc (bytes_if dump test) (k + n), none, size-quiet k n (λ o le lt. quiet o le (omega arith)))
+      omega (
+        arith,
+        ap (λ (m : ℕ). sum_by (bytes_if dump test) (range_with_len 0 m)) next,
+        sum_suc (bytes_if dump test) (k + n),
+        none,
+        size-quiet k n
+            (λ o le lt. quiet o le (omega arith)),
+      )
 
-  pub quiet-between : (start k m : ℕ) (total : Total) → k ≤ m → ((o : ℕ) → k ≤ o → o < m → test o ≡ false) → IsTotalBetween dump test start k total → IsTotalBetween dump test start m total
+  pub quiet-between : (start k m : ℕ) (total : Total) → k ≤ m → ((o : ℕ) → k ≤ o → o < m → test o ≡ false) → IsTotalBetween dump test start k total
+      → IsTotalBetween dump test start m total
   quiet-between start k m total le quiet h =
       let end : k + (m - k) ≡ m = omega arith in
       let none : (o : ℕ) → k ≤ o → o < k + (m - k) → test o ≡ false = λ o after before. quiet o after (omega arith) in
@@ -61,7 +78,8 @@ module _ (dump : Dump) (test : ℕ → Bool) where
       }
 
   -- all objects
-  pub total-of : (IsMeant : ℕ → Type 0) (total : Total) → Decides dump IsMeant test → IsTotalBetween dump test 0 (length dump.objects) total → IsTotalOf dump IsMeant total.count total.bytes
+  pub total-of : (IsMeant : ℕ → Type 0) (total : Total) → Decides dump IsMeant test → IsTotalBetween dump test 0 (length dump.objects) total
+      → IsTotalOf dump IsMeant total.count total.bytes
   total-of IsMeant total decides h = record {
     has = test;
     decides = decides;
@@ -70,7 +88,8 @@ module _ (dump : Dump) (test : ℕ → Bool) where
   }
 
   -- an object that passes, where there is one
-  pub some-of : (total : Total) → IsTotalBetween dump test 0 (length dump.objects) total → 1 ≤ total.count → (o : ℕ) × (o < length dump.objects) × (test o ≡ true)
+  pub some-of : (total : Total) → IsTotalBetween dump test 0 (length dump.objects) total → 1 ≤ total.count → (o : ℕ) × (o < length dump.objects)
+      × (test o ≡ true)
   some-of total h some = some-passes test (length dump.objects) (omega (arith, h.counts))
 
   pub count-of : (total : Total) → IsTotalBetween dump test 0 (length dump.objects) total → (o : ℕ) → o < length dump.objects → test o ≡ true → 1 ≤ total.count

@@ -1,5 +1,6 @@
 -- The stored chain of an object, followed back from the object to the root.
-use Rattle.std.proofs.Common.{◌≡◌, ◌∙◌, ℕ, zero, suc, ◌+◌, ◌-◌, ◌*◌, ◌<◌, ◌≤◌, Bool, true, false, ◌&&◌, ◌⊎◌, inl, inr, List, [], ◌∷◌, ◌++◌, length, map, get_or, Contains, Option, Some, slice_get, reverse, refl, sym, ap, subst, arith, eq-eqb, append_assoc}
+use Rattle.std.proofs.Common.{◌≡◌, ◌∙◌, ℕ, zero, suc, ◌+◌, ◌-◌, ◌*◌, ◌<◌, ◌≤◌, Bool, true, false, ◌&&◌, ◌⊎◌, inl, inr, List, [], ◌∷◌, ◌++◌, length, map, get_or}
+use Rattle.std.proofs.Common.{Contains, Option, Some, slice_get, reverse, refl, sym, ap, subst, arith, eq-eqb, append_assoc}
 use Rattle.std.specs.Prelude.{All}
 use Rattle.std.specs.List.{AllByRecursion}
 use Rattle.std.proofs.Math.Nat.{mul-le-mul_right}
@@ -63,7 +64,8 @@ module _ (dump : Dump) (log : List Event) (e : Edge) (stands : Contains (standin
     pub found-there : found ≡ Some place
     found-there = only place at.entry there named
 
-    pub is-link : (i : ℕ) (s : SlotEntry) → found ≡ Some i → slice_get (object_at dump source).slots i ≡ Some s → record { source = source; slot = slot; kind = s.kind; target = target } ≡ link_of e
+    pub is-link : (i : ℕ) (s : SlotEntry) → found ≡ Some i → slice_get (object_at dump source).slots i ≡ Some s
+        → record { source = source; slot = slot; kind = s.kind; target = target } ≡ link_of e
     is-link i s here read =
         let both : Some i ≡ Some place = sym here ∙ found-there in
         let same : i ≡ place = cc in
@@ -132,7 +134,14 @@ last-of : (g : Standing) (a b : ℕ) (e : Edge) (es : List Edge) → Lead g a (e
 last-of g a b e [] lead = record { init = []; last = e; is = refl; lead = sym lead.1; stands = lead.0; ends = lead.2 }
 last-of g a b e (f ∷ fs) lead =
     let rest = last-of g e.target b f fs lead.2 in
-    record { init = e ∷ rest.init; last = rest.last; is = ap (λ (xs : List Edge). e ∷ xs) rest.is; lead = (lead.0, lead.1, rest.lead); stands = rest.stands; ends = rest.ends }
+    record {
+      init = e ∷ rest.init;
+      last = rest.last;
+      is = ap (λ (xs : List Edge). e ∷ xs) rest.is;
+      lead = (lead.0, lead.1, rest.lead);
+      stands = rest.stands;
+      ends = rest.ends;
+    }
 
 all-init : (P : Edge → Type 0) (xs ys : List Edge) → AllByRecursion P (xs ++ ys) → AllByRecursion P xs
 all-init P [] ys h = tt
@@ -155,20 +164,25 @@ pub record IsFollowed (dump : Dump) (log : List Event) (ks : List Reached) (o at
   pub within : at < length dump.objects
 
 -- the objects of links along standing edges are the dump's
-links-within : (dump : Dump) (log : List Event) (a b : ℕ) (es : List Edge) → Lead (standing dump log) a es b → AllByRecursion (IsWithin (length dump.objects)) (map link_of es)
+links-within : (dump : Dump) (log : List Event) (a b : ℕ) (es : List Edge) → Lead (standing dump log) a es b → AllByRecursion (IsWithin (length dump.objects))
+    (map link_of es)
 links-within dump log a b [] lead = tt
-links-within dump log a b (e ∷ es) lead = (record { from = source-within dump log e lead.0; to = target-within dump log e lead.0 }, links-within dump log e.target b es lead.2)
+links-within dump log a b (e ∷ es) lead =
+    (record { from = source-within dump log e lead.0; to = target-within dump log e lead.0 }, links-within dump log e.target b es lead.2)
 
 -- and so are those objects
-objects-within : (dump : Dump) (log : List Event) (a b : ℕ) (es : List Edge) → Lead (standing dump log) a es b → AllByRecursion (λ (x : ℕ). x < length dump.objects) (map (λ (e : Edge). e.target) es)
+objects-within : (dump : Dump) (log : List Event) (a b : ℕ) (es : List Edge) → Lead (standing dump log) a es b
+    → AllByRecursion (λ (x : ℕ). x < length dump.objects) (map (λ (e : Edge). e.target) es)
 objects-within dump log a b [] lead = tt
 objects-within dump log a b (e ∷ es) lead = (target-within dump log e lead.0, objects-within dump log e.target b es lead.2)
 
 -- a chain has fewer links than there are objects, for its objects differ
-few-links : (dump : Dump) (log : List Event) (r : RootEntry) (es : List Edge) (o : ℕ) (s : Strength) → IsChain (standing dump log) r es o s → r.target < length dump.objects → length es < length dump.objects
+few-links : (dump : Dump) (log : List Event) (r : RootEntry) (es : List Edge) (o : ℕ) (s : Strength) → IsChain (standing dump log) r es o s
+    → r.target < length dump.objects → length es < length dump.objects
 few-links dump log r es o s chain within =
     let objects = objects_on r es in
-    let small : (x : ℕ) → Contains objects x → x < length dump.objects = λ x c. All-contains (λ (x : ℕ). x < length dump.objects) objects x (All-from_recursion (λ (x : ℕ). x < length dump.objects) objects (within, objects-within dump log r.target o es chain.path.edges)) c in
+    let small : (x : ℕ) → Contains objects x → x < length dump.objects = λ x c. All-contains (λ (x : ℕ). x < length dump.objects) objects x
+    (All-from_recursion (λ (x : ℕ). x < length dump.objects) objects (within, objects-within dump log r.target o es chain.path.edges)) c in
     let most : length objects ≤ length dump.objects = length-different (length dump.objects) objects chain.simple small in
     omega (arith, most, length-map es (λ (e : Edge). e.target))
 
@@ -208,7 +222,8 @@ module _ (dump : Dump) (log : List Event) (ks : List Reached) (o at : ℕ) (link
   next-of : (e : Edge) (es : List Edge) → h.ahead ≡ e ∷ es → Next
   next-of e es is =
       let l = last-of (standing dump log) h.root.target at e es (subst (λ (xs : List Edge). Lead (standing dump log) h.root.target xs at) is h.leads) in
-      let stored = all-rest (IsStored ks) l.init (l.last ∷ []) (subst (λ (xs : List Edge). AllByRecursion (IsStored ks) xs) (is ∙ l.is) (all-init (IsStored ks) h.ahead h.behind h.stored)) in
+      let stored = all-rest (IsStored ks) l.init (l.last ∷ [])
+      (subst (λ (xs : List Edge). AllByRecursion (IsStored ks) xs) (is ∙ l.is) (all-init (IsStored ks) h.ahead h.behind h.stored)) in
       record {
         edge = l.last;
         before = l.init;
@@ -284,7 +299,8 @@ module _ (dump : Dump) (log : List Event) (ks : List Reached) (o at : ℕ) (link
     number : h.root.number ≡ r
     number = let both : supports.Root h.root.number ≡ supports.Root r = sym (at-root none-ahead) ∙ is in cc
 
-    pub whole-chain : ((g : Standing) (ks : List Reached) → Settled g ks → (o : ℕ) → HasStrength g o (reached_at ks o).strength) → Settled (standing dump log) ks
+    pub whole-chain : ((g : Standing) (ks : List Reached) → Settled g ks → (o : ℕ) → HasStrength g o (reached_at ks o).strength)
+        → Settled (standing dump log) ks
         → (c : Chain) → c.root ≡ r → c.start ≡ at → c.links.items ≡ reverse links → IsFoundChain dump log ks o c
     whole-chain gives settled c root_is start_is links_are =
         let chain : IsChain (standing dump log) h.root h.behind o (reached_at ks o).strength =
@@ -303,13 +319,21 @@ module _ (dump : Dump) (log : List Event) (ks : List Reached) (o at : ℕ) (link
             edges = subst (λ (es : List Edge). AllByRecursion (IsStored ks) (es ++ h.behind)) none-ahead h.stored;
             leads = chain.path.edges;
           });
-          few = omega (arith, few-links dump log h.root h.behind o (reached_at ks o).strength chain (subst (λ (n : ℕ). n < length dump.objects) (sym start) h.within), ap length links_is, length-map h.behind link_of);
+          few = omega (
+            arith,
+            few-links dump log h.root h.behind o (reached_at ks o).strength chain
+                (subst (λ (n : ℕ). n < length dump.objects) (sym start) h.within),
+            ap length links_is,
+            length-map h.behind link_of,
+          );
           links = links_is;
           start = subst (λ (n : ℕ). n < length dump.objects) (sym start_is) h.within;
-          within = subst (λ (ls : List Link). All (IsWithin (length dump.objects)) ls) (sym links_is) (All-from_recursion (IsWithin (length dump.objects)) (map link_of h.behind) (links-within dump log h.root.target o h.behind chain.path.edges));
+          within = subst (λ (ls : List Link). All (IsWithin (length dump.objects)) ls) (sym links_is)
+              (All-from_recursion (IsWithin (length dump.objects)) (map link_of h.behind) (links-within dump log h.root.target o h.behind chain.path.edges));
         }
 
 -- past the last object nothing is reachable
-pub past-unreachable : ((g : Standing) (ks : List Reached) → Settled g ks → (o : ℕ) → HasStrength g o (reached_at ks o).strength) → (g : Standing) (ks : List Reached) → Settled g ks
+pub past-unreachable : ((g : Standing) (ks : List Reached) → Settled g ks → (o : ℕ) → HasStrength g o (reached_at ks o).strength)
+    → (g : Standing) (ks : List Reached) → Settled g ks
     → (o : ℕ) → length ks ≤ o → HasStrength g o strengths.Unreachable
 past-unreachable gives g ks settled o past = subst (λ (k : Reached). HasStrength g o k.strength) (get_or_past ks o unreached past) (gives g ks settled o)

@@ -28,7 +28,8 @@ module _ (gives : (g : Standing) (ks : List Reached) → Settled g ks → (o : �
   decides s g = decides-member gives one dump log ks settled g s
 
   -- the total of a group and a strength
-  pub group-total : (t : Totals) → AreTotals dump ks t → (group : Group) (s : Strength) → InRange group → IsGroupTotal dump log group s (total_in t group s).count (total_in t group s).bytes
+  pub group-total : (t : Totals) → AreTotals dump ks t → (group : Group) (s : Strength) → InRange group
+      → IsGroupTotal dump log group s (total_in t group s).count (total_in t group s).bytes
   group-total t h group s range = record {
     has = is_member dump ks group s;
     decides = decides s group;
@@ -57,11 +58,13 @@ module _ (gives : (g : Standing) (ks : List Reached) → Settled g ks → (o : �
         (at.0, at.1, subst (λ (a : Group). IsMember dump log a s at.0) same ((decides s (get_or rows k d).group at.0 at.1).0 at.2))
 
     is-listed : (g : Group) → HasMember dump log s g → Contains (map row_group rows) g
-    is-listed g (o, lt, member) = subst (λ (a : Group). Contains (map row_group rows) a) member.0 (h.all o lt (is-kept one dump log ks (gives (standing dump log) ks settled) s o member.1))
+    is-listed g (o, lt, member) = subst (λ (a : Group). Contains (map row_group rows) a) member.0
+        (h.all o lt (is-kept one dump log ks (gives (standing dump log) ks settled) s o member.1))
 
     pub class-rows : AreClassRows dump log s rows
     class-rows = record {
       in_order = h.in_order;
-      totals = recursion_from_All (λ (row : ClassRow). IsGroupTotal dump log row.group s row.count row.bytes) rows (λ j d lt. row-total (get_or rows j d) (h.each j d lt));
+      totals = recursion_from_All (λ (row : ClassRow). IsGroupTotal dump log row.group s row.count row.bytes) rows
+          (λ j d lt. row-total (get_or rows j d) (h.each j d lt));
       groups = λ g. (has-member g, is-listed g);
     }

@@ -1,5 +1,6 @@
 -- IDs in order, and the first of them, as one more is put in or left out.
-use Rattle.std.proofs.Common.{◌≡◌, ◌∙◌, ℕ, zero, suc, ◌+◌, ◌-◌, ◌<◌, ◌≤◌, ◌⊎◌, inl, inr, Bool, true, false, List, [], ◌∷◌, ◌++◌, take, Contains, Option, Some, None, refl, sym, ap, subst, arith}
+use Rattle.std.proofs.Common.{◌≡◌, ◌∙◌, ℕ, zero, suc, ◌+◌, ◌-◌, ◌<◌, ◌≤◌, ◌⊎◌, inl, inr, Bool, true, false, List, [], ◌∷◌, ◌++◌, take, Contains, Option, Some}
+use Rattle.std.proofs.Common.{None, refl, sym, ap, subst, arith}
 use Rattle.std.specs.List.{fold, AllByRecursion}
 use Rattle.std.specs.List.Sorted.{IsStrictlySortedBy}
 use Rattle.std.specs.Cmp.{nat_cmp_total, ranks}
@@ -32,7 +33,8 @@ take-behind (suc n) x xs = ap (λ (ys : List ℕ). x ∷ ys) (take-fewer n xs)
 
 -- one more among the first goes where it goes among all
 among-first : (n id x : ℕ) (xs : List ℕ) → take n (with_id (take n xs) id) ≡ take n (with_id xs id)
-    → (r : Ordering) → take (suc n) (match_ordering r (id ∷ x ∷ take n xs) (x ∷ take n xs) (x ∷ with_id (take n xs) id)) ≡ take (suc n) (match_ordering r (id ∷ x ∷ xs) (x ∷ xs) (x ∷ with_id xs id))
+    → (r : Ordering) → take (suc n) (match_ordering r (id ∷ x ∷ take n xs) (x ∷ take n xs) (x ∷ with_id (take n xs) id)) ≡ take (suc n)
+    (match_ordering r (id ∷ x ∷ xs) (x ∷ xs) (x ∷ with_id xs id))
 among-first n id x xs rest Less = ap (λ (ys : List ℕ). id ∷ ys) (take-behind n x xs)
 among-first n id x xs rest Equal = ap (λ (ys : List ℕ). x ∷ ys) (take-twice n xs)
 among-first n id x xs rest Greater = ap (λ (ys : List ℕ). x ∷ ys) rest
@@ -43,7 +45,8 @@ put-among-first (suc n) id [] = refl
 put-among-first (suc n) id (x ∷ xs) = among-first n id x xs (put-among-first n id xs) (nat_cmp id x)
 
 -- IDs in order stay so
-all-first : (P : ℕ → Type 0) (id x : ℕ) (xs : List ℕ) → P id → AllByRecursion P (x ∷ xs) → AllByRecursion P (with_id xs id) → (r : Ordering) → AllByRecursion P (match_ordering r (id ∷ x ∷ xs) (x ∷ xs) (x ∷ with_id xs id))
+all-first : (P : ℕ → Type 0) (id x : ℕ) (xs : List ℕ) → P id → AllByRecursion P (x ∷ xs) → AllByRecursion P (with_id xs id) → (r : Ordering)
+    → AllByRecursion P (match_ordering r (id ∷ x ∷ xs) (x ∷ xs) (x ∷ with_id xs id))
 all-first P id x xs p h rest Less = (p, h)
 all-first P id x xs p h rest Equal = h
 all-first P id x xs p h rest Greater = (h.0, rest)
@@ -52,7 +55,8 @@ all-with : (P : ℕ → Type 0) (id : ℕ) (ids : List ℕ) → P id → AllByRe
 all-with P id [] p h = (p, tt)
 all-with P id (x ∷ xs) p h = all-first P id x xs p h (all-with P id xs p h.1) (nat_cmp id x)
 
-all-below : (id x : ℕ) (xs : List ℕ) → nat_cmp id x ≡ Less → AllByRecursion (λ (y : ℕ). nat_cmp x y ≡ Less) xs → AllByRecursion (λ (y : ℕ). nat_cmp id y ≡ Less) xs
+all-below : (id x : ℕ) (xs : List ℕ) → nat_cmp id x ≡ Less → AllByRecursion (λ (y : ℕ). nat_cmp x y ≡ Less) xs
+    → AllByRecursion (λ (y : ℕ). nat_cmp id y ≡ Less) xs
 all-below id x [] lt h = tt
 all-below id x (y ∷ ys) lt h = (nat_cmp_total.trans id x y lt h.0, all-below id x ys lt h.1)
 
@@ -73,7 +77,8 @@ sorted-all before [] h = h
 sorted-all before (x ∷ xs) h = sorted-all (with_id before x) xs (sorted-with x before h)
 
 -- they are those that were put in
-has-first : (id x : ℕ) (xs : List ℕ) → Contains (with_id xs id) id → (r : Ordering) → MatchOrdering r (id < x) (id ≡ x) (x < id) → Contains (match_ordering r (id ∷ x ∷ xs) (x ∷ xs) (x ∷ with_id xs id)) id
+has-first : (id x : ℕ) (xs : List ℕ) → Contains (with_id xs id) id → (r : Ordering) → MatchOrdering r (id < x) (id ≡ x) (x < id)
+    → Contains (match_ordering r (id ∷ x ∷ xs) (x ∷ xs) (x ∷ with_id xs id)) id
 has-first id x xs rest Less lt = Contains-head id (x ∷ xs)
 has-first id x xs rest Equal same = subst (λ (y : ℕ). Contains (x ∷ xs) y) (sym same) (Contains-head x xs)
 has-first id x xs rest Greater gt = Contains-tail x (with_id xs id) id rest
@@ -82,7 +87,8 @@ has-with : (id : ℕ) (ids : List ℕ) → Contains (with_id ids id) id
 has-with id [] = Contains-head id []
 has-with id (x ∷ xs) = has-first id x xs (has-with id xs) (nat_cmp id x) (ranks id x)
 
-keeps-first : (id x : ℕ) (xs : List ℕ) (y : ℕ) → (Contains xs y → Contains (with_id xs id) y) → Contains (x ∷ xs) y → (r : Ordering) → Contains (match_ordering r (id ∷ x ∷ xs) (x ∷ xs) (x ∷ with_id xs id)) y
+keeps-first : (id x : ℕ) (xs : List ℕ) (y : ℕ) → (Contains xs y → Contains (with_id xs id) y) → Contains (x ∷ xs) y → (r : Ordering)
+    → Contains (match_ordering r (id ∷ x ∷ xs) (x ∷ xs) (x ∷ with_id xs id)) y
 keeps-first id x xs y rest has Less = Contains-tail id (x ∷ xs) y has
 keeps-first id x xs y rest has Equal = has
 keeps-first id x xs y rest has Greater = elim (Contains-cons_cases x xs y has) [
@@ -188,11 +194,13 @@ module _ (dump : Dump) (test : ℕ → Bool) (most : Option ℕ) (kept : Gathere
   abbrev pub IsLeftOut : ℕ → Type 0
   IsLeftOut id = (all : List ℕ) → AreGathered most all kept → AreGathered most (all ++ id ∷ []) kept
 
-  one-left-out : (k : ℕ) (b : Bool) → test k ≡ b → (test k ≡ true → IsLeftOut (object_at dump k).id) → AreGatheredBefore dump test most k kept → AreGatheredBefore dump test most (k + 1) kept
+  one-left-out : (k : ℕ) (b : Bool) → test k ≡ b → (test k ≡ true → IsLeftOut (object_at dump k).id) → AreGatheredBefore dump test most k kept
+      → AreGatheredBefore dump test most (k + 1) kept
   one-left-out k true e out h = (h.0 ++ (object_at dump k).id ∷ [], ids-with dump test k h.0 h.1 e, out e h.0 h.2)
   one-left-out k false e out h = (h.0, ids-without dump test k h.0 h.1 e, h.2)
 
-  left-out : (k j : ℕ) → ((o : ℕ) → k ≤ o → o < k + j → test o ≡ true → IsLeftOut (object_at dump o).id) → AreGatheredBefore dump test most k kept → AreGatheredBefore dump test most (k + j) kept
+  left-out : (k j : ℕ) → ((o : ℕ) → k ≤ o → o < k + j → test o ≡ true → IsLeftOut (object_at dump o).id) → AreGatheredBefore dump test most k kept
+      → AreGatheredBefore dump test most (k + j) kept
   left-out k zero out h = let same : k ≡ k + 0 = omega arith in subst (λ (n : ℕ). AreGatheredBefore dump test most n kept) same h
   left-out k (suc j) out h =
       let before = left-out k j (λ o after lt. out o after (omega (arith, lt))) h in
@@ -200,7 +208,8 @@ module _ (dump : Dump) (test : ℕ → Bool) (most : Option ℕ) (kept : Gathere
       subst (λ (n : ℕ). AreGatheredBefore dump test most n kept) next
       (one-left-out (k + j) (test (k + j)) refl (out (k + j) (omega arith) (omega arith)) before)
 
-  pub all-left-out : (k m : ℕ) → k ≤ m → ((o : ℕ) → k ≤ o → o < m → test o ≡ true → IsLeftOut (object_at dump o).id) → AreGatheredBefore dump test most k kept → AreGatheredBefore dump test most m kept
+  pub all-left-out : (k m : ℕ) → k ≤ m → ((o : ℕ) → k ≤ o → o < m → test o ≡ true → IsLeftOut (object_at dump o).id) → AreGatheredBefore dump test most k kept
+      → AreGatheredBefore dump test most m kept
   all-left-out k m le out h =
       let end : k + (m - k) ≡ m = omega (arith, le) in
       subst (λ (n : ℕ). AreGatheredBefore dump test most n kept) end (left-out k (m - k) (λ o after lt. out o after (omega (arith, lt, le))) h)

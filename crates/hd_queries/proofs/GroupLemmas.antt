@@ -1,5 +1,6 @@
 -- The groups that can be looked for by their names, gathered one after another.
-use Rattle.std.proofs.Common.{◌≡◌, ◌∙◌, ℕ, ◌+◌, ◌<◌, ◌≤◌, inl, inr, List, [], ◌∷◌, ◌++◌, length, map, take, get_or, Contains, Some, None, eqb-true, eq-eqb, take_all, sym, ap, subst, arith}
+use Rattle.std.proofs.Common.{◌≡◌, ◌∙◌, ℕ, ◌+◌, ◌<◌, ◌≤◌, inl, inr, List, [], ◌∷◌, ◌++◌, length, map, take, get_or, Contains, Some, None, eqb-true, eq-eqb}
+use Rattle.std.proofs.Common.{take_all, sym, ap, subst, arith}
 use Rattle.std.specs.Prelude.{◌↔◌}
 use Rattle.std.specs.Option.{option_map}
 use Rattle.std.specs.List.{slice_get}
@@ -27,8 +28,11 @@ pub next-class : (classes : List NamedClass) (i class : ℕ) → Some class ≡ 
     → (i < length classes) × (map class_group (take (i + 1) classes) ≡ map class_group (take i classes) ++ groups.Class class ∷ [])
 next-class classes i class is = elim (slice_get_cases classes i).1 [
   | inl (found, within, at, get) ↦
-      let same : found.class ≡ class = cc in
-      (within, map_more class_group classes i found within ∙ ap (λ (c : NamedClass). map class_group (take i classes) ++ class_group c ∷ []) get ∙ ap (λ (id : ℕ). map class_group (take i classes) ++ groups.Class id ∷ []) same)
+      let same : found.class ≡ class = cc in (
+        within,
+        map_more class_group classes i found within ∙ ap (λ (c : NamedClass). map class_group (take i classes) ++ class_group c ∷ []) get
+            ∙ ap (λ (id : ℕ). map class_group (take i classes) ++ groups.Class id ∷ []) same,
+      )
   | inr (past, none) ↦ absurd cc
 ]
 
@@ -58,15 +62,22 @@ none-above dump ks group = (from, to)
         let c = get_or dump.classes k none in
         inl (c, (k, within, get_or-again k within none), sym (sym (get_or-map class_group dump.classes k none group within) ∙ is))
       where
-        get_or-again : (k : ℕ) (within : k < length dump.classes) (none : NamedClass) → get_or dump.classes k (get_or dump.classes k none) ≡ get_or dump.classes k none
+        get_or-again : (k : ℕ) (within : k < length dump.classes) (none : NamedClass)
+            → get_or dump.classes k (get_or dump.classes k none) ≡ get_or dump.classes k none
         get_or-again k within none = get_or_default dump.classes k (get_or dump.classes k none) none within
 
     to : IsGroupAbove dump ks 0 group → Contains (map class_group dump.classes) group
-    to (inl (c, (k, lt, is), same)) = (k, omega (arith, lt, length-map dump.classes class_group), get_or-map class_group dump.classes k c group lt ∙ ap class_group is ∙ sym same)
+    to (inl (c, (k, lt, is), same)) = (
+      k,
+      omega (arith, lt, length-map dump.classes class_group),
+      get_or-map class_group dump.classes k c group lt
+          ∙ ap class_group is ∙ sym same,
+    )
     to (inr (o, lt, same, high)) = absurd (omega (arith, high, highest (reached_at ks o).strength))
 
 -- the groups that have objects of the next strength
-module _ (dump : Dump) (ks : List Reached) (s : Strength) (rows : List ClassRow) (k : ℕ) (here : k + rank s ≡ 5) (h : AreMemberRows dump ks s rows) (gs : List Group) (old : AreGroupsAbove dump ks k gs) where
+module _ (dump : Dump) (ks : List Reached) (s : Strength) (rows : List ClassRow) (k : ℕ) (here : k + rank s ≡ 5) (h : AreMemberRows dump ks s rows)
+    (gs : List Group) (old : AreGroupsAbove dump ks k gs) where
   of-row : (group : Group) → Contains (map row_group rows) group → IsGroupAbove dump ks (k + 1) group
   of-row group (i, lt, is) =
       let within : i < length rows = omega (arith, lt, length-map rows row_group) in
@@ -101,7 +112,8 @@ module _ (dump : Dump) (ks : List Reached) (s : Strength) (rows : List ClassRow)
   more-above group = (from-more group, to-more group)
 
 -- the groups of all strengths, in order
-module _ (dump : Dump) (ks : List Reached) (k : ℕ) (enough : 6 ≤ k) (gs ordered : List Group) (all : AreGroupsAbove dump ks k gs) (rises : IsStrictlyIncreasing (map group_key ordered)) (same : (group : Group) → Contains ordered group ↔ Contains gs group) where
+module _ (dump : Dump) (ks : List Reached) (k : ℕ) (enough : 6 ≤ k) (gs ordered : List Group) (all : AreGroupsAbove dump ks k gs)
+    (rises : IsStrictlyIncreasing (map group_key ordered)) (same : (group : Group) → Contains ordered group ↔ Contains gs group) where
   to-named : (group : Group) → IsGroupAbove dump ks k group → IsNamedGroup dump group
   to-named group (inl class) = inr class
   to-named group (inr (o, lt, is, high)) = inl (o, lt, (is, tt))

@@ -13,7 +13,8 @@ whole [] = refl
 whole (x ∷ xs) = ap (λ (ys : List ℕ). x ∷ ys) (whole xs)
 
 behind-first : (id x : ℕ) (xs : List ℕ) → x ≤ id → take (length xs) (with_id xs id) ≡ xs
-    → (r : Ordering) → MatchOrdering r (id < x) (id ≡ x) (x < id) → take (suc (length xs)) (match_ordering r (id ∷ x ∷ xs) (x ∷ xs) (x ∷ with_id xs id)) ≡ x ∷ xs
+    → (r : Ordering) → MatchOrdering r (id < x) (id ≡ x) (x < id) → take (suc (length xs)) (match_ordering r (id ∷ x ∷ xs) (x ∷ xs) (x ∷ with_id xs id)) ≡ x
+    ∷ xs
 behind-first id x xs le rest Less lt = absurd (omega (arith, lt, le))
 behind-first id x xs le rest Equal same = whole (x ∷ xs)
 behind-first id x xs le rest Greater gt = ap (λ (ys : List ℕ). x ∷ ys) rest

@@ -1,5 +1,6 @@
 -- The objects that a list is of, gathered one after another.
-use Rattle.std.proofs.Common.{◌≡◌, ◌∙◌, ℕ, ◌+◌, ◌/◌, ◌%◌, ◌-◌, ◌<◌, ◌≤◌, Bool, true, false, ◌&&◌, inl, inr, List, [], ◌∷◌, ◌++◌, length, Contains, eqb-true, eq-eqb, refl, sym, ap, subst, arith, true≢false}
+use Rattle.std.proofs.Common.{◌≡◌, ◌∙◌, ℕ, ◌+◌, ◌/◌, ◌%◌, ◌-◌, ◌<◌, ◌≤◌, Bool, true, false, ◌&&◌, inl, inr, List, [], ◌∷◌, ◌++◌, length, Contains, eqb-true}
+use Rattle.std.proofs.Common.{eq-eqb, refl, sym, ap, subst, arith, true≢false}
 use Rattle.std.specs.List.Sorted.{IsStrictlyIncreasing}
 use Rattle.std.proofs.lemmas.Bool.{cases_lt}
 use Rattle.std.proofs.lemmas.List.Elements.{Contains-append_left, Contains-append_right, Contains-append_cases}
@@ -50,7 +51,8 @@ pass true false h k = absurd cc
 pass false b h k = absurd cc
 
 -- an object of a page at which a group is not marked is no member
-pub unmarked-not-member : (dump : Dump) (ks : List Reached) (pages : PageMarks) (group : Group) (s : Strength) (o : ℕ) → IsNoted pages (page_of o) (object_at dump o).group (object_at dump o).id → (IsMarked pages (page_of o) group → ⊥)
+pub unmarked-not-member : (dump : Dump) (ks : List Reached) (pages : PageMarks) (group : Group) (s : Strength) (o : ℕ)
+    → IsNoted pages (page_of o) (object_at dump o).group (object_at dump o).id → (IsMarked pages (page_of o) group → ⊥)
     → is_member dump ks group s o ≡ false
 unmarked-not-member dump ks pages group s o noted unmarked = by (is_member dump ks group s o) refl
   where
@@ -75,7 +77,8 @@ module _ (gives : (g : Standing) (ks : List Reached) → Settled g ks → (o : �
 
       decided : (o : ℕ) → IsMember dump log group s o → is_member dump ks group s o ≡ true
       decided o m =
-          let same : same_group (object_at dump o).group group ≡ true = subst (λ (g : Group). same_group (object_at dump o).group g ≡ true) m.0 (itself (object_at dump o).group) in
+          let same : same_group (object_at dump o).group group ≡ true = subst (λ (g : Group). same_group (object_at dump o).group g ≡ true) m.0
+          (itself (object_at dump o).group) in
           pass (has_kept ks s o) (same_group (object_at dump o).group group) (is-kept one dump log ks (gives (standing dump log) ks settled) s o m.1) same
 
 -- objects up to the end of the page of the first
@@ -115,7 +118,8 @@ module _ (dump : Dump) (test : ℕ → Bool) where
       | inr after ↦
           let last : o ≡ k = omega arith in
           let here : Contains ((object_at dump k).id ∷ []) (object_at dump o).id =
-          subst (λ (id : ℕ). Contains ((object_at dump k).id ∷ []) id) (ap (λ (n : ℕ). (object_at dump n).id) (sym last)) (Contains-head (object_at dump k).id []) in
+          subst (λ (id : ℕ). Contains ((object_at dump k).id ∷ []) id) (ap (λ (n : ℕ). (object_at dump n).id) (sym last))
+          (Contains-head (object_at dump k).id []) in
           Contains-append_right ids ((object_at dump k).id ∷ []) (object_at dump o).id here
     ];
   }
@@ -131,15 +135,21 @@ module _ (dump : Dump) (test : ℕ → Bool) where
   }
 
   -- a list with the same IDs
-  pub ids-alike : (k : ℕ) (xs ys : List ℕ) → ((id : ℕ) → Contains xs id → Contains ys id) → ((id : ℕ) → Contains ys id → Contains xs id) → AreIdsBefore dump test k xs → AreIdsBefore dump test k ys
+  pub ids-alike : (k : ℕ) (xs ys : List ℕ) → ((id : ℕ) → Contains xs id → Contains ys id) → ((id : ℕ) → Contains ys id → Contains xs id)
+      → AreIdsBefore dump test k xs → AreIdsBefore dump test k ys
   ids-alike k xs ys to from h = record {
     passes = λ id has. h.passes id (from id has);
     all = λ o lt passes. to (object_at dump o).id (h.all o lt passes);
   }
 
   -- after all objects they are the IDs of those that the test decides
-  pub all-ids : (IsMeant : ℕ → Type 0) (ids : List ℕ) → Decides dump IsMeant test → AreIdsBefore dump test (length dump.objects) ids → IsStrictlyIncreasing ids → AreIdsOf dump IsMeant ids
+  pub all-ids : (IsMeant : ℕ → Type 0) (ids : List ℕ) → Decides dump IsMeant test → AreIdsBefore dump test (length dump.objects) ids → IsStrictlyIncreasing ids
+      → AreIdsOf dump IsMeant ids
   all-ids IsMeant ids decides h rises = record {
     ascending = rises;
-    meant = λ id. (λ has. let at = h.passes id has in (at.0, at.1, (decides at.0 at.1).0 at.2, at.3), λ is. subst (λ (x : ℕ). Contains ids x) is.3 (h.all is.0 is.1 ((decides is.0 is.1).1 is.2)));
+    meant = λ id. (
+      λ has. let at = h.passes id has in (at.0, at.1, (decides at.0 at.1).0 at.2, at.3),
+      λ is. subst (λ (x : ℕ). Contains ids x) is.3
+          (h.all is.0 is.1 ((decides is.0 is.1).1 is.2)),
+    );
   }

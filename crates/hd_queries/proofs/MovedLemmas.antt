@@ -1,5 +1,6 @@
 -- The rows of pairs of strengths.
-use Rattle.std.proofs.Common.{◌≡◌, ◌∙◌, ℕ, ◌+◌, ◌*◌, ◌-◌, ◌/◌, ◌%◌, ◌<◌, ◌≤◌, ◌^◌, Bool, true, false, ◌&&◌, true≢false, inl, inr, List, [], ◌∷◌, ◌++◌, length, map, cond, get_or, replicate, Contains, eqb, eqb-true, eq-eqb, refl, sym, ap, subst, arith}
+use Rattle.std.proofs.Common.{◌≡◌, ◌∙◌, ℕ, ◌+◌, ◌*◌, ◌-◌, ◌/◌, ◌%◌, ◌<◌, ◌≤◌, ◌^◌, Bool, true, false, ◌&&◌, true≢false, inl, inr, List, [], ◌∷◌, ◌++◌, length}
+use Rattle.std.proofs.Common.{map, cond, get_or, replicate, Contains, eqb, eqb-true, eq-eqb, refl, sym, ap, subst, arith}
 use Rattle.std.specs.Prelude.{All, not}
 use Rattle.std.specs.List.Sorted.{IsStrictlyIncreasing}
 use Rattle.std.proofs.lemmas.Bool.{cases_lt, ne_eqb}
@@ -48,7 +49,8 @@ rising-push xs y up below k lt = elim (cases_lt (k + 1) (length xs)) [
       let within : k < length xs = omega (arith, lt, length-append xs (y ∷ [])) in
       let end : k + 1 ≡ length xs = omega (arith, lt, length-append xs (y ∷ [])) in
       let first = get_or_append_left xs (y ∷ []) 0 k within in
-      let second : get_or (xs ++ y ∷ []) (length xs) 0 ≡ y = get_or-append_right xs (y ∷ []) (length xs) (length xs) 0 refl (omega arith) ∙ at-first (length xs - length xs) (omega arith) in
+      let second : get_or (xs ++ y ∷ []) (length xs) 0 ≡ y = get_or-append_right xs (y ∷ []) (length xs) (length xs) 0 refl (omega arith)
+      ∙ at-first (length xs - length xs) (omega arith) in
       let less = below k 0 within in
       omega (arith, first, ap (λ (i : ℕ). get_or (xs ++ y ∷ []) i 0) end, second, less)
 ]
@@ -78,24 +80,36 @@ module _ (totals : List Total) (k : ℕ) (rows : List MovedRow) (h : AreMoveRows
     each = h.each;
     all = λ i lt some. elim (cases_lt i k) [
       | inl earlier ↦ h.all i earlier some
-      | inr later ↦ let same : i ≡ k = omega arith in absurd (let zero_is = ap (λ (x : ℕ). (get_or totals x no_total).count) same in omega (arith, zero_is, none, some))
+      | inr later ↦ let same : i ≡ k = omega arith in
+          absurd (let zero_is = ap (λ (x : ℕ). (get_or totals x no_total).count) same in omega (arith, zero_is, none, some))
     ];
   }
 
   -- a pair with some
-  pub move-with : (row : MovedRow) → k / 6 + rank row.before ≡ 5 → k % 6 + rank row.after ≡ 5 → row.count ≡ (get_or totals k no_total).count → row.bytes ≡ (get_or totals k no_total).bytes → 1 ≤ row.count → AreMoveRows totals (k + 1) (rows ++ row ∷ [])
+  pub move-with : (row : MovedRow) → k / 6 + rank row.before ≡ 5 → k % 6 + rank row.after ≡ 5 → row.count ≡ (get_or totals k no_total).count
+      → row.bytes ≡ (get_or totals k no_total).bytes → 1 ≤ row.count → AreMoveRows totals (k + 1) (rows ++ row ∷ [])
   move-with row before after count_is bytes_is some =
       let key : move_key row ≡ k = key-of-place k (rank row.before) (rank row.after) before after in
       let pushed : map move_key (rows ++ row ∷ []) ≡ map move_key rows ++ move_key row ∷ [] = map-append move_key rows (row ∷ []) in
       record {
-        in_order = subst IsStrictlyIncreasing (sym pushed) (rising-push (map move_key rows) (move_key row) h.in_order (subst (λ (y : ℕ). All (λ (x : ℕ). x < y) (map move_key rows)) (sym key) (keys-below rows k h.before)));
+        in_order = subst IsStrictlyIncreasing (sym pushed)
+            (rising-push (map move_key rows) (move_key row) h.in_order
+            (subst (λ (y : ℕ). All (λ (x : ℕ). x < y) (map move_key rows)) (sym key) (keys-below rows k h.before)));
         before = All-push (λ (x : MovedRow). move_key x < k + 1) rows row farther (omega arith);
-        each = All-push (IsMoveRow totals) rows row h.each (record { count_is = count_is ∙ ap (λ (x : ℕ). (get_or totals x no_total).count) (sym key); bytes_is = bytes_is ∙ ap (λ (x : ℕ). (get_or totals x no_total).bytes) (sym key); some = some });
+        each = All-push (IsMoveRow totals) rows row h.each
+            (record {
+              count_is = count_is ∙ ap (λ (x : ℕ). (get_or totals x no_total).count) (sym key);
+              bytes_is = bytes_is
+                  ∙ ap (λ (x : ℕ). (get_or totals x no_total).bytes) (sym key);
+              some = some;
+            });
         all = λ i lt more. elim (cases_lt i k) [
-          | inl earlier ↦ subst (λ (ks : List ℕ). Contains ks i) (sym pushed) (Contains-append_left (map move_key rows) (move_key row ∷ []) i (h.all i earlier more))
+          | inl earlier ↦ subst (λ (ks : List ℕ). Contains ks i) (sym pushed)
+              (Contains-append_left (map move_key rows) (move_key row ∷ []) i (h.all i earlier more))
           | inr later ↦
               let same : move_key row ≡ i = omega arith in
-              subst (λ (ks : List ℕ). Contains ks i) (sym pushed) (subst (λ (x : ℕ). Contains (map move_key rows ++ move_key row ∷ []) x) same (Contains-push (map move_key rows) (move_key row)))
+              subst (λ (ks : List ℕ). Contains ks i) (sym pushed)
+              (subst (λ (x : ℕ). Contains (map move_key rows ++ move_key row ∷ []) x) same (Contains-push (map move_key rows) (move_key row)))
         ];
       }
 
@@ -168,7 +182,8 @@ module _ (gives : (g : Standing) (ks : List Reached) → Settled g ks → (o : �
   decides-moved was is o within = (moved was is o, decided was is o)
 
   -- the rows of the totals of all objects
-  module _ (totals : List Total) (counted : AreMovesBetween dump ks ls 0 (length dump.objects) totals) (rows : List MovedRow) (r : AreMoveRows totals 36 rows) where
+  module _ (totals : List Total) (counted : AreMovesBetween dump ks ls 0 (length dump.objects) totals) (rows : List MovedRow)
+      (r : AreMoveRows totals 36 rows) where
     abbrev pair-of : MovedRow → Strength × Strength
     pair-of row = (row.before, row.after)
 
@@ -176,7 +191,8 @@ module _ (gives : (g : Standing) (ks : List Reached) → Settled g ks → (o : �
     at was is = get_or totals (move_place was is) no_total
 
     total-at : (was is : Strength) → IsTotalOf dump (IsMoved dump before after was is) (at was is).count (at was is).bytes
-    total-at was is = total-of dump (is_moved_at ks ls (move_place was is)) (IsMoved dump before after was is) (at was is) (decides-moved was is) (counted.each (move_place was is) (place-below was is))
+    total-at was is = total-of dump (is_moved_at ks ls (move_place was is)) (IsMoved dump before after was is) (at was is) (decides-moved was is)
+        (counted.each (move_place was is) (place-below was is))
 
     row-total : (row : MovedRow) → IsMoveRow totals row → IsTotalOf dump (IsMoved dump before after row.before row.after) row.count row.bytes
     row-total row m = rw (m.count_is, m.bytes_is) (total-at row.before row.after)
@@ -188,19 +204,25 @@ module _ (gives : (g : Standing) (ks : List Reached) → Settled g ks → (o : �
         let row : MovedRow = get_or rows c.0 none in
         let same : pair-of row ≡ (was, is) = sym (get_or-map pair-of rows c.0 none (was, is) within) ∙ c.2 in
         let m : IsMoveRow totals row = r.each c.0 none within in
-        let has = some-of dump (is_moved_at ks ls (move_place row.before row.after)) (get_or totals (move_key row) no_total) (counted.each (move_place row.before row.after) (place-below row.before row.after)) (subst (λ (n : ℕ). 1 ≤ n) m.count_is m.some) in
+        let has = some-of dump (is_moved_at ks ls (move_place row.before row.after)) (get_or totals (move_key row) no_total)
+        (counted.each (move_place row.before row.after) (place-below row.before row.after)) (subst (λ (n : ℕ). 1 ≤ n) m.count_is m.some) in
         subst (λ (p : Strength × Strength). HasMoved dump before after p.0 p.1) same (has.0, has.1, (decides-moved row.before row.after has.0 has.1).0 has.2)
 
     found : (was is : Strength) → HasMoved dump before after was is → Contains {X = Strength × Strength} (map pair-of rows) (was, is)
     found was is (o, lt, m) =
-        let some : 1 ≤ (at was is).count = count-of dump (is_moved_at ks ls (move_place was is)) (at was is) (counted.each (move_place was is) (place-below was is)) o lt ((decides-moved was is o lt).1 m) in
+        let some : 1 ≤ (at was is).count = count-of dump (is_moved_at ks ls (move_place was is)) (at was is)
+        (counted.each (move_place was is) (place-below was is)) o lt ((decides-moved was is o lt).1 m) in
         let c = r.all (move_place was is) (place-below was is) some in
         let none : MovedRow = record { before = was; after = is; count = 0; bytes = 0 } in
         let within : c.0 < length rows = omega (arith, c.1, length-map rows move_key) in
         let row : MovedRow = get_or rows c.0 none in
         let key : move_key row ≡ move_place was is = sym (get_or-map move_key rows c.0 none (move_place was is) within) ∙ c.2 in
-        let pair = one-place row.before row.after was is key in
-        (c.0, omega (arith, within, length-map rows pair-of), get_or-map pair-of rows c.0 none (was, is) within ∙ pairs row.before row.after was is pair.0 pair.1)
+        let pair = one-place row.before row.after was is key in (
+          c.0,
+          omega (arith, within, length-map rows pair-of),
+          get_or-map pair-of rows c.0 none (was, is) within
+              ∙ pairs row.before row.after was is pair.0 pair.1,
+        )
       where
         pairs : (a b c d : Strength) → a ≡ c → b ≡ d → ◌≡◌ {A = Strength × Strength} (a, b) (c, d)
         pairs a b c d e f = rw (e, f) refl
@@ -208,18 +230,21 @@ module _ (gives : (g : Standing) (ks : List Reached) → Settled g ks → (o : �
     pub moved-rows : AreMovedRows dump before after rows
     moved-rows = record {
       in_order = r.in_order;
-      totals = recursion_from_All (λ (row : MovedRow). IsTotalOf dump (IsMoved dump before after row.before row.after) row.count row.bytes) rows (λ j d lt. row-total (get_or rows j d) (r.each j d lt));
+      totals = recursion_from_All (λ (row : MovedRow). IsTotalOf dump (IsMoved dump before after row.before row.after) row.count row.bytes) rows
+          (λ j d lt. row-total (get_or rows j d) (r.each j d lt));
       pairs = λ was is. (listed was is, found was is);
     }
 
 -- an object whose strength differs is counted for its pair alone, and one whose strength doesn't for none
 module _ (ks ls : List Reached) (o : ℕ) where
-  pub only-its-place : (strength_in ks o ≡ strength_in ls o → ⊥) → (place : ℕ) → is_moved_at ks ls place o ≡ eqb (move_place (strength_in ks o) (strength_in ls o)) place
+  pub only-its-place : (strength_in ks o ≡ strength_in ls o → ⊥) → (place : ℕ)
+      → is_moved_at ks ls place o ≡ eqb (move_place (strength_in ks o) (strength_in ls o)) place
   only-its-place differ place = ap (λ (b : Bool). not b && eqb (move_place (strength_in ks o) (strength_in ls o)) place)
       (ne_eqb (rank (strength_in ks o)) (rank (strength_in ls o)) (λ e. differ (same-rank (strength_in ks o) (strength_in ls o) e)))
 
   pub at-no-place : strength_in ks o ≡ strength_in ls o → (place : ℕ) → is_moved_at ks ls place o ≡ false
-  at-no-place same place = ap (λ (b : Bool). not b && eqb (move_place (strength_in ks o) (strength_in ls o)) place) (eq-eqb (rank (strength_in ks o)) (rank (strength_in ls o)) (ap rank same))
+  at-no-place same place = ap (λ (b : Bool). not b && eqb (move_place (strength_in ks o) (strength_in ls o)) place)
+      (eq-eqb (rank (strength_in ks o)) (rank (strength_in ls o)) (ap rank same))
 
   module _ (dump : Dump) (old new : List Total) where
     pub moves-without : strength_in ks o ≡ strength_in ls o → length old ≡ 36 → new ≡ old → AreMovesWith dump ks ls o old new
@@ -235,14 +260,18 @@ module _ (ks ls : List Reached) (o : ℕ) where
           };
     })
 
-    pub moves-with : (strength_in ks o ≡ strength_in ls o → ⊥) → AreMovesAdded old (move_place (strength_in ks o) (strength_in ls o)) (object_at dump o).bytes new → (object_at dump o).bytes ≤ largest_file → AreMovesWith dump ks ls o old new
-    moves-with differ added few = record { whole = added.whole; each = λ place lt. counted place (eqb (move_place (strength_in ks o) (strength_in ls o)) place) refl }
+    pub moves-with : (strength_in ks o ≡ strength_in ls o → ⊥) → AreMovesAdded old (move_place (strength_in ks o) (strength_in ls o))
+        (object_at dump o).bytes new → (object_at dump o).bytes ≤ largest_file → AreMovesWith dump ks ls o old new
+    moves-with differ added few =
+        record { whole = added.whole; each = λ place lt. counted place (eqb (move_place (strength_in ks o) (strength_in ls o)) place) refl }
       where
-        counted : (place : ℕ) → (b : Bool) → eqb (move_place (strength_in ks o) (strength_in ls o)) place ≡ b → IsCountedIf dump (is_moved_at ks ls place) o (get_or old place no_total) (get_or new place no_total)
+        counted : (place : ℕ) → (b : Bool) → eqb (move_place (strength_in ks o) (strength_in ls o)) place ≡ b
+            → IsCountedIf dump (is_moved_at ks ls place) o (get_or old place no_total) (get_or new place no_total)
         counted place true e =
             let passes = only-its-place differ place ∙ e in
             let here : get_or new place no_total ≡ plus_object (get_or old place no_total) (object_at dump o).bytes =
-            subst (λ (i : ℕ). get_or new i no_total ≡ plus_object (get_or old i no_total) (object_at dump o).bytes) (eqb-true (move_place (strength_in ks o) (strength_in ls o)) place e) added.here in
+            subst (λ (i : ℕ). get_or new i no_total ≡ plus_object (get_or old i no_total) (object_at dump o).bytes)
+            (eqb-true (move_place (strength_in ks o) (strength_in ls o)) place e) added.here in
             record {
               counts = ap (λ (t : Total). t.count) here ∙ ap (λ (b : Bool). (get_or old place no_total).count + cond b 1 0) (sym passes);
               sizes = ap (λ (t : Total). t.bytes) here ∙ ap (λ (b : Bool). (get_or old place no_total).bytes + cond b (object_at dump o).bytes 0) (sym passes);
@@ -250,7 +279,8 @@ module _ (ks ls : List Reached) (o : ℕ) where
             }
         counted place false e =
             let fails = only-its-place differ place ∙ e in
-            let there : get_or new place no_total ≡ get_or old place no_total = added.others place (λ same. true≢false (sym (eq-eqb (move_place (strength_in ks o) (strength_in ls o)) place (sym same)) ∙ e)) in
+            let there : get_or new place no_total ≡ get_or old place no_total =
+            added.others place (λ same. true≢false (sym (eq-eqb (move_place (strength_in ks o) (strength_in ls o)) place (sym same)) ∙ e)) in
             let size : bytes_if dump (is_moved_at ks ls place) o ≡ 0 = ap (λ (b : Bool). cond b (object_at dump o).bytes 0) fails in
             record {
               counts = omega (arith, ap (λ (t : Total). t.count) there, ap (λ (b : Bool). cond {A = ℕ} b 1 0) fails);
@@ -263,7 +293,8 @@ module _ (dump : Dump) (ks ls : List Reached) (start : ℕ) where
   pub no-moves-between : (totals : List Total) → totals ≡ replicate 36 no_total → AreMovesBetween dump ks ls start start totals
   no-moves-between totals is = rw is (record {
     whole = refl;
-    each = λ place lt. subst (IsTotalBetween dump (is_moved_at ks ls place) start start) (sym (get_or-replicate_at place lt)) (none-between dump (is_moved_at ks ls place) start);
+    each = λ place lt. subst (IsTotalBetween dump (is_moved_at ks ls place) start start) (sym (get_or-replicate_at place lt))
+        (none-between dump (is_moved_at ks ls place) start);
   })
     where
       get_or-replicate_at : (place : ℕ) → place < 36 → get_or (replicate 36 no_total) place no_total ≡ no_total
@@ -273,13 +304,15 @@ module _ (dump : Dump) (ks ls : List Reached) (start : ℕ) where
     pub moves-more : (new : List Total) → AreMovesWith dump ks ls k totals new → AreMovesBetween dump ks ls start (k + 1) new
     moves-more new with = record {
       whole = with.whole;
-      each = λ place lt. one-more dump (is_moved_at ks ls place) start k (get_or totals place no_total) (get_or new place no_total) (with.each place lt) (h.each place lt);
+      each = λ place lt. one-more dump (is_moved_at ks ls place) start k (get_or totals place no_total) (get_or new place no_total) (with.each place lt)
+          (h.each place lt);
     }
 
     pub moves-quiet : (m : ℕ) → k ≤ m → ((o : ℕ) → k ≤ o → o < m → strength_in ks o ≡ strength_in ls o) → AreMovesBetween dump ks ls start m totals
     moves-quiet m le same = record {
       whole = h.whole;
-      each = λ place lt. quiet-between dump (is_moved_at ks ls place) start k m (get_or totals place no_total) le (λ o after before. at-no-place ks ls o (same o after before) place) (h.each place lt);
+      each = λ place lt. quiet-between dump (is_moved_at ks ls place) start k m (get_or totals place no_total) le
+          (λ o after before. at-no-place ks ls o (same o after before) place) (h.each place lt);
     }
 
     pub moves-count-room : k < 2 ^ 32 → (place : ℕ) → place < 36 → (get_or totals place no_total).count + 1 < 2 ^ 64

@@ -1,5 +1,6 @@
 -- Lemmas on why an edit may not be made.
-use Rattle.std.proofs.Common.{◌≡◌, ◌≢◌, ◌∙◌, ℕ, inl, inr, Bool, true, false, ◌||◌, List, length, Option, None, Some, is_none, slice_get, sym, ap, eq-eqb, ne_eqb}
+use Rattle.std.proofs.Common.{◌≡◌, ◌≢◌, ◌∙◌, ℕ, inl, inr, Bool, true, false, ◌||◌, List, length, Option, None, Some, is_none, slice_get, sym, ap, eq-eqb}
+use Rattle.std.proofs.Common.{ne_eqb}
 use Rattle.std.specs.Prelude.{cond, if◌then◌else◌}
 use Rattle.std.specs.Option.{option_and_then}
 use Rattle.std.specs.List.{find, position, position_or_len}
@@ -18,7 +19,8 @@ module _ {X : Type 0} (p : X → Bool) (xs : List X) where
   found_none : position p xs ≡ None → find p xs ≡ None
   found_none none = elim (cases_lt (position_or_len p xs) (length xs)) [
     | inl lt ↦
-        let some : position p xs ≡ Some (position_or_len p xs) = ap (λ (b : Bool). cond b (Some (position_or_len p xs)) None) (lt-ltb (position_or_len p xs) (length xs) lt) in
+        let some : position p xs ≡ Some (position_or_len p xs) = ap (λ (b : Bool). cond b (Some (position_or_len p xs)) None)
+        (lt-ltb (position_or_len p xs) (length xs) lt) in
         let both : Some (position_or_len p xs) ≡ None = sym some ∙ none in
         absurd (cc)
     | inr le ↦ find_at p xs ∙ slice_get_past xs (position_or_len p xs) le
@@ -27,7 +29,8 @@ module _ {X : Type 0} (p : X → Bool) (xs : List X) where
   found_some : (i : ℕ) → position p xs ≡ Some i → find p xs ≡ slice_get xs i
   found_some i is = elim (cases_lt (position_or_len p xs) (length xs)) [
     | inl lt ↦
-        let some : position p xs ≡ Some (position_or_len p xs) = ap (λ (b : Bool). cond b (Some (position_or_len p xs)) None) (lt-ltb (position_or_len p xs) (length xs) lt) in
+        let some : position p xs ≡ Some (position_or_len p xs) = ap (λ (b : Bool). cond b (Some (position_or_len p xs)) None)
+        (lt-ltb (position_or_len p xs) (length xs) lt) in
         let both : Some (position_or_len p xs) ≡ Some i = sym some ∙ is in
         let same : position_or_len p xs ≡ i = cc in
         find_at p xs ∙ ap (slice_get xs) same
@@ -55,8 +58,10 @@ module _ (dump : Dump) (slot : Slot) (id o : ℕ) (found : index_of dump.objects
   not_there none = ap (cut_refusal dump slot) found ∙ ap (slot_refusal dump slot) (named_none (object_at dump o) slot none)
 
   -- it is at an index
-  module _ (i : ℕ) (s : SlotEntry) (index : position (at_slot slot) (object_at dump o).slots ≡ Some i) (entry : slice_get (object_at dump o).slots i ≡ Some s) where
-    there : (cuttable : Bool) → is_cuttable slot ≡ cuttable → cut_refusal dump slot (index_of dump.objects id) ≡ (if cuttable then empty_refusal dump s else Some refusals.NotCuttable)
+  module _ (i : ℕ) (s : SlotEntry) (index : position (at_slot slot) (object_at dump o).slots ≡ Some i)
+      (entry : slice_get (object_at dump o).slots i ≡ Some s) where
+    there : (cuttable : Bool) → is_cuttable slot ≡ cuttable → cut_refusal dump slot (index_of dump.objects id) ≡
+        (if cuttable then empty_refusal dump s else Some refusals.NotCuttable)
     there cuttable c =
         ap (cut_refusal dump slot) found
         ∙ ap (slot_refusal dump slot) (named_some (object_at dump o) slot i s index entry)
@@ -70,7 +75,8 @@ module _ (dump : Dump) (slot : Slot) (id o : ℕ) (found : index_of dump.objects
 
 -- the referent of the object of a number
 module _ (dump : Dump) (id o : ℕ) (found : index_of dump.objects id ≡ Some o) where
-  refused_by : (slot : Option Slot) → (object_at dump o).referent ≡ slot → clear_refusal dump (index_of dump.objects id) ≡ referent_refusal dump (option_and_then (named_slot (object_at dump o)) slot)
+  refused_by : (slot : Option Slot) → (object_at dump o).referent ≡ slot → clear_refusal dump (index_of dump.objects id) ≡ referent_refusal dump
+      (option_and_then (named_slot (object_at dump o)) slot)
   refused_by slot is = ap (clear_refusal dump) found ∙ ap (λ (r : Option Slot). referent_refusal dump (option_and_then (named_slot (object_at dump o)) r)) is
 
   -- the object has none
@@ -78,11 +84,13 @@ module _ (dump : Dump) (id o : ℕ) (found : index_of dump.objects id ≡ Some o
   no_referent none = refused_by None none
 
   -- it is a slot that the object doesn't have
-  pub referent_lost : (slot : Slot) → (object_at dump o).referent ≡ Some slot → position (at_slot slot) (object_at dump o).slots ≡ None → clear_refusal dump (index_of dump.objects id) ≡ Some refusals.NotReference
+  pub referent_lost : (slot : Slot) → (object_at dump o).referent ≡ Some slot → position (at_slot slot) (object_at dump o).slots ≡ None
+      → clear_refusal dump (index_of dump.objects id) ≡ Some refusals.NotReference
   referent_lost slot is none = refused_by (Some slot) is ∙ ap (referent_refusal dump) (named_none (object_at dump o) slot none)
 
   -- it is at an index
-  pub referent_there : (slot : Slot) (i : ℕ) (s : SlotEntry) → (object_at dump o).referent ≡ Some slot → position (at_slot slot) (object_at dump o).slots ≡ Some i
+  pub referent_there : (slot : Slot) (i : ℕ) (s : SlotEntry) → (object_at dump o).referent ≡ Some slot
+      → position (at_slot slot) (object_at dump o).slots ≡ Some i
       → slice_get (object_at dump o).slots i ≡ Some s → clear_refusal dump (index_of dump.objects id) ≡ empty_refusal dump s
   referent_there slot i s is index entry = refused_by (Some slot) is ∙ ap (referent_refusal dump) (named_some (object_at dump o) slot i s index entry)
 

@@ -25,8 +25,16 @@ shown-slot dump log x read removed target is =
     let s : SlotEntry = record { slot = read.slot; kind = read.kind; id = read.id } in
     let stands : not removed ≡ is_untouched log x s = ap not is ∙ not_not (is_untouched log x s) in
     ap (λ t. record { slot = read.slot; kind = read.kind; id = read.id; mode = cond (eqb read.id 0) modes.Null (mode_of t (not removed)) }) target
-    ∙ ap (λ (b : Bool). record { slot = read.slot; kind = read.kind; id = read.id; mode = cond (eqb read.id 0) modes.Null (mode_of (index_of dump.objects read.id) b) }) stands
+    ∙ ap (λ (b : Bool). record {
+      slot = read.slot;
+      kind = read.kind;
+      id = read.id;
+      mode =
+          cond (eqb read.id 0) modes.Null (mode_of (index_of dump.objects read.id) b);
+    }) stands
 
 -- one more slot
-pub rows-more : (f : SlotEntry → SlotRow) (ss : List SlotEntry) (i : ℕ) (s : SlotEntry) → slice_get ss i ≡ Some s → map f (take (i + 1) ss) ≡ map f (take i ss) ++ f s ∷ []
-rows-more f ss i s here = map_more f ss i s (slice_get_within ss i s here) ∙ ap (λ (e : SlotEntry). map f (take i ss) ++ f e ∷ []) (get_or_from_slice_get ss i s s here)
+pub rows-more : (f : SlotEntry → SlotRow) (ss : List SlotEntry) (i : ℕ) (s : SlotEntry) → slice_get ss i ≡ Some s → map f (take (i + 1) ss) ≡ map f (take i ss)
+    ++ f s ∷ []
+rows-more f ss i s here = map_more f ss i s (slice_get_within ss i s here) ∙ ap (λ (e : SlotEntry). map f (take i ss) ++ f e ∷ [])
+    (get_or_from_slice_get ss i s s here)

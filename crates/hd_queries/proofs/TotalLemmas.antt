@@ -1,5 +1,6 @@
 -- The totals of strengths and of groups, by what is kept of the objects.
-use Rattle.std.proofs.Common.{◌≡◌, ◌∙◌, ℕ, zero, suc, ◌+◌, ◌<◌, ◌≤◌, ◌^◌, true, List, [], ◌∷◌, length, map, get_or, take, cond, eq-eqb, refl, sym, ap, subst, arith, add-zero, zero-add}
+use Rattle.std.proofs.Common.{◌≡◌, ◌∙◌, ℕ, zero, suc, ◌+◌, ◌<◌, ◌≤◌, ◌^◌, true, List, [], ◌∷◌, length, map, get_or, take, cond, eq-eqb, refl, sym, ap, subst}
+use Rattle.std.proofs.Common.{arith, add-zero, zero-add}
 use Rattle.std.specs.Prelude.{sum_by}
 use Rattle.std.specs.List.{range_with_len}
 use Rattle.std.proofs.lemmas.List.{take_all, get_or-map}
@@ -46,7 +47,8 @@ none-counted dump ks start = record {
 }
 
 -- one more object
-module _ (dump : Dump) (ks : List Reached) (start o : ℕ) (old : StrengthTotals) (h : AreCounted dump ks start o old) (within : o < length dump.objects) (small : (object_at dump o).bytes ≤ largest_file) where
+module _ (dump : Dump) (ks : List Reached) (start o : ℕ) (old : StrengthTotals) (h : AreCounted dump ks start o old) (within : o < length dump.objects)
+    (small : (object_at dump o).bytes ≤ largest_file) where
   sum-more : (f : ℕ → ℕ) → sum_by f (take (o + 1) (range_with_len 0 (length dump.objects))) ≡ sum_by f (take o (range_with_len 0 (length dump.objects))) + f o
   sum-more f =
       sum_by_more f (range_with_len 0 (length dump.objects)) o 0 (omega (arith, length-range_with_len 0 (length dump.objects)))
@@ -70,7 +72,8 @@ module _ (dump : Dump) (ks : List Reached) (start o : ℕ) (old : StrengthTotals
   }
 
 -- the objects of two parts, of which one begins where the other ends
-module _ (dump : Dump) (ks : List Reached) (start middle end : ℕ) (one other : StrengthTotals) (first : AreCounted dump ks start middle one) (second : AreCounted dump ks middle end other) where
+module _ (dump : Dump) (ks : List Reached) (start middle end : ℕ) (one other : StrengthTotals) (first : AreCounted dump ks start middle one)
+    (second : AreCounted dump ks middle end other) where
   sum-is : (all : StrengthTotals) → all ≡ sums_of one other → (s : Strength) → total_for all s ≡ sum_of (total_for one s) (total_for other s)
   sum-is all is s = ap (λ t. total_for t s) is ∙ total-sums one other s
 
@@ -98,10 +101,13 @@ module _ (one : (g : Standing) (o : ℕ) (a b : Strength) → HasStrength g o a 
   pub is-kept : (s : Strength) (o : ℕ) → HasStrength (standing dump log) o s → has_kept ks s o ≡ true
   is-kept s o h = eq-eqb (rank (reached_at ks o).strength) (rank s) (ap rank (one (standing dump log) o (reached_at ks o).strength s (has o) h))
 
-  pub total-is : (totals : StrengthTotals) → AreCounted dump ks 0 (length dump.objects) totals → (s : Strength) → IsTotal dump log s (total_for totals s).count (total_for totals s).bytes
+  pub total-is : (totals : StrengthTotals) → AreCounted dump ks 0 (length dump.objects) totals → (s : Strength)
+      → IsTotal dump log s (total_for totals s).count (total_for totals s).bytes
   total-is totals h s = record {
     has = has_kept ks s;
     decides = λ o within. (has-strength s o, is-kept s o);
     count_is = sym (add-zero (total_for totals s).count) ∙ h.counts s ∙ count-all (has_kept ks s) (length dump.objects);
-    bytes_is = sym (add-zero (total_for totals s).bytes) ∙ h.bytes s ∙ ap (sum_by (bytes_if dump (has_kept ks s))) (take_all (length dump.objects) (range_with_len 0 (length dump.objects)) (omega (arith, length-range_with_len 0 (length dump.objects))));
+    bytes_is = sym (add-zero (total_for totals s).bytes) ∙ h.bytes s
+        ∙ ap (sum_by (bytes_if dump (has_kept ks s)))
+        (take_all (length dump.objects) (range_with_len 0 (length dump.objects)) (omega (arith, length-range_with_len 0 (length dump.objects))));
   }

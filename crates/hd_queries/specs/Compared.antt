@@ -12,7 +12,8 @@ AreBothKept n compared = (length compared.earlier.strengths.now ≡ n) × (lengt
 
 -- a page has not changed since the events that both logs begin with
 abbrev pub IsQuietPage : Compared → ℕ → Type 0
-IsQuietPage compared page = IsUnchanged compared.earlier.last_changes.now page compared.common × IsUnchanged compared.later.last_changes.now page compared.common
+IsQuietPage compared page = IsUnchanged compared.earlier.last_changes.now page compared.common
+    × IsUnchanged compared.later.last_changes.now page compared.common
 
 -- each object of a quiet page has one strength under both
 abbrev pub IsSameOnQuiet : Compared → Type 0

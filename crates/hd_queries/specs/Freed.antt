@@ -39,7 +39,8 @@ pub record IsOneMore (dump : Dump) (o : ℕ) (total : Total) (groups : Totals) (
   pub range : InRange (object_at dump o).group
   pub small : (object_at dump o).bytes ≤ largest_file
   pub all : new ≡ plus_object total (object_at dump o).bytes
-  pub put : IsRowPut groups news (group_key (object_at dump o).group) (plus_one (row_at groups (group_key (object_at dump o).group)) strengths.Unreachable (object_at dump o).bytes)
+  pub put : IsRowPut groups news (group_key (object_at dump o).group)
+      (plus_one (row_at groups (group_key (object_at dump o).group)) strengths.Unreachable (object_at dump o).bytes)
 
 -- the totals with an object, if that passes a test: it is counted in all, and in its group as unreachable
 pub record IsFreedWith (dump : Dump) (test : ℕ → Bool) (o : ℕ) (total : Total) (groups : Totals) (new : Total) (news : Totals) : Type 0 where

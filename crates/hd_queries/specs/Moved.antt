@@ -19,7 +19,8 @@ move_place was is = 6 * (5 - rank was) + (5 - rank is)
 
 -- the object of a number has other strengths before and after, and their pair stands at a place
 abbrev pub is_moved_at : (before after : List Reached) → (place o : ℕ) → Bool
-is_moved_at before after place o = not (rank (strength_in before o) == rank (strength_in after o)) && (move_place (strength_in before o) (strength_in after o) == place)
+is_moved_at before after place o = not (rank (strength_in before o) == rank (strength_in after o)) &&
+    (move_place (strength_in before o) (strength_in after o) == place)
 
 -- the totals of all pairs, for the objects from one number on, before another
 pub record AreMovesBetween (dump : Dump) (before after : List Reached) (start end : ℕ) (totals : List Total) : Type 0 where
@@ -29,7 +30,8 @@ pub record AreMovesBetween (dump : Dump) (before after : List Reached) (start en
 -- the totals of all pairs, with one more object
 pub record AreMovesWith (dump : Dump) (before after : List Reached) (o : ℕ) (old new : List Total) : Type 0 where
   pub whole : length new ≡ 36
-  pub each : (place : ℕ) → place < 36 → IsCountedIf dump (is_moved_at before after place) o (slice_index_or old place no_total) (slice_index_or new place no_total)
+  pub each : (place : ℕ) → place < 36 → IsCountedIf dump (is_moved_at before after place) o (slice_index_or old place no_total)
+      (slice_index_or new place no_total)
 
 -- an object of `bytes` bytes is counted at a place
 pub record AreMovesAdded (old : List Total) (place bytes : ℕ) (new : List Total) : Type 0 where

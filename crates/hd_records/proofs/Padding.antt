@@ -1,5 +1,6 @@
 -- Zeros past the end of bytes change no number that is read, and bytes are cut into parts.
-use Rattle.std.proofs.Common.{◌≡◌, ℕ, zero, suc, ◌+◌, ◌-◌, ◌≤◌, List, [], ◌∷◌, ◌++◌, length, get_or, take, drop, replicate, refl, sym, ap, ◌∙◌, append_assoc, arith}
+use Rattle.std.proofs.Common.{◌≡◌, ℕ, zero, suc, ◌+◌, ◌-◌, ◌≤◌, List, [], ◌∷◌, ◌++◌, length, get_or, take, drop, replicate, refl, sym, ap, ◌∙◌, append_assoc}
+use Rattle.std.proofs.Common.{arith}
 use Rattle.std.proofs.lemmas.List.{get_or-drop, take-append-drop, drop-drop, drop-take, length-replicate}
 use Rattle.byteorder.specs.Endian.{big_from, big_number}
 use Rattle.byteorder.specs.Numbers.{big_from-take}
@@ -28,13 +29,15 @@ big_from-same (suc n) i xs ys same = rw (same i, big_from-same n (suc i) xs ys s
 -- zeros past the end change no number
 pub big_number-padded : (n at k : ℕ) (xs : List ℕ) → big_number n (drop at (xs ++ zero_bytes k)) ≡ big_number n (drop at xs)
 big_number-padded n at k xs =
-    big_from-same n 0 (drop at (xs ++ zero_bytes k)) (drop at xs) (λ j. get_or-drop at (xs ++ zero_bytes k) j 0 ∙ get_or-padded xs k (at + j) ∙ sym (get_or-drop at xs j 0))
+    big_from-same n 0 (drop at (xs ++ zero_bytes k)) (drop at xs) (λ j. get_or-drop at (xs ++ zero_bytes k) j 0 ∙ get_or-padded xs k (at + j)
+    ∙ sym (get_or-drop at xs j 0))
 
 -- nor do bytes that are cut off behind it
 pub big_number-take : (n at m : ℕ) (xs : List ℕ) → at + n ≤ m → big_number n (drop at (take m xs)) ≡ big_number n (drop at xs)
 big_number-take n at m xs le =
     let split : m ≡ at + (m - at) = omega arith in
-    ap (λ (k : ℕ). big_number n (drop at (take k xs))) split ∙ ap (λ (ys : List ℕ). big_number n ys) (drop-take at (m - at) xs) ∙ big_from-take 0 n (m - at) (drop at xs) (omega arith)
+    ap (λ (k : ℕ). big_number n (drop at (take k xs))) split ∙ ap (λ (ys : List ℕ). big_number n ys) (drop-take at (m - at) xs)
+    ∙ big_from-take 0 n (m - at) (drop at xs) (omega arith)
 
 pub three_parts : (m n : ℕ) (xs : List ℕ) → (take m xs ++ take n (drop m xs)) ++ drop (m + n) xs ≡ xs
 three_parts m n xs =

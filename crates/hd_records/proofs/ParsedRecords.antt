@@ -29,7 +29,8 @@ record_in-is text len = record {
 }
 
 -- bytes that are long enough begin with a framed record
-pub begins : (rest : List ℕ) (n : ℕ) → body_len_in rest ≡ n → 9 + n ≤ length rest → BeginsWithFramed rest (get_or rest 0 0) (take n (drop 9 rest)) (drop (9 + n) rest)
+pub begins : (rest : List ℕ) (n : ℕ) → body_len_in rest ≡ n → 9 + n ≤ length rest → BeginsWithFramed rest (get_or rest 0 0) (take n (drop 9 rest))
+    (drop (9 + n) rest)
 begins rest n is_n long =
     let text : List ℕ = take (9 + n) rest in
     let len : length text ≡ 9 + n = length-take-le (9 + n) rest long in

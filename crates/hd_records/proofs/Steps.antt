@@ -1,5 +1,6 @@
 -- Reading records one after another, as a loop does.
-use Rattle.std.proofs.Common.{◌≡◌, ℕ, ◌+◌, ◌-◌, ◌≤◌, ◌<◌, Bool, true, false, cond, List, [], ◌∷◌, ◌++◌, length, drop, refl, sym, ap, ◌∙◌, append_assoc, add-zero, arith}
+use Rattle.std.proofs.Common.{◌≡◌, ℕ, ◌+◌, ◌-◌, ◌≤◌, ◌<◌, Bool, true, false, cond, List, [], ◌∷◌, ◌++◌, length, drop, refl, sym, ap, ◌∙◌, append_assoc}
+use Rattle.std.proofs.Common.{add-zero, arith}
 use Rattle.std.specs.List.{flat_map, filter_map, AllByRecursion}
 use Rattle.std.proofs.lemmas.List.{append-nil, length-append, length-drop}
 use Rattle.std.proofs.lemmas.List.Concat.{flat_map-append}
@@ -10,7 +11,8 @@ use Rattle.hd_terms.specs.declared.Load.{Load}
 use Rattle.hd_terms.specs.declared.IdSize.{IdSize}
 use Rattle.hd_terms.specs.declared.errors.Cause.{Cause}
 use Rattle.hd_terms.specs.declared.errors.Cause.TheVariants.{ShortRecord}
-use Rattle.hd_terms.specs.Records.{Record, IsFramed, IsRecord, least_body, record_text, header_len, is_segment, segment_spans, placed, text_of, texts, load_of, loads, HasHeader}
+use Rattle.hd_terms.specs.Records.{Record, IsFramed, IsRecord, least_body, record_text, header_len, is_segment, segment_spans, placed, text_of, texts, load_of}
+use Rattle.hd_terms.specs.Records.{loads, HasHeader}
 use Rattle.hd_terms.specs.ReadFaults.{fault, IsRecordsFault, IsStuckRecord, in_a_record}
 use Rattle.hd_records.specs.Reading.{ReadsRecords}
 use Rattle.hd_records.specs.ParsedRecords.{BeginsWithFramed, BeginsWithRecord, texts_of, loads_of, spans_of}
@@ -43,7 +45,8 @@ all_more size [] r all is = (is, tt)
 all_more size (x ∷ rs) r all is = (all.0, all_more size rs r all.1 is)
 
 -- where a record ends that begins at a place, and so do the records behind it
-next_place : (size : IdSize) (at : ℕ) (x : Record) (rs : List Record) → IsRecord size x → at + 9 + length x.body + length (flat_map record_text rs) ≡ at + length (flat_map record_text (x ∷ rs))
+next_place : (size : IdSize) (at : ℕ) (x : Record) (rs : List Record) → IsRecord size x
+    → at + 9 + length x.body + length (flat_map record_text rs) ≡ at + length (flat_map record_text (x ∷ rs))
 next_place size at x rs is = omega (arith, length-record_text x is.framed, length-append (record_text x) (flat_map record_text rs))
 
 placed-push : (size : IdSize) (at : ℕ) (rs : List Record) (r : Record) → AllByRecursion (IsRecord size) rs
@@ -68,7 +71,8 @@ segment_spans-push size at (x ∷ rs) r all =
     let after : ℕ = at + 9 + length x.body in
     let more = segment_spans-push size after rs r all.1 ∙ ap (λ (k : ℕ). segment_spans after rs ++ spans_of k r.tag r.body) (next_place size at x rs all.0) in
     same_when (is_segment x) (record { start = at + 9; len = length x.body }) _ _ more
-    ∙ sym (spans_when (is_segment x) (record { start = at + 9; len = length x.body }) (segment_spans after rs) (spans_of (at + length (flat_map record_text (x ∷ rs))) r.tag r.body))
+    ∙ sym (spans_when (is_segment x) (record { start = at + 9; len = length x.body }) (segment_spans after rs)
+    (spans_of (at + length (flat_map record_text (x ∷ rs))) r.tag r.body))
 
 texts-push : (size : IdSize) (rs : List Record) (r : Record) → AllByRecursion (IsRecord size) rs
     → texts size (rs ++ r ∷ []) ≡ texts size rs ++ texts_of size (header_len + length (flat_map record_text rs)) r.tag r.body
@@ -79,16 +83,19 @@ texts-push size rs r all =
 loads-push : (size : IdSize) (rs : List Record) (r : Record) → loads size (rs ++ r ∷ []) ≡ loads size rs ++ loads_of size r.tag r.body
 loads-push size rs r = filter_map-append (load_of size) rs (r ∷ [])
 
-flat_map-push : (rs : List Record) (r : Record) (after : List ℕ) → flat_map record_text (rs ++ r ∷ []) ++ after ≡ flat_map record_text rs ++ (record_text r ++ after)
+flat_map-push : (rs : List Record) (r : Record) (after : List ℕ) → flat_map record_text (rs ++ r ∷ []) ++ after ≡ flat_map record_text rs
+    ++ (record_text r ++ after)
 flat_map-push rs r after =
-    ap (λ (xs : List ℕ). xs ++ after) (flat_map-append record_text rs (r ∷ []) ∙ ap (λ (xs : List ℕ). flat_map record_text rs ++ xs) (append-nil (record_text r)))
+    ap (λ (xs : List ℕ). xs ++ after)
+    (flat_map-append record_text rs (r ∷ []) ∙ ap (λ (xs : List ℕ). flat_map record_text rs ++ xs) (append-nil (record_text r)))
     ∙ append_assoc (flat_map record_text rs) (record_text r) after
 
 -- a record that was read has its fields
 is_record : (size : IdSize) (rest : List ℕ) (tag : ℕ) (body after : List ℕ) (f : BeginsWithRecord size rest tag body after) → IsRecord size f.begins.r
 is_record size rest tag body after f = record { framed = f.begins.framed; fields = rw (f.begins.tag_is, f.begins.body_is) f.fields }
 
-module _ (size : IdSize) (bytes rest : List ℕ) (strings : List Text) (classes : List Load) (spans : List Span) (h : IsReadSoFar size bytes rest strings classes spans) where
+module _ (size : IdSize) (bytes rest : List ℕ) (strings : List Text) (classes : List Load) (spans : List Span)
+    (h : IsReadSoFar size bytes rest strings classes spans) where
   -- where what is left begins
   pub place : header_len + length (flat_map record_text h.records) ≡ length bytes - length rest
   place = omega (arith, front_len bytes rest h.records h.long h.whole)
@@ -98,7 +105,8 @@ module _ (size : IdSize) (bytes rest : List ℕ) (strings : List Text) (classes 
 
   -- one record more was read
   pub step : (tag : ℕ) (body after : List ℕ) → BeginsWithRecord size rest tag body after
-      → IsReadSoFar size bytes after (strings ++ texts_of size (length bytes - length rest) tag body) (classes ++ loads_of size tag body) (spans ++ spans_of (length bytes - length rest) tag body)
+      → IsReadSoFar size bytes after (strings ++ texts_of size (length bytes - length rest) tag body) (classes ++ loads_of size tag body)
+      (spans ++ spans_of (length bytes - length rest) tag body)
   step tag body after f =
       let r : Record = f.begins.r in
       record {
@@ -121,12 +129,17 @@ module _ (size : IdSize) (bytes rest : List ℕ) (strings : List Text) (classes 
   is_whole header none = record {
     header = header;
     records = h.records;
-    whole = record { whole = h.whole ∙ ap (λ (xs : List ℕ). flat_map record_text h.records ++ xs) none ∙ append-nil (flat_map record_text h.records); each = h.each };
+    whole = record {
+      whole = h.whole ∙ ap (λ (xs : List ℕ). flat_map record_text h.records ++ xs) none ∙ append-nil (flat_map record_text h.records);
+      each =
+          h.each;
+    };
     strings_are = h.texts_are;
     loads_are = h.loads_are;
     spans = h.spans_are;
   }
 
 -- a record that is whole, and shorter than its fields
-pub is_short : (size : IdSize) (rest : List ℕ) (tag : ℕ) (body after : List ℕ) → BeginsWithFramed rest tag body after → length body < least_body size tag → IsStuckRecord size rest ShortRecord
+pub is_short : (size : IdSize) (rest : List ℕ) (tag : ℕ) (body after : List ℕ) → BeginsWithFramed rest tag body after → length body < least_body size tag
+    → IsStuckRecord size rest ShortRecord
 is_short size rest tag body after f less = IsStuckRecord.short f.r after f.framed f.whole (rw (f.tag_is, f.body_is) less)

@@ -23,7 +23,8 @@ room k l less = omega (arith, rank-le l.strength)
 less_deficit : (ks : List Reached) (o : ℕ) (k : Reached) → o < length ks → rank_at ks o < rank k.strength → deficit_of (set ks o k) < deficit_of ks
 less_deficit ks o k lt more = omega (arith, sum_by-set (λ k. 5 - rank k.strength) ks o k unreached lt, room (reached_at ks o) k more)
 
-pub is_accepted : (g : Standing) (entries : List MarkedEdge) (ks ks' : List Reached) (offers offers' : List Offer) (changes changes' : List StrengthChange) (f : Offer) (stamp : ℕ)
+pub is_accepted : (g : Standing) (entries : List MarkedEdge) (ks ks' : List Reached) (offers offers' : List Offer) (changes changes' : List StrengthChange)
+    (f : Offer) (stamp : ℕ)
     → f.target < length ks
     → ks' ≡ set ks f.target (kept_by f stamp)
     → rank_at ks f.target < rank f.strength

@@ -39,7 +39,8 @@ before_trans a b c (inr x) (inr y) = inr (omega (arith, x.0, y.0), omega (arith,
 abbrev pub by_root : ℕ → ℕ → Offer
 by_root o n = record { target = o; strength = strengths.Strong; support = supports.Root n }
 
-module _ (r r' : Rows) (same : r' ≡ r) (laws : AreRows r') (ks : List Reached) (o i : ℕ) (m : MarkedRoot) (lt : i < length (r.roots o)) (is : slice_get (r'.roots o) i ≡ Some m) (x : Offer) (h : IsBestSoFar r.standing ks o (take i (r.roots o)) [] x) where
+module _ (r r' : Rows) (same : r' ≡ r) (laws : AreRows r') (ks : List Reached) (o i : ℕ) (m : MarkedRoot) (lt : i < length (r.roots o))
+    (is : slice_get (r'.roots o) i ≡ Some m) (x : Offer) (h : IsBestSoFar r.standing ks o (take i (r.roots o)) [] x) where
   laws_here : AreRows r
   laws_here = subst AreRows same laws
 
@@ -51,7 +52,8 @@ module _ (r r' : Rows) (same : r' ≡ r) (laws : AreRows r') (ks : List Reached)
     target = refl;
     backed =
         let c : Contains (r.roots o) m = Contains-slice_get (r.roots o) i m lt is_here in
-        let there : m.root ≡ record { number = m.root.number; target = o } = ap (λ (t : ℕ). record { number = m.root.number; target = t }) (laws_here.root_target o m c) in
+        let there : m.root ≡ record { number = m.root.number; target = o } = ap (λ (t : ℕ). record { number = m.root.number; target = t })
+        (laws_here.root_target o m c) in
         (subst (λ (x : RootEntry). Contains r.standing.roots x) there (laws_here.root_stands o m c stands), refl);
     no_less = omega (arith, rank-le (reached_at ks o).strength);
     in_order = λ le. tt;
@@ -72,7 +74,8 @@ module _ (r r' : Rows) (same : r' ≡ r) (laws : AreRows r') (ks : List Reached)
     by_entries = h.by_entries;
   })
 
-module _ (r r' : Rows) (same : r' ≡ r) (laws : AreRows r') (ks : List Reached) (o i : ℕ) (y : MarkedEdge) (lt : i < length (r.into o)) (is : slice_get (r'.into o) i ≡ Some y) where
+module _ (r r' : Rows) (same : r' ≡ r) (laws : AreRows r') (ks : List Reached) (o i : ℕ) (y : MarkedEdge) (lt : i < length (r.into o))
+    (is : slice_get (r'.into o) i ≡ Some y) where
   laws_in : AreRows r
   laws_in = subst AreRows same laws
 
@@ -82,7 +85,8 @@ module _ (r r' : Rows) (same : r' ≡ r) (laws : AreRows r') (ks : List Reached)
   pub in_within : (n : ℕ) → n ≡ r.objects → o < r.objects → IsEdgeWithin n y
   in_within n e o_lt = record { source = rw e (laws_in.into_source o y is_in); target = rw (e, into_target r laws_in o y is_in) o_lt }
 
-  module _ (mode : Mode) (is_mode : mode ≡ r.standing.mode) (marks : List MarkedRoot) (x x' : Offer) (h : IsBestSoFar r.standing ks o marks (take i (r.into o)) x) (least : rank x.strength ≤ rank x'.strength)
+  module _ (mode : Mode) (is_mode : mode ≡ r.standing.mode) (marks : List MarkedRoot) (x x' : Offer)
+      (h : IsBestSoFar r.standing ks o marks (take i (r.into o)) x) (least : rank x.strength ≤ rank x'.strength)
       (covers : y.stands ≡ true → PassesOn mode (reached_at ks y.edge.source) → rank (offered_strength ks y.edge) ≤ rank x'.strength)
       (which : (x' ≡ x) ⊎ IsBetterBy mode ks y x x') where
     target : x'.target ≡ o

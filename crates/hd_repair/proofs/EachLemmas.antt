@@ -1,4 +1,5 @@
-use Rattle.std.proofs.Common.{◌≡◌, ◌∙◌, ℕ, suc, ◌+◌, ◌<◌, ◌≤◌, ◌⊎◌, inl, inr, List, Contains, length, drop, get_or, refl, sym, subst, arith, true, drop-cons, add-one, length-drop}
+use Rattle.std.proofs.Common.{◌≡◌, ◌∙◌, ℕ, suc, ◌+◌, ◌<◌, ◌≤◌, ◌⊎◌, inl, inr, List, Contains, length, drop, get_or, refl, sym, subst, arith, true, drop-cons}
+use Rattle.std.proofs.Common.{add-one, length-drop}
 use Rattle.hd_terms.specs.Settled.{Reached}
 use Rattle.hd_terms.specs.Ranks.{rank}
 use Rattle.hd_terms.specs.Paths.{Standing}
@@ -15,7 +16,8 @@ pub from_place : (xs : List ℕ) (i d x : ℕ) → i < length xs → Contains (d
 from_place xs i d x lt c = rw add-one (cons_cases (get_or xs i d) (drop (suc i) xs) x (subst (λ (zs : List ℕ). Contains zs x) (drop-cons xs i d lt) c))
 
 -- one more object has its best offer
-module _ (r : Rows) (laws : AreRows r) (ks : List Reached) (xs ys : List ℕ) (o : ℕ) (part : (t : ℕ) → Contains xs t → (t ≡ o) ⊎ Contains ys t) (offers : List Offer) (h : IsSpreading r.standing ks offers (RootOn xs) (EdgeTo xs))
+module _ (r : Rows) (laws : AreRows r) (ks : List Reached) (xs ys : List ℕ) (o : ℕ) (part : (t : ℕ) → Contains xs t → (t ≡ o) ⊎ Contains ys t)
+    (offers : List Offer) (h : IsSpreading r.standing ks offers (RootOn xs) (EdgeTo xs))
     (x : Offer) (best : IsBestSoFar r.standing ks o (r.roots o) (r.into o) x) where
   still_done : (new : List Offer) → AddsOffer offers new x → (t n : ℕ) → IsDone ks offers t n → IsDone ks new t n
   still_done new p t n (inl le) = inl le
@@ -46,13 +48,15 @@ module _ (r : Rows) (laws : AreRows r) (ks : List Reached) (xs ys : List ℕ) (o
       | inr done ↦ inr (λ q. still_done new p e.target (rank (offered_strength ks e)) (done q))
       | inl to_do ↦ elim (part e.target to_do) [
         | inr later ↦ inl later
-        | inl same ↦ inr (λ q. offered new p e.target (rank (offered_strength ks e)) same (best.by_entries (record { edge = e; stands = true }) (rw (← same) (into_all r laws e stands)) refl q))
+        | inl same ↦ inr (λ q. offered new p e.target (rank (offered_strength ks e)) same
+            (best.by_entries (record { edge = e; stands = true }) (rw (← same) (into_all r laws e stands)) refl q))
       ]
     ];
   }
 
 -- in the end nothing is to do
-pub none_to_do : (g : Standing) (ks : List Reached) (offers : List Offer) (xs : List ℕ) → ((x : ℕ) → Contains xs x → ⊥) → IsSpreading g ks offers (RootOn xs) (EdgeTo xs) → IsSpreading g ks offers NoRoot NoEdge
+pub none_to_do : (g : Standing) (ks : List Reached) (offers : List Offer) (xs : List ℕ) → ((x : ℕ) → Contains xs x → ⊥)
+    → IsSpreading g ks offers (RootOn xs) (EdgeTo xs) → IsSpreading g ks offers NoRoot NoEdge
 none_to_do g ks offers xs none h = record {
   supported = h.supported;
   in_order = h.in_order;

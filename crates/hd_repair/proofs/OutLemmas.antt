@@ -11,7 +11,8 @@ use Rattle.hd_repair.specs.Offering.{AddsOffer}
 use Rattle.hd_repair.specs.Spreading.{AddsOffers, IsOfferOf, IsEdgeWithin, offered_strength, rank_at}
 
 -- one more entry is looked at
-module _ (r : Rows) (laws : AreRows r) (ks : List Reached) (o : ℕ) (es : List MarkedEdge) (old new : List Offer) (h : AddsOffers r.standing ks o es old new) (y : MarkedEdge) (is : Contains (r.out o) y) where
+module _ (r : Rows) (laws : AreRows r) (ks : List Reached) (o : ℕ) (es : List MarkedEdge) (old new : List Offer) (h : AddsOffers r.standing ks o es old new)
+    (y : MarkedEdge) (is : Contains (r.out o) y) where
   pub adds : (new' : List Offer) (x : Offer) → IsOfferOf ks y x → AddsOffer new new' x → AddsOffers r.standing ks o (es ++ y ∷ []) old new'
   adds new' x offer p =
       let some : 1 ≤ rank x.strength = let more : rank_at ks y.edge.target < rank (offered_strength ks y.edge) = offer.more in rw offer.is (omega arith) in
@@ -29,7 +30,11 @@ module _ (r : Rows) (laws : AreRows r) (ks : List Reached) (o : ℕ) (es : List 
           })
         ];
         done = λ z c stands. elim (Contains-push_cases es y z c) [
-          | inl before ↦ elim (h.done z before stands) [ inl le ↦ inl le | inr f ↦ inr (record { offer = f.offer; made = p.kept f.offer f.made; to_object = f.to_object; enough = f.enough }) ]
+          | inl before ↦ elim (h.done z before stands) [
+            | inl le ↦ inl le
+            | inr f ↦
+                inr (record { offer = f.offer; made = p.kept f.offer f.made; to_object = f.to_object; enough = f.enough })
+          ]
           | inr same ↦ rw (← same) (inr (record { offer = x; made = p.there some; to_object = rw offer.is refl; enough = rw offer.is (omega arith) }))
         ];
         count = omega (arith, h.count, p.count, length_push es y);
@@ -53,7 +58,8 @@ pub take_one_more : {X : Type 0} (xs : List X) (i : ℕ) (y : X) → i < length 
 take_one_more xs i y lt e = take_more xs i y lt ∙ ap (λ (z : _). take i xs ++ z ∷ []) (get_or_from_slice_get xs i y y e)
 
 -- the step of the loop over out-edges
-module _ (r r' : Rows) (same : r' ≡ r) (laws : AreRows r') (ks : List Reached) (o i : ℕ) (y : MarkedEdge) (lt : i < length (r.out o)) (is : slice_get (r'.out o) i ≡ Some y) where
+module _ (r r' : Rows) (same : r' ≡ r) (laws : AreRows r') (ks : List Reached) (o i : ℕ) (y : MarkedEdge) (lt : i < length (r.out o))
+    (is : slice_get (r'.out o) i ≡ Some y) where
   laws_here : AreRows r
   laws_here = subst AreRows same laws
 
@@ -68,7 +74,10 @@ module _ (r r' : Rows) (same : r' ≡ r) (laws : AreRows r') (ks : List Reached)
 
   module _ (old new new' : List Offer) (h : AddsOffers r.standing ks o (take i (r.out o)) old new) where
     pub step_some : (x : Offer) → IsOfferOf ks y x → AddsOffer new new' x → AddsOffers r.standing ks o (take (i + 1) (r.out o)) old new'
-    step_some x offer p = rw (take_one_more (r.out o) i y lt is_here) (adds r laws_here ks o (take i (r.out o)) old new h y (Contains-slice_get (r.out o) i y lt is_here) new' x offer p)
+    step_some x offer p = rw (take_one_more (r.out o) i y lt is_here)
+        (adds r laws_here ks o (take i (r.out o)) old new h y (Contains-slice_get (r.out o) i y lt is_here) new' x offer p)
 
-    pub step_none : (y.stands ≡ true → rank (offered_strength ks y.edge) ≤ rank_at ks y.edge.target) → new' ≡ new → AddsOffers r.standing ks o (take (i + 1) (r.out o)) old new'
-    step_none none e = rw (e, take_one_more (r.out o) i y lt is_here) (adds_none r laws_here ks o (take i (r.out o)) old new h y (Contains-slice_get (r.out o) i y lt is_here) none)
+    pub step_none : (y.stands ≡ true → rank (offered_strength ks y.edge) ≤ rank_at ks y.edge.target) → new' ≡ new
+        → AddsOffers r.standing ks o (take (i + 1) (r.out o)) old new'
+    step_none none e = rw (e, take_one_more (r.out o) i y lt is_here)
+        (adds_none r laws_here ks o (take i (r.out o)) old new h y (Contains-slice_get (r.out o) i y lt is_here) none)

@@ -37,7 +37,8 @@ order_same : (ks ks' : List Reached) (o : ℕ) → ((x : ℕ) → (reached_at ks
 order_same ks ks' o strengths stamps supports.Nothing h = h
 order_same ks ks' o strengths stamps (supports.Root n) h = h
 order_same ks ks' o strengths stamps (supports.Edge source slot) h =
-    before_same (reached_at ks source) (reached_at ks o) (reached_at ks' source) (reached_at ks' o) (strengths source) (stamps source) (strengths o) (stamps o) h
+    before_same (reached_at ks source) (reached_at ks o) (reached_at ks' source) (reached_at ks' o) (strengths source) (stamps source) (strengths o)
+    (stamps o) h
 
 -- the target of an offer takes it as its support
 module _ (r : Rows) (laws : AreRows r) (ks ks' : List Reached) (xs ys : List ℕ) (o : ℕ) (part : (t : ℕ) → Contains xs t → (t ≡ o) ⊎ Contains ys t)
@@ -127,7 +128,8 @@ module _ (r : Rows) (laws : AreRows r) (ks ks' : List Reached) (xs ys : List ℕ
 pub one_taken : (r : Rows) → AreRows r → (ks ks' : List Reached) (xs ys : List ℕ) (o : ℕ) → ((t : ℕ) → Contains xs t → (t ≡ o) ⊎ Contains ys t)
     → (offers offers' : List Offer) → IsSpreading r.standing ks offers (RootOn xs) (EdgeTo xs) → (x : Offer)
     → IsBestSoFar r.standing ks o (r.roots o) (r.into o) x → IsTaken ks ks' offers offers' x → IsSpreading r.standing ks' offers' (RootOn ys) (EdgeTo ys)
-one_taken r laws ks ks' xs ys o part offers offers' h x best (is_offered more same adds) = rw same (one_more r laws ks xs ys o part offers h x best offers' adds)
+one_taken r laws ks ks' xs ys o part offers offers' h x best (is_offered more same adds) =
+    rw same (one_more r laws ks xs ys o part offers h x best offers' adds)
 one_taken r laws ks ks' xs ys o part offers offers' h x best (is_held no_more count same here others) = rw same
     (one_held r laws ks ks' xs ys o part offers h x best no_more here others)
 

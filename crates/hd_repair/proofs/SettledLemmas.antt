@@ -24,13 +24,15 @@ not_offered : (ks : List Reached) (o n : ℕ) → IsDone ks [] o n → n ≤ ran
 not_offered ks o n (inl le) = le
 not_offered ks o n (inr f) = absurd (none_left o n f)
 
-edges_done : (g : Standing) (ks : List Reached) → IsSpreading g ks [] NoRoot NoEdge → (e : Edge) → Contains g.edges e → PassesOn g.mode (reached_at ks e.source) → rank (offered_strength ks e) ≤ rank_at ks e.target
+edges_done : (g : Standing) (ks : List Reached) → IsSpreading g ks [] NoRoot NoEdge → (e : Edge) → Contains g.edges e → PassesOn g.mode (reached_at ks e.source)
+    → rank (offered_strength ks e) ≤ rank_at ks e.target
 edges_done g ks h e is p = elim (h.by_edges e is) [ inl none ↦ absurd none | inr done ↦ not_offered ks e.target (rank (offered_strength ks e)) (done p) ]
 
 roots_done : (g : Standing) (ks : List Reached) → IsSpreading g ks [] NoRoot NoEdge → (r : RootEntry) → Contains g.roots r → 5 ≤ rank_at ks r.target
 roots_done g ks h r is = elim (h.by_roots r is) [ inl none ↦ absurd none | inr done ↦ not_offered ks r.target 5 done ]
 
-settled_support : (g : Standing) (ks : List Reached) → IsSpreading g ks [] NoRoot NoEdge → (o : ℕ) (s : Support) → IsBacked g ks o (reached_at ks o).strength s → IsInOrder ks (reached_at ks o) s → IsSupported g ks o s
+settled_support : (g : Standing) (ks : List Reached) → IsSpreading g ks [] NoRoot NoEdge → (o : ℕ) (s : Support) → IsBacked g ks o (reached_at ks o).strength s
+    → IsInOrder ks (reached_at ks o) s → IsSupported g ks o s
 settled_support g ks h o supports.Nothing b i = b
 settled_support g ks h o (supports.Root n) b i = b
 settled_support g ks h o (supports.Edge source slot) (e, b) i =
@@ -51,7 +53,8 @@ settled_support g ks h o (supports.Edge source slot) (e, b) i =
 pub settled_in_the_end : (g : Standing) (ks : List Reached) → IsSpreading g ks [] NoRoot NoEdge → Settled g ks
 settled_in_the_end g ks h = record {
   supported = λ o. settled_support g ks h o (reached_at ks o).support (h.supported o) (h.in_order o);
-  by_roots = λ r is. same_rank (reached_at ks r.target).strength strengths.Strong (omega (arith, roots_done g ks h r is, rank-le (reached_at ks r.target).strength));
+  by_roots = λ r is. same_rank (reached_at ks r.target).strength strengths.Strong
+      (omega (arith, roots_done g ks h r is, rank-le (reached_at ks r.target).strength));
   by_edges = edges_done g ks h;
 }
 
@@ -86,8 +89,15 @@ module _ (g : Standing) (ks ks' : List Reached) (t : ℕ) (k : Reached) (more : 
     | inr other ↦ rw (others o other) (omega arith)
   ]
 
-  more_offered : (source : ℕ) (e : Edge) → rank (weaker_of (reached_at ks source).strength (given_by e.kind)) ≤ rank (weaker_of (reached_at ks' source).strength (given_by e.kind))
-  more_offered source e = omega (arith, raises source, rank-weaker (reached_at ks source).strength (given_by e.kind), rank-weaker (reached_at ks' source).strength (given_by e.kind))
+  more_offered : (source : ℕ) (e : Edge) → rank (weaker_of (reached_at ks source).strength (given_by e.kind)) ≤ rank
+      (weaker_of (reached_at ks' source).strength (given_by e.kind))
+  more_offered source e = omega (
+    arith,
+    raises source,
+    rank-weaker (reached_at ks source).strength (given_by e.kind),
+    rank-weaker
+        (reached_at ks' source).strength (given_by e.kind),
+  )
 
   pub backed_still : (o : ℕ) (s : Strength) (by : Support) → IsBacked g ks o s by → IsBacked g ks' o s by
   backed_still o s supports.Nothing h = h
@@ -109,7 +119,9 @@ module _ (g : Standing) (ks ks' : List Reached) (t : ℕ) (k : Reached) (more : 
   order_still x o supports.Nothing b h = tt
   order_still x o (supports.Root n) b h = tt
   order_still x o (supports.Edge source slot) (e, b) h = elim (cases_eq source t) [
-    | inl same ↦ rw (same, here) (inl (let le : rank x.strength ≤ rank_at ks t = rw (ap (rank_at ks) (sym same)) (omega (arith, b.enough, weaker-le_left (reached_at ks source).strength (given_by e.kind))) in omega arith))
+    | inl same ↦ rw (same, here)
+        (inl (let le : rank x.strength ≤ rank_at ks t =
+        rw (ap (rank_at ks) (sym same)) (omega (arith, b.enough, weaker-le_left (reached_at ks source).strength (given_by e.kind))) in omega arith))
     | inr other ↦ rw (others source other) h
   ]
 
@@ -127,7 +139,8 @@ module _ (g : Standing) (ks ks' : List Reached) (offers offers' : List Offer) (f
   done_still : (o n : ℕ) → IsDone ks offers o n → IsDone ks' offers' o n
   done_still o n (inl le) = inl (omega (arith, raises g ks ks' f.target k more here others o))
   done_still o n (inr x) = elim (left x.offer x.made) [
-    | inl same ↦ inl (let l : rank_at ks' o ≡ rank f.strength = rw (← x.to_object, same, here) refl in rw l (rw (ap (λ (y : Offer). rank y.strength) (sym same)) x.enough))
+    | inl same ↦ inl (let l : rank_at ks' o ≡ rank f.strength = rw (← x.to_object, same, here) refl in
+        rw l (rw (ap (λ (y : Offer). rank y.strength) (sym same)) x.enough))
     | inr still ↦ inr (record { offer = x.offer; made = still; to_object = x.to_object; enough = x.enough })
   ]
 
@@ -146,11 +159,13 @@ module _ (g : Standing) (ks ks' : List Reached) (offers offers' : List Offer) (f
   take = record {
     supported = λ o. elim (cases_eq o f.target) [
       | inl same ↦ rw (same, here) (backed_still g ks ks' f.target k more here others f.target f.strength f.support (h.backed f is))
-      | inr other ↦ rw (others o other) (backed_still g ks ks' f.target k more here others o (reached_at ks o).strength (reached_at ks o).support (h.supported o))
+      | inr other ↦ rw (others o other) (backed_still g ks ks' f.target k more here others o (reached_at ks o).strength (reached_at ks o).support
+          (h.supported o))
     ];
     in_order = λ o. elim (cases_eq o f.target) [
       | inl same ↦ rw (same, here) (new_order f.support refl (h.backed f is))
-      | inr other ↦ rw (others o other) (order_still g ks ks' f.target k more here others (reached_at ks o) o (reached_at ks o).support (h.supported o) (h.in_order o))
+      | inr other ↦ rw (others o other) (order_still g ks ks' f.target k more here others (reached_at ks o) o (reached_at ks o).support (h.supported o)
+          (h.in_order o))
     ];
     backed = λ x made. backed_still g ks ks' f.target k more here others x.target x.strength x.support (h.backed x (within x made));
     by_roots = λ r stands. elim (h.by_roots r stands) [ inl none ↦ absurd none | inr done ↦ inr (done_still r.target 5 done) ];

@@ -62,7 +62,8 @@ pub record IsSpreading (g : Standing) (ks : List Reached) (offers : List Offer) 
   pub in_order : (o : ℕ) → IsInOrder ks (reached_at ks o) (reached_at ks o).support
   pub backed : (f : Offer) → Contains offers f → IsBacked g ks f.target f.strength f.support
   pub by_roots : (r : RootEntry) → Contains g.roots r → RootToDo r ⊎ IsDone ks offers r.target 5
-  pub by_edges : (e : Edge) → Contains g.edges e → EdgeToDo e ⊎ (PassesOn g.mode (reached_at ks e.source) → IsDone ks offers e.target (rank (offered_strength ks e)))
+  pub by_edges : (e : Edge) → Contains g.edges e → EdgeToDo e
+      ⊎ (PassesOn g.mode (reached_at ks e.source) → IsDone ks offers e.target (rank (offered_strength ks e)))
 
 -- nothing is left to look at
 abbrev pub NoRoot : RootEntry → Type 0
@@ -125,7 +126,8 @@ abbrev pub change_by : List Reached → Offer → StrengthChange
 change_by ks f = record { object = f.target; before = (reached_at ks f.target).strength; after = f.strength }
 
 -- an offer is accepted, and what that makes possible is offered
-pub record IsAccepted (g : Standing) (entries : List MarkedEdge) (ks ks' : List Reached) (offers offers' : List Offer) (changes changes' : List StrengthChange) (f : Offer) : Type 0 where
+pub record IsAccepted (g : Standing) (entries : List MarkedEdge) (ks ks' : List Reached) (offers offers' : List Offer) (changes changes' : List StrengthChange)
+    (f : Offer) : Type 0 where
   pub more : rank_at ks f.target < rank f.strength
   pub stamp : ℕ
   pub here : reached_at ks' f.target ≡ record { strength = f.strength; support = f.support; stamp = stamp }
@@ -160,7 +162,8 @@ pub record IsBestSoFar (g : Standing) (ks : List Reached) (o : ℕ) (marks : Lis
   pub no_less : rank_at ks o ≤ rank x.strength
   pub in_order : rank x.strength ≤ rank_at ks o → IsInOrder ks (reached_at ks o) x.support
   pub by_marks : (m : MarkedRoot) → Contains marks m → m.stands ≡ true → 5 ≤ rank x.strength
-  pub by_entries : (y : MarkedEdge) → Contains entries y → y.stands ≡ true → PassesOn g.mode (reached_at ks y.edge.source) → rank (offered_strength ks y.edge) ≤ rank x.strength
+  pub by_entries : (y : MarkedEdge) → Contains entries y → y.stands ≡ true → PassesOn g.mode (reached_at ks y.edge.source)
+      → rank (offered_strength ks y.edge) ≤ rank x.strength
 
 -- an object comes before the source of a support
 pub record ComesBefore (ks : List Reached) (o : ℕ) (by : Support) : Type 0 where

@@ -1,5 +1,6 @@
 -- Numbers by objects: sorted, and found by their places.
-use Rattle.std.proofs.Common.{◌≡◌, ◌∙◌, inl, inr, ℕ, ◌+◌, ◌-◌, ◌<◌, ◌≤◌, ◌==◌, nat_lt, nat_le, List, [], ◌∷◌, ◌++◌, length, map, take, drop, get_or, cond, not, Bool, true, false, Option, Some, None, refl, sym, ap, arith, append-nil, add-zero, slice_get}
+use Rattle.std.proofs.Common.{◌≡◌, ◌∙◌, inl, inr, ℕ, ◌+◌, ◌-◌, ◌<◌, ◌≤◌, ◌==◌, nat_lt, nat_le, List, [], ◌∷◌, ◌++◌, length, map, take, drop, get_or, cond, not}
+use Rattle.std.proofs.Common.{Bool, true, false, Option, Some, None, refl, sym, ap, arith, append-nil, add-zero, slice_get}
 use Rattle.std.specs.Prelude.{◌&&◌}
 use Rattle.std.specs.Option.{option_map, option_map_or}
 use Rattle.std.specs.List.{filter, filter_map, cons_option, enumerate_from, insert, All}
@@ -38,13 +39,16 @@ module _ {X : Type 0} (p : X → Bool) where
       let rest : List X = drop (end - start) (drop start xs) in
       let front_len : length (take start xs) ≡ start = length-take-le start xs (omega arith) in
       let row_len : length row ≡ end - start = length-take-le (end - start) (drop start xs) (omega (arith, length-drop start xs)) in
-      let rest_is : rest ≡ drop end xs = drop-drop (end - start) start xs ∙ (let e : start + (end - start) ≡ end = omega arith in ap (λ (n : ℕ). drop n xs) e) in
-      let whole : xs ≡ take start xs ++ (row ++ rest) = sym (ap (λ (ys : List X). take start xs ++ ys) (take-append-drop (end - start) (drop start xs)) ∙ take-append-drop start xs) in
+      let rest_is : rest ≡ drop end xs = drop-drop (end - start) start xs
+      ∙ (let e : start + (end - start) ≡ end = omega arith in ap (λ (n : ℕ). drop n xs) e) in
+      let whole : xs ≡ take start xs ++ (row ++ rest) = sym (ap (λ (ys : List X). take start xs ++ ys) (take-append-drop (end - start) (drop start xs))
+      ∙ take-append-drop start xs) in
       let none : filter p (take start xs) ≡ [] =
       filter_fails (take start xs) (λ k d lt. let k_lt : k < start = omega arith in ap p (get_or-take start xs k d k_lt) ∙ before k d k_lt) in
       let all : filter p row ≡ row =
       filter_keeps row
-      (λ k d lt. let k_lt : k < end - start = omega arith in ap p (get_or-take (end - start) (drop start xs) k d k_lt ∙ get_or-drop start xs k d) ∙ inside (start + k) d (omega arith) (omega arith)) in
+      (λ k d lt. let k_lt : k < end - start = omega arith in ap p (get_or-take (end - start) (drop start xs) k d k_lt ∙ get_or-drop start xs k d)
+      ∙ inside (start + k) d (omega arith) (omega arith)) in
       let no_more : filter p rest ≡ [] =
       ap (filter p) rest_is
       ∙ filter_fails (drop end xs) (λ k d lt. ap p (get_or-drop end xs k d) ∙ after (end + k) d (omega arith) (omega (arith, length-drop end xs))) in
@@ -65,7 +69,8 @@ same-by-order a o = elim (cases_order a o) [
 ]
 
 -- numbers that are sorted by their objects, those of one object kept in order
-pub same_numbers : (before after : List NumberOn) → IsStableByKey (λ (n : NumberOn). n.object) nat_cmp before after → (o : ℕ) → numbers_on after o ≡ numbers_on before o
+pub same_numbers : (before after : List NumberOn) → IsStableByKey (λ (n : NumberOn). n.object) nat_cmp before after → (o : ℕ)
+    → numbers_on after o ≡ numbers_on before o
 same_numbers before after stable o =
     let it : NumberOn = record { object = o; number = 0 } in
     let own : NumberOn → Bool = λ n. n.object == o in
@@ -81,7 +86,12 @@ pub row_found : (pairs : List NumberOn) (o start end : ℕ) → start ≤ length
 row_found pairs o start end start_le end_le below upto =
     let none : NumberOn = record { object = 0; number = 0 } in
     let order : start ≤ end = elim (cases_lt end start) [
-      | inl lt ↦ absurd (omega (arith, ltb-true (get_or pairs end none).object o (below.0 end none (omega arith) lt), leb-false (get_or pairs end none).object o (upto.1 end none (omega arith) (omega arith))))
+      | inl lt ↦ absurd (omega (
+        arith,
+        ltb-true (get_or pairs end none).object o (below.0 end none (omega arith) lt),
+        leb-false (get_or pairs end none).object o
+            (upto.1 end none (omega arith) (omega arith)),
+      ))
       | inr le ↦ le
     ] in
     record {
@@ -91,7 +101,13 @@ row_found pairs o start end start_le end_le below upto =
           ap (map (λ (n : NumberOn). n.number))
           (filter_between (λ (n : NumberOn). n.object == o) pairs start end order end_le
           (λ k d lt. ne_eqb (get_or pairs k d).object o (λ e. omega (arith, ltb-true (get_or pairs k d).object o (below.0 k d (omega arith) lt))))
-          (λ k d le lt. eq-eqb (get_or pairs k d).object o (omega (arith, ltb-false (get_or pairs k d).object o (below.1 k d le (omega arith)), leb-true (get_or pairs k d).object o (upto.0 k d (omega arith) lt))))
+          (λ k d le lt. eq-eqb (get_or pairs k d).object o
+          (omega (
+            arith,
+            ltb-false (get_or pairs k d).object o (below.1 k d le (omega arith)),
+            leb-true (get_or pairs k d).object o
+                (upto.0 k d (omega arith) lt),
+          )))
           (λ k d le lt. ne_eqb (get_or pairs k d).object o (λ e. omega (arith, leb-false (get_or pairs k d).object o (upto.1 k d le lt)))));
     }
 
@@ -117,9 +133,13 @@ module _ (pairs : List NumberOn) (pair : NumberOn) (at : ℕ) (end : IsEnd pairs
   own-numbers o true is =
       let p : NumberOn → Bool = λ n. n.object == o in
       let none : filter p (drop at pairs) ≡ [] =
-      filter_fails p (drop at pairs) (λ k d lt. ap p (get_or-drop at pairs k d) ∙ ne_eqb (get_or pairs (at + k) d).object o (λ e. omega (arith, eqb-true pair.object o is, end.behind (at + k) d (omega arith) (omega (arith, length-drop at pairs))))) in
+      filter_fails p (drop at pairs)
+      (λ k d lt. ap p (get_or-drop at pairs k d)
+      ∙ ne_eqb (get_or pairs (at + k) d).object o
+      (λ e. omega (arith, eqb-true pair.object o is, end.behind (at + k) d (omega arith) (omega (arith, length-drop at pairs))))) in
       let all : filter p pairs ≡ filter p (take at pairs) =
-      ap (filter p) (sym (take-append-drop at pairs)) ∙ filter-append p (take at pairs) (drop at pairs) ∙ ap (λ (ys : List NumberOn). filter p (take at pairs) ++ ys) none ∙ append-nil (filter p (take at pairs)) in
+      ap (filter p) (sym (take-append-drop at pairs)) ∙ filter-append p (take at pairs) (drop at pairs)
+      ∙ ap (λ (ys : List NumberOn). filter p (take at pairs) ++ ys) none ∙ append-nil (filter p (take at pairs)) in
       filter-append p (take at pairs) (pair ∷ drop at pairs)
       ∙ ap (λ (b : Bool). filter p (take at pairs) ++ cond b (pair ∷ filter p (drop at pairs)) (filter p (drop at pairs))) is
       ∙ ap (λ (ys : List NumberOn). filter p (take at pairs) ++ pair ∷ ys) none
@@ -155,7 +175,9 @@ pub record AreRootNumbers (dump : Dump) (r : ℕ) (numbers : List NumberOn) : Ty
 enumerate-push : {X : Type 0} (n : ℕ) (xs : List X) (x : X) → enumerate_from n (xs ++ x ∷ []) ≡ enumerate_from n xs ++ (n + length xs, x) ∷ []
 enumerate-push n [] x = ap (λ (m : ℕ). (m, x) ∷ []) (sym (add-zero n))
 enumerate-push n (y ∷ ys) x =
-    ap (λ (ns : List (ℕ × _)). (n, y) ∷ ns) (enumerate-push (n + 1) ys x ∙ (let e : n + 1 + length ys ≡ n + length (y ∷ ys) = omega arith in ap (λ (m : ℕ). enumerate_from (n + 1) ys ++ (m, x) ∷ []) e))
+    ap (λ (ns : List (ℕ × _)). (n, y) ∷ ns)
+    (enumerate-push (n + 1) ys x
+    ∙ (let e : n + 1 + length ys ≡ n + length (y ∷ ys) = omega arith in ap (λ (m : ℕ). enumerate_from (n + 1) ys ++ (m, x) ∷ []) e))
 
 -- the list of numbers with an entry more
 filter_map-more : {X Y : Type 0} (f : X → Option Y) (xs : List X) (x : X) → filter_map f (xs ++ x ∷ []) ≡ filter_map f xs ++ cons_option (f x) []
@@ -164,11 +186,14 @@ filter_map-more f xs x = filter_map-append f xs (x ∷ [])
 module _ (dump : Dump) (r : ℕ) (root : Root) (at : slice_get dump.roots r ≡ Some root) where
   entries-more : enumerate_from 0 (take (r + 1) dump.roots) ≡ enumerate_from 0 (take r dump.roots) ++ (r, root) ∷ []
   entries-more =
-      ap (enumerate_from 0) (take_more dump.roots r root (slice_get_within dump.roots r root at) ∙ ap (λ (x : Root). take r dump.roots ++ x ∷ []) (get_or_from_slice_get dump.roots r root root at))
+      ap (enumerate_from 0) (take_more dump.roots r root (slice_get_within dump.roots r root at) ∙ ap (λ (x : Root). take r dump.roots ++ x ∷ [])
+      (get_or_from_slice_get dump.roots r root root at))
       ∙ enumerate-push 0 (take r dump.roots) root
-      ∙ ap (λ (n : ℕ). enumerate_from 0 (take r dump.roots) ++ (n, root) ∷ []) (let len : length (take r dump.roots) ≡ r = length-take-le r dump.roots (omega (arith, slice_get_within dump.roots r root at)) in omega arith)
+      ∙ ap (λ (n : ℕ). enumerate_from 0 (take r dump.roots) ++ (n, root) ∷ [])
+      (let len : length (take r dump.roots) ≡ r = length-take-le r dump.roots (omega (arith, slice_get_within dump.roots r root at)) in omega arith)
 
-  numbers-more : (numbers : List NumberOn) → AreRootNumbers dump r numbers → filter_map (root_number dump) (enumerate_from 0 (take (r + 1) dump.roots)) ≡ numbers ++ cons_option (root_number dump (r, root)) []
+  numbers-more : (numbers : List NumberOn) → AreRootNumbers dump r numbers
+      → filter_map (root_number dump) (enumerate_from 0 (take (r + 1) dump.roots)) ≡ numbers ++ cons_option (root_number dump (r, root)) []
   numbers-more numbers h =
       ap (filter_map (root_number dump)) entries-more
       ∙ filter_map-more (root_number dump) (enumerate_from 0 (take r dump.roots)) (r, root)
@@ -185,18 +210,21 @@ module _ (dump : Dump) (r : ℕ) (root : Root) (at : slice_get dump.roots r ≡ 
   }
 
   -- a root on an object
-  pub roots_more : (numbers : List NumberOn) (o : ℕ) → AreRootNumbers dump r numbers → index_of dump.objects root.id ≡ Some o → AreRootNumbers dump (r + 1) (numbers ++ number_of r o ∷ [])
+  pub roots_more : (numbers : List NumberOn) (o : ℕ) → AreRootNumbers dump r numbers → index_of dump.objects root.id ≡ Some o
+      → AreRootNumbers dump (r + 1) (numbers ++ number_of r o ∷ [])
   roots_more numbers o h some = record {
     are = sym (numbers-more numbers h ∙ ap (λ (t : Option ℕ). numbers ++ cons_option (option_map (λ (target : ℕ). number_of r target) t) []) some);
     few = omega (arith, h.few, length_push numbers (number_of r o));
   }
 
 -- the numbers on an object are those of the roots on it
-number-case : (b : Bool) (r o : ℕ) (ns : List NumberOn) → map (λ (n : NumberOn). n.number) (cond b (number_of r o ∷ ns) ns) ≡ cond b (r ∷ map (λ (n : NumberOn). n.number) ns) (map (λ (n : NumberOn). n.number) ns)
+number-case : (b : Bool) (r o : ℕ) (ns : List NumberOn) → map (λ (n : NumberOn). n.number) (cond b (number_of r o ∷ ns) ns) ≡ cond b
+    (r ∷ map (λ (n : NumberOn). n.number) ns) (map (λ (n : NumberOn). n.number) ns)
 number-case true r o ns = refl
 number-case false r o ns = refl
 
-pub first_parts : {X : Type 0} (b : Bool) (n : ℕ × X) (ns : List (ℕ × X)) → map (λ (m : ℕ × X). m.0) (cond b (n ∷ ns) ns) ≡ cond b (n.0 ∷ map (λ (m : ℕ × X). m.0) ns) (map (λ (m : ℕ × X). m.0) ns)
+pub first_parts : {X : Type 0} (b : Bool) (n : ℕ × X) (ns : List (ℕ × X)) → map (λ (m : ℕ × X). m.0) (cond b (n ∷ ns) ns) ≡ cond b
+    (n.0 ∷ map (λ (m : ℕ × X). m.0) ns) (map (λ (m : ℕ × X). m.0) ns)
 first_parts true n ns = refl
 first_parts false n ns = refl
 
@@ -206,7 +234,8 @@ pub one_number : (o r : ℕ) (t : Option ℕ) (ns : List NumberOn)
 one_number o r None ns = refl
 one_number o r (Some u) ns = number-case (u == o) r u (filter (λ (n : NumberOn). n.object == o) ns)
 
-pub numbers_of_roots : (dump : Dump) (o : ℕ) (ns : List (ℕ × Root)) → numbers_on (filter_map (root_number dump) ns) o ≡ map (λ (n : ℕ × Root). n.0) (filter (is_root_on dump o) ns)
+pub numbers_of_roots : (dump : Dump) (o : ℕ) (ns : List (ℕ × Root)) → numbers_on (filter_map (root_number dump) ns) o ≡ map (λ (n : ℕ × Root). n.0)
+    (filter (is_root_on dump o) ns)
 numbers_of_roots dump o [] = refl
 numbers_of_roots dump o ((r, root) ∷ ns) =
     one_number o r (index_of dump.objects root.id) (filter_map (root_number dump) ns)

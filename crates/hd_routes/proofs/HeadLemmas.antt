@@ -1,5 +1,6 @@
 -- What the parser says of the first bytes of a connection is what these are answered by.
-use Rattle.std.proofs.Common.{◌≡◌, ◌≢◌, ◌<◌, ◌≤◌, ℕ, List, length, drop, sym, ◌∙◌, subst, ap, inl, inr, refl, Result, Err, arith, ◌++◌, length-append, length-take}
+use Rattle.std.proofs.Common.{◌≡◌, ◌≢◌, ◌<◌, ◌≤◌, ℕ, List, length, drop, sym, ◌∙◌, subst, ap, inl, inr, refl, Result, Err, arith, ◌++◌, length-append}
+use Rattle.std.proofs.Common.{length-take}
 use Rattle.std.proofs.lemmas.List.{take_all}
 use Rattle.httparse.specs.declared.Error.{Error}
 use Rattle.httparse.specs.declared.Error.TheVariants as errors

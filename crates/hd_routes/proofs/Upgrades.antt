@@ -32,4 +32,5 @@ pub accepted : (method : List ℕ) (minor : ℕ) (fields : Fields) (accept_key :
     → (is_upgrade method minor fields ≡ true) × HasKey (key_of fields) accept_key
 accepted method minor fields accept_key h =
     by_tests (bytes_eq method (codes "GET")) (minor == 0) (has_token (unwrap_or (header_value fields (codes "Connection")) []) (codes "Upgrade"))
-    (value_is fields (codes "Upgrade") (codes "websocket")) (value_is fields (codes "Sec-WebSocket-Version") (codes "13")) (header_value fields (codes "Sec-WebSocket-Key")) accept_key h
+    (value_is fields (codes "Upgrade") (codes "websocket")) (value_is fields (codes "Sec-WebSocket-Version") (codes "13"))
+    (header_value fields (codes "Sec-WebSocket-Key")) accept_key h

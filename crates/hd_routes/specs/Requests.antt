@@ -1,7 +1,8 @@
 -- What a request head says that counts for its answer.
 -- Source: this project. Upgrades, keys and origins are those of RFC 6455, sections 4.2.1, 4.2.2 and 10.2; the Host is that of RFC
 -- 9110, section 7.2.
-use Rattle.std.specs.Prelude.{◌≡◌, ℕ, Bool, true, false, not, ◌&&◌, ◌||◌, ◌==◌, ◌++◌, if◌then◌else◌, List, [], codes, decimal, bytes_eq, map, take, Option, None, Some, unwrap_or}
+use Rattle.std.specs.Prelude.{◌≡◌, ℕ, Bool, true, false, not, ◌&&◌, ◌||◌, ◌==◌, ◌++◌, if◌then◌else◌, List, [], codes, decimal, bytes_eq, map, take, Option}
+use Rattle.std.specs.Prelude.{None, Some, unwrap_or}
 use Rattle.httparse.specs.declared.spans.HeaderSpan.{HeaderSpan}
 use Rattle.httparse.specs.declared.spans.RequestSpans.{RequestSpans}
 use Rattle.httparse.specs.Grammar.{RequestHead}
@@ -51,7 +52,13 @@ request_of h = record { method = h.method; target = h.target; minor = h.minor; f
 
 -- what the spans of a head in these bytes cover
 abbrev pub spanned : (buf : List ℕ) → List HeaderSpan → RequestSpans → Request
-spanned buf spans r = record { method = span_bytes buf r.method; target = span_bytes buf r.path; minor = r.version; fields = fields_of buf (take r.headers spans) }
+spanned buf spans r = record {
+  method = span_bytes buf r.method;
+  target = span_bytes buf r.path;
+  minor = r.version;
+  fields =
+      fields_of buf (take r.headers spans);
+}
 
 -- the key of an upgrade of version 13, if it has one
 abbrev pub key_of : Fields → Option (List ℕ)

@@ -1,4 +1,5 @@
-use Rattle.std.proofs.Common.{rules, ◌≡◌, ◌∙◌, ℕ, ◌+◌, ◌<◌, ◌≤◌, inl, inr, ◌↔◌, Bool, true, false, IsTrue, List, Contains, length, get_or, leb, Option, None, Some, slice_get, position, refl, sym, ap, subst, arith}
+use Rattle.std.proofs.Common.{rules, ◌≡◌, ◌∙◌, ℕ, ◌+◌, ◌<◌, ◌≤◌, inl, inr, ◌↔◌, Bool, true, false, IsTrue, List, Contains, length, get_or, leb, Option, None}
+use Rattle.std.proofs.Common.{Some, slice_get, position, refl, sym, ap, subst, arith}
 use Rattle.std.specs.Prelude.{◌==◌}
 use Rattle.std.specs.Option.{option_map}
 use Rattle.std.proofs.lemmas.Bool.{cases_eq, eqb-true, le-leb, leb-true}
@@ -48,7 +49,8 @@ read-by : (edge : Option Edge) (read : StandingRead) → option_map read_of edge
 read-by None read is = absurd cc
 read-by (Some e) read is = let same : read_of e ≡ read = cc in (e, refl, same)
 
-pub read_edge : (dump : Dump) (log : List Event) (o i : ℕ) (read : StandingRead) → Some read ≡ read_at dump log o i → (e : Edge) × (edge_at dump log o i ≡ Some e) × (read_of e ≡ read)
+pub read_edge : (dump : Dump) (log : List Event) (o i : ℕ) (read : StandingRead) → Some read ≡ read_at dump log o i → (e : Edge)
+    × (edge_at dump log o i ≡ Some e) × (read_of e ≡ read)
 read_edge dump log o i read is = read-by (edge_at dump log o i) read (sym is)
 
 -- where nothing was read there is no edge
@@ -56,7 +58,8 @@ pub no_edge : (dump : Dump) (log : List Event) (o i : ℕ) → None ≡ read_at 
 no_edge dump log o i none e is = let same : None ≡ Some (read_of e) = none ∙ ap (option_map read_of) is in absurd (cc)
 
 -- what an edge gives its target, by what was read
-pub given_is : (dump : Dump) (log : List Event) (ks : List Reached) (o i : ℕ) (e : Edge) (read : StandingRead) → edge_at dump log o i ≡ Some e → read_of e ≡ read → offered_strength ks e ≡ weaker_of (reached_at ks o).strength (given_by read.kind)
+pub given_is : (dump : Dump) (log : List Event) (ks : List Reached) (o i : ℕ) (e : Edge) (read : StandingRead) → edge_at dump log o i ≡ Some e
+    → read_of e ≡ read → offered_strength ks e ≡ weaker_of (reached_at ks o).strength (given_by read.kind)
 given_is dump log ks o i e read is same =
     ap (λ (p : ℕ). weaker_of (reached_at ks p).strength (given_by e.kind)) (at_source dump log o i e is)
     ∙ ap (λ (r : StandingRead). weaker_of (reached_at ks o).strength (given_by r.kind)) same
@@ -78,16 +81,19 @@ held dump log r o c =
     ap (held_at dump log) number ∙ ap (option_map (λ (y : RootEntry). y.target)) found.2
 
 -- past the last object nothing supports
-pub without_source : (dump : Dump) (log : List Event) (ks : List Reached) (o source : ℕ) (slot : Slot) → length dump.objects ≤ source → (e : Edge) → SupportedBy (standing dump log) ks o source slot e → ⊥
+pub without_source : (dump : Dump) (log : List Event) (ks : List Reached) (o source : ℕ) (slot : Slot) → length dump.objects ≤ source → (e : Edge)
+    → SupportedBy (standing dump log) ks o source slot e → ⊥
 without_source dump log ks o source slot past e s =
     let index = edge_has_index dump log e s.stands in
     omega (arith, (is_at dump log e.source index.0 e index.1).object, s.from_source)
 
 -- a slot of an object by its name, as it is looked up
-module _ (dump : Dump) (log : List Event) (source : ℕ) (slot : Slot) (at : Option ℕ) (first : at ≡ position (λ (s : SlotEntry). same_slot s.slot slot) (object_at dump source).slots)
+module _ (dump : Dump) (log : List Event) (source : ℕ) (slot : Slot) (at : Option ℕ)
+    (first : at ≡ position (λ (s : SlotEntry). same_slot s.slot slot) (object_at dump source).slots)
     (only : (i : ℕ) (s : SlotEntry) → slice_get (object_at dump source).slots i ≡ Some s → same_slot s.slot slot ≡ true → at ≡ Some i) where
   -- an edge that stands in the slot is at its index
-  pub at_name : (f : Edge) → Contains (standing dump log).edges f → f.source ≡ source → f.slot ≡ slot → (i : ℕ) × (at ≡ Some i) × (edge_at dump log source i ≡ Some f)
+  pub at_name : (f : Edge) → Contains (standing dump log).edges f → f.source ≡ source → f.slot ≡ slot → (i : ℕ) × (at ≡ Some i)
+      × (edge_at dump log source i ≡ Some f)
   at_name f c from name =
       let index = edge_has_index dump log f c in
       let there : edge_at dump log source index.0 ≡ Some f = subst (λ (o : ℕ). edge_at dump log o index.0 ≡ Some f) from index.1 in
@@ -100,12 +106,14 @@ module _ (dump : Dump) (log : List Event) (source : ℕ) (slot : Slot) (at : Opt
   name_at i e some is =
       let row : IsAt dump log source i e = is_at dump log source i e is in
       let found = position-Some (λ (s : SlotEntry). same_slot s.slot slot) (object_at dump source).slots i row.entry (sym first ∙ some) in
-      let entry : get_or (object_at dump source).slots i row.entry ≡ row.entry = get_or_from_slice_get (object_at dump source).slots i row.entry row.entry row.there in
+      let entry : get_or (object_at dump source).slots i row.entry ≡ row.entry =
+      get_or_from_slice_get (object_at dump source).slots i row.entry row.entry row.there in
       ap (λ (x : Edge). x.slot) row.is
       ∙ same_slot-true row.entry.slot slot (eq-same_slot row.entry.slot slot ∙ ap (λ (s : SlotEntry). same_slot s.slot slot) (sym entry) ∙ found.1)
 
   -- no other edge that stands is in the slot
-  pub only_edge : (i : ℕ) (e f : Edge) → at ≡ Some i → edge_at dump log source i ≡ Some e → Contains (standing dump log).edges f → f.source ≡ source → f.slot ≡ slot → e ≡ f
+  pub only_edge : (i : ℕ) (e f : Edge) → at ≡ Some i → edge_at dump log source i ≡ Some e → Contains (standing dump log).edges f → f.source ≡ source
+      → f.slot ≡ slot → e ≡ f
   only_edge i e f some is c from name =
       let other = at_name f c from name in
       let both : Some i ≡ Some other.0 = sym some ∙ other.1 in
@@ -134,7 +142,8 @@ module _ (dump : Dump) (log : List Event) (source : ℕ) (slot : Slot) (at : Opt
       pub elsewhere : (read.target ≡ o → ⊥) → (e : Edge) → SupportedBy (standing dump log) ks o source slot e → ⊥
       elsewhere other e s = other (sym (ap (λ (r : StandingRead). r.target) (supports_by e s)) ∙ s.to_object)
 
-      pub explained : read.target ≡ o → (IsSupported (standing dump log) ks o (supports.Edge source slot)) ↔ Explains dump.mode (reached_at ks source) read.kind (reached_at ks o)
+      pub explained : read.target ≡ o → (IsSupported (standing dump log) ks o (supports.Edge source slot)) ↔ Explains dump.mode (reached_at ks source) read.kind
+          (reached_at ks o)
       explained target =
           let g = standing dump log in
           let explains : (x : Edge) × SupportedBy g ks o source slot x → Explains dump.mode (reached_at ks source) read.kind (reached_at ks o) =
@@ -168,10 +177,12 @@ module _ (dump : Dump) (log : List Event) (r : ℕ) where
   pub held_by_another : (x o : ℕ) → Some x ≡ held_at dump log r → (x ≡ o → ⊥) → Contains (standing dump log).roots (record { number = r; target = o }) → ⊥
   held_by_another x o some other c = let both : Some x ≡ Some o = some ∙ held dump log r o c in other (cc)
 
-pub held_strongly : (dump : Dump) (log : List Event) (ks : List Reached) (r x o : ℕ) (strong : Bool) → Some x ≡ held_at dump log r → x ≡ o → IsTrue strong ↔ ((reached_at ks o).strength ≡ strengths.Strong)
+pub held_strongly : (dump : Dump) (log : List Event) (ks : List Reached) (r x o : ℕ) (strong : Bool) → Some x ≡ held_at dump log r → x ≡ o → IsTrue strong
+    ↔ ((reached_at ks o).strength ≡ strengths.Strong)
     → IsTrue strong ↔ IsSupported (standing dump log) ks o (supports.Root r)
 held_strongly dump log ks r x o strong some same test =
-    let there : Contains (standing dump log).roots (record { number = r; target = o }) = holds dump log r o (subst (λ (y : ℕ). Some y ≡ held_at dump log r) same some) in
+    let there : Contains (standing dump log).roots (record { number = r; target = o }) =
+    holds dump log r o (subst (λ (y : ℕ). Some y ≡ held_at dump log r) same some) in
     (λ h. (there, test.0 h), λ s. test.1 s.1)
 
 -- the root of a number makes its object strong
@@ -179,14 +190,19 @@ module _ (dump : Dump) (log : List Event) (ks : List Reached) (r : ℕ) where
   pub none_to_make_strong : None ≡ held_at dump log r → (x : RootEntry) → root_at dump log r ≡ Some x → MakesStrong ks x
   none_to_make_strong none x is = let both : None ≡ Some x.target = none ∙ ap (option_map (λ (y : RootEntry). y.target)) is in absurd (cc)
 
-  pub one_made_strong : (o : ℕ) (strong : Bool) → Some o ≡ held_at dump log r → IsTrue strong ↔ ((reached_at ks o).strength ≡ strengths.Strong) → IsTrue strong ↔ ((x : RootEntry) → root_at dump log r ≡ Some x → MakesStrong ks x)
+  pub one_made_strong : (o : ℕ) (strong : Bool) → Some o ≡ held_at dump log r → IsTrue strong ↔ ((reached_at ks o).strength ≡ strengths.Strong) → IsTrue strong
+      ↔ ((x : RootEntry) → root_at dump log r ≡ Some x → MakesStrong ks x)
   one_made_strong o strong some test =
       let entry : RootEntry = record { number = r; target = o } in
-      let there : root_at dump log r ≡ Some entry = root_some dump log r o some in
-      (λ h x is. let both : Some entry ≡ Some x = sym there ∙ is in let same : entry ≡ x = cc in subst (MakesStrong ks) same (test.0 h), λ all. test.1 (all entry there))
+      let there : root_at dump log r ≡ Some entry = root_some dump log r o some in (
+        λ h x is. let both : Some entry ≡ Some x = sym there ∙ is in let same : entry ≡ x = cc in subst (MakesStrong ks) same (test.0 h),
+        λ all. test.1
+            (all entry there),
+      )
 
 -- the roots of all numbers make their objects strong
-pub roots_strong : (dump : Dump) (log : List Event) (ks : List Reached) (n : ℕ) → root_count dump log ≤ n → ((r : ℕ) → r < n → (x : RootEntry) → root_at dump log r ≡ Some x → MakesStrong ks x)
+pub roots_strong : (dump : Dump) (log : List Event) (ks : List Reached) (n : ℕ) → root_count dump log ≤ n
+    → ((r : ℕ) → r < n → (x : RootEntry) → root_at dump log r ≡ Some x → MakesStrong ks x)
     → (x : RootEntry) → Contains (standing dump log).roots x → MakesStrong ks x
 roots_strong dump log ks n all each x c = let found = root_has_number dump log x c in each found.0 (omega (arith, found.1)) x found.2
 
@@ -213,16 +229,19 @@ module _ (dump : Dump) (log : List Event) (ks : List Reached) (o : ℕ) where
   pub nothing_passed_on : (PassesOn dump.mode (reached_at ks o) → ⊥) → (i : ℕ) (e : Edge) → edge_at dump log o i ≡ Some e → GivesNoMore dump.mode ks e
   nothing_passed_on stops i e is passes = absurd (stops (omega (arith, same_source i e is, passes)))
 
-  pub each_gives : (n : ℕ) → width dump o ≤ n → ((i : ℕ) → i < n → (e : Edge) → edge_at dump log o i ≡ Some e → rank (offered_strength ks e) ≤ rank_at ks e.target)
+  pub each_gives : (n : ℕ) → width dump o ≤ n
+      → ((i : ℕ) → i < n → (e : Edge) → edge_at dump log o i ≡ Some e → rank (offered_strength ks e) ≤ rank_at ks e.target)
       → (i : ℕ) (e : Edge) → edge_at dump log o i ≡ Some e → GivesNoMore dump.mode ks e
   each_gives n all each i e is passes = each i (omega (arith, (is_at dump log o i e is).within)) e is
 
-  pub one_too_much : PassesOn dump.mode (reached_at ks o) → (i : ℕ) → (((e : Edge) → edge_at dump log o i ≡ Some e → rank (offered_strength ks e) ≤ rank_at ks e.target) → ⊥)
+  pub one_too_much : PassesOn dump.mode (reached_at ks o) → (i : ℕ)
+      → (((e : Edge) → edge_at dump log o i ≡ Some e → rank (offered_strength ks e) ≤ rank_at ks e.target) → ⊥)
       → ((i : ℕ) (e : Edge) → edge_at dump log o i ≡ Some e → GivesNoMore dump.mode ks e) → ⊥
   one_too_much passes i more all = more (λ e is. all i e is (omega (arith, same_source i e is, passes)))
 
 -- what the edges of all objects give
-pub all_give : (dump : Dump) (log : List Event) (ks : List Reached) (n : ℕ) → length dump.objects ≤ n → ((o : ℕ) → o < n → (i : ℕ) (e : Edge) → edge_at dump log o i ≡ Some e → GivesNoMore dump.mode ks e)
+pub all_give : (dump : Dump) (log : List Event) (ks : List Reached) (n : ℕ) → length dump.objects ≤ n
+    → ((o : ℕ) → o < n → (i : ℕ) (e : Edge) → edge_at dump log o i ≡ Some e → GivesNoMore dump.mode ks e)
     → (e : Edge) → Contains (standing dump log).edges e → GivesNoMore dump.mode ks e
 all_give dump log ks n all each e c =
     let index = edge_has_index dump log e c in

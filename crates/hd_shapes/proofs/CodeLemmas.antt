@@ -21,7 +21,8 @@ module _ (others : List PackedShape) (shape : PackedShape) where
       let index : code - 3 * 2 ^ 30 ≡ length others = omega arith in
       let first : code - 3 * 2 ^ 30 - length others ≡ 0 = omega arith in
       rw (le-ltb code (3 * 2 ^ 30) (omega arith))
-      (get_or-append_right others (shape ∷ []) (length others) (code - 3 * 2 ^ 30) (shapes.Class 0) refl (omega arith) ∙ ap (λ (n : ℕ). get_or (shape ∷ []) n (shapes.Class 0)) first)
+      (get_or-append_right others (shape ∷ []) (length others) (code - 3 * 2 ^ 30) (shapes.Class 0) refl (omega arith)
+      ∙ ap (λ (n : ℕ). get_or (shape ∷ []) n (shapes.Class 0)) first)
 
   codes-kept : (codes : List ℕ) → AreCodes codes others → map (shape_of_code (others ++ shape ∷ [])) codes ≡ map (shape_of_code others) codes
   codes-kept codes all = map-same (λ code. code < 3 * 2 ^ 30 + length others) (shape_of_code (others ++ shape ∷ [])) (shape_of_code others) code-kept codes all

@@ -1,2 +1,3 @@
 pub mod CodeLemmas
+pub mod JoinLemmas
 pub mod PackedLemmas

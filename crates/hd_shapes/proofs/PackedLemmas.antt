@@ -1,5 +1,6 @@
 -- Shapes as they are kept, over classes and layouts of which there come more.
-use Rattle.std.proofs.Common.{◌≡◌, ◌∙◌, ℕ, zero, suc, ◌+◌, ◌-◌, ◌<◌, ◌≤◌, List, [], ◌∷◌, ◌++◌, length, get_or, take, set, replicate, map, Option, Some, None, true, refl, sym, ap, arith, All, length-append}
+use Rattle.std.proofs.Common.{◌≡◌, ◌∙◌, ℕ, zero, suc, ◌+◌, ◌-◌, ◌<◌, ◌≤◌, List, [], ◌∷◌, ◌++◌, length, get_or, take, set, replicate, map, Option, Some, None}
+use Rattle.std.proofs.Common.{true, refl, sym, ap, arith, All, length-append}
 use Rattle.std.specs.Prelude.{is_some}
 use Rattle.std.specs.Option.{option_map}
 use Rattle.std.proofs.lemmas.List.{map-append, map-set, get_or-map}
@@ -14,7 +15,8 @@ use Rattle.hd_shapes.specs.PackedShapes.{class_shape_view, layout_view, shape_at
 -- two functions that agree on the elements of a list
 pub map-same : {X Y : Type 0} (P : X → Type 0) (f g : X → Y) → ((x : X) → P x → f x ≡ g x) → (xs : List X) → All P xs → map f xs ≡ map g xs
 map-same {X} {Y} P f g same [] all = refl
-map-same {X} {Y} P f g same (x ∷ xs) all = ap (λ (y : Y). y ∷ map f xs) (same x (All-head P x xs all)) ∙ ap (λ (ys : List Y). g x ∷ ys) (map-same P f g same xs (All-tail P x xs all))
+map-same {X} {Y} P f g same (x ∷ xs) all = ap (λ (y : Y). y ∷ map f xs) (same x (All-head P x xs all))
+    ∙ ap (λ (ys : List Y). g x ∷ ys) (map-same P f g same xs (All-tail P x xs all))
 
 module _ (X : Type 0) (view : X → ObjectShape) where
   -- what stands in a list stays at its index
@@ -29,19 +31,23 @@ module _ (X : Type 0) (view : X → ObjectShape) where
   at-new (y ∷ xs) x = at-new xs x
 
 module _ (ls : List LayoutShape) where
-  shape-kept : (cs : List ClassShape) (c : ClassShape) (k : PackedShape) → IsPackedOver (length cs) (length ls) k → kept_shape (cs ++ c ∷ []) ls k ≡ kept_shape cs ls k
+  shape-kept : (cs : List ClassShape) (c : ClassShape) (k : PackedShape) → IsPackedOver (length cs) (length ls) k
+      → kept_shape (cs ++ c ∷ []) ls k ≡ kept_shape cs ls k
   shape-kept cs c (kept.ObjectArray bytes) over = refl
   shape-kept cs c (kept.PrimitiveArray element bytes) over = refl
   shape-kept cs c (kept.Class index) over = at-kept ClassShape class_shape_view cs c index over
   shape-kept cs c (kept.Instance index) over = refl
 
   -- a class at the end
-  pub class-push : (cs : List ClassShape) (c : ClassShape) (ks : List PackedShape) (index : ℕ) → All (IsPackedOver (length cs) (length ls)) ks → index ≡ length cs
+  pub class-push : (cs : List ClassShape) (c : ClassShape) (ks : List PackedShape) (index : ℕ) → All (IsPackedOver (length cs) (length ls)) ks
+      → index ≡ length cs
       → map (kept_shape (cs ++ c ∷ []) ls) (ks ++ kept.Class index ∷ []) ≡ map (kept_shape cs ls) ks ++ class_shape_view c ∷ []
   class-push cs c ks index all is =
       map-append (kept_shape (cs ++ c ∷ []) ls) ks (kept.Class index ∷ [])
-      ∙ ap (λ (ss : List ObjectShape). ss ++ shape_at (map class_shape_view (cs ++ c ∷ [])) index ∷ []) (map-same (IsPackedOver (length cs) (length ls)) (kept_shape (cs ++ c ∷ []) ls) (kept_shape cs ls) (shape-kept cs c) ks all)
-      ∙ ap (λ (s : ObjectShape). map (kept_shape cs ls) ks ++ s ∷ []) (ap (shape_at (map class_shape_view (cs ++ c ∷ []))) is ∙ at-new ClassShape class_shape_view cs c)
+      ∙ ap (λ (ss : List ObjectShape). ss ++ shape_at (map class_shape_view (cs ++ c ∷ [])) index ∷ [])
+      (map-same (IsPackedOver (length cs) (length ls)) (kept_shape (cs ++ c ∷ []) ls) (kept_shape cs ls) (shape-kept cs c) ks all)
+      ∙ ap (λ (s : ObjectShape). map (kept_shape cs ls) ks ++ s ∷ []) (ap (shape_at (map class_shape_view (cs ++ c ∷ []))) is
+      ∙ at-new ClassShape class_shape_view cs c)
 
 module _ (ls : List LayoutShape) (l : LayoutShape) where
   layout-kept : (cs : List ClassShape) (k : PackedShape) → IsPackedOver (length cs) (length ls) k → kept_shape cs (ls ++ l ∷ []) k ≡ kept_shape cs ls k
@@ -55,7 +61,8 @@ module _ (ls : List LayoutShape) (l : LayoutShape) where
       → map (kept_shape cs (ls ++ l ∷ [])) (ks ++ kept.Instance index ∷ []) ≡ map (kept_shape cs ls) ks ++ layout_view l ∷ []
   instance-push cs ks index all is =
       map-append (kept_shape cs (ls ++ l ∷ [])) ks (kept.Instance index ∷ [])
-      ∙ ap (λ (ss : List ObjectShape). ss ++ shape_at (map layout_view (ls ++ l ∷ [])) index ∷ []) (map-same (IsPackedOver (length cs) (length ls)) (kept_shape cs (ls ++ l ∷ [])) (kept_shape cs ls) (layout-kept cs) ks all)
+      ∙ ap (λ (ss : List ObjectShape). ss ++ shape_at (map layout_view (ls ++ l ∷ [])) index ∷ [])
+      (map-same (IsPackedOver (length cs) (length ls)) (kept_shape cs (ls ++ l ∷ [])) (kept_shape cs ls) (layout-kept cs) ks all)
       ∙ ap (λ (s : ObjectShape). map (kept_shape cs ls) ks ++ s ∷ []) (ap (shape_at (map layout_view (ls ++ l ∷ []))) is ∙ at-new LayoutShape layout_view ls l)
 
   number-kept : (n : ℕ) → n ≤ length ls → numbered_layout (ls ++ l ∷ []) n ≡ numbered_layout ls n
@@ -72,7 +79,8 @@ module _ (ls : List LayoutShape) (l : LayoutShape) where
       → map (numbered_layout (ls ++ l ∷ [])) (set ns class n) ≡ set (map (numbered_layout ls) ns) class (Some (layout_view l))
   number-push ns class n all is =
       map-set (numbered_layout (ls ++ l ∷ [])) ns class n
-      ∙ ap (λ (os : List (Option ObjectShape)). set os class (numbered_layout (ls ++ l ∷ []) n)) (map-same (λ n. n ≤ length ls) (numbered_layout (ls ++ l ∷ [])) (numbered_layout ls) number-kept ns all)
+      ∙ ap (λ (os : List (Option ObjectShape)). set os class (numbered_layout (ls ++ l ∷ []) n))
+      (map-same (λ n. n ≤ length ls) (numbered_layout (ls ++ l ∷ [])) (numbered_layout ls) number-kept ns all)
       ∙ ap (set (map (numbered_layout ls) ns) class) (number-new n is)
 
 -- no layout was made yet
@@ -83,7 +91,8 @@ zeros-none ls (suc n) = ap (λ (os : List (Option ObjectShape)). None ∷ os) (z
 pub resized : (n len : ℕ) (xs ys : List ℕ) → xs ≡ [] → len ≡ 0 → ys ≡ take n xs ++ replicate (n - len) 0 → ys ≡ replicate n 0
 resized n len xs ys empty none is =
     let all : n - len ≡ n = omega arith in
-    is ∙ ap (λ (zs : List ℕ). take n zs ++ replicate (n - len) 0) empty ∙ ap (λ (zs : List ℕ). zs ++ replicate (n - len) 0) (take-none n) ∙ ap (λ (m : ℕ). replicate m 0) all
+    is ∙ ap (λ (zs : List ℕ). take n zs ++ replicate (n - len) 0) empty ∙ ap (λ (zs : List ℕ). zs ++ replicate (n - len) 0) (take-none n)
+    ∙ ap (λ (m : ℕ). replicate m 0) all
   where
     take-none : (n : ℕ) → (let none : List ℕ = [] in take n none ≡ none)
     take-none zero = refl
@@ -94,16 +103,19 @@ abbrev lists : List ClassShape → List LayoutShape → List PackedShape → Lis
 lists cs ls ks ns = record { objects = map (kept_shape cs ls) ks; layouts = map (numbered_layout ls) ns }
 
 -- the first instance of a class
-pub first-push : (cs : List ClassShape) (ls : List LayoutShape) (l : LayoutShape) (ks : List PackedShape) (ns : List ℕ) (class index : ℕ) → ArePacked ks (length cs) (length ls) ns → index ≡ length ls
+pub first-push : (cs : List ClassShape) (ls : List LayoutShape) (l : LayoutShape) (ks : List PackedShape) (ns : List ℕ) (class index : ℕ)
+    → ArePacked ks (length cs) (length ls) ns → index ≡ length ls
     → lists cs (ls ++ l ∷ []) (ks ++ kept.Instance index ∷ []) (set ns class (index + 1))
     ≡ record { objects = map (kept_shape cs ls) ks ++ layout_view l ∷ []; layouts = set (map (numbered_layout ls) ns) class (Some (layout_view l)) }
 first-push cs ls l ks ns class index h is =
-    ap (λ (ss : List ObjectShape). let s : ShapeLists = record { objects = ss; layouts = map (numbered_layout (ls ++ l ∷ [])) (set ns class (index + 1)) } in s) (instance-push ls l cs ks index h.over is)
+    ap (λ (ss : List ObjectShape). let s : ShapeLists = record { objects = ss; layouts = map (numbered_layout (ls ++ l ∷ [])) (set ns class (index + 1)) } in s)
+    (instance-push ls l cs ks index h.over is)
     ∙ ap (λ (os : List (Option ObjectShape)). let s : ShapeLists = record { objects = map (kept_shape cs ls) ks ++ layout_view l ∷ []; layouts = os } in s)
     (number-push ls l ns class (index + 1) h.numbered (ap (λ (n : ℕ). n + 1) is))
 
 -- a class whose layout was made has a number that isn't 0
-number-some : (ls : List LayoutShape) (ns : List ℕ) (class : ℕ) → is_some (made_layout (map (numbered_layout ls) ns) class) ≡ true → (class < length ns) × (0 < get_or ns class 0)
+number-some : (ls : List LayoutShape) (ns : List ℕ) (class : ℕ) → is_some (made_layout (map (numbered_layout ls) ns) class) ≡ true → (class < length ns)
+    × (0 < get_or ns class 0)
 number-some ls [] class is = absurd cc
 number-some ls (zero ∷ ns) zero is = absurd cc
 number-some ls (suc n ∷ ns) zero is = (omega arith, omega arith)
@@ -112,7 +124,8 @@ number-some ls (n ∷ ns) (suc class) is =
     (omega (arith, rest.0), rest.1)
 
 -- and it's the one of its layout
-shape-numbered : (ls : List LayoutShape) (ns : List ℕ) (class : ℕ) (shape : ObjectShape) → made_layout (map (numbered_layout ls) ns) class ≡ Some shape → shape_at (map layout_view ls) (get_or ns class 0 - 1) ≡ shape
+shape-numbered : (ls : List LayoutShape) (ns : List ℕ) (class : ℕ) (shape : ObjectShape) → made_layout (map (numbered_layout ls) ns) class ≡ Some shape
+    → shape_at (map layout_view ls) (get_or ns class 0 - 1) ≡ shape
 shape-numbered ls [] class shape is = absurd cc
 shape-numbered ls (zero ∷ ns) zero shape is = absurd cc
 shape-numbered ls (suc n ∷ ns) zero shape is =
@@ -131,13 +144,16 @@ number-read ns class number lt is = is ∙ same ns class lt
     same (n ∷ ns) (suc class) lt = same ns class (omega arith)
 
 -- the bytes of its instances' values
-bytes-numbered : (ls : List LayoutShape) (n : ℕ) (d : LayoutShape) → 0 < n → n ≤ length ls → Some (get_or ls (n - 1) d).bytes ≡ option_map shape_bytes (numbered_layout ls n)
+bytes-numbered : (ls : List LayoutShape) (n : ℕ) (d : LayoutShape) → 0 < n → n ≤ length ls → Some (get_or ls (n - 1) d).bytes ≡ option_map shape_bytes
+    (numbered_layout ls n)
 bytes-numbered ls zero d some most = absurd (omega arith)
 bytes-numbered ls (suc n) d some most =
     let index : suc n - 1 ≡ n = omega arith in
-    ap (λ (k : ℕ). Some (get_or ls k d).bytes) index ∙ ap (λ (s : ObjectShape). Some (shape_bytes s)) (sym (get_or-map layout_view ls n d (ClassObject 0 []) (omega arith)))
+    ap (λ (k : ℕ). Some (get_or ls k d).bytes) index ∙ ap (λ (s : ObjectShape). Some (shape_bytes s))
+    (sym (get_or-map layout_view ls n d (ClassObject 0 []) (omega arith)))
 
-pub bytes-made : (ls : List LayoutShape) (ns : List ℕ) (class number : ℕ) (l : LayoutShape) → class < length ns → All (λ n. n ≤ length ls) ns → number ≡ get_or ns class number → 0 < number → l ≡ get_or ls (number - 1) l
+pub bytes-made : (ls : List LayoutShape) (ns : List ℕ) (class number : ℕ) (l : LayoutShape) → class < length ns → All (λ n. n ≤ length ls) ns
+    → number ≡ get_or ns class number → 0 < number → l ≡ get_or ls (number - 1) l
     → Some l.bytes ≡ option_map shape_bytes (made_layout (map (numbered_layout ls) ns) class)
 bytes-made ls ns class number l lt all is some l-is =
     let at = number-read ns class number lt is in
@@ -149,14 +165,17 @@ bytes-made ls ns class number l lt all is some l-is =
     ∙ ap (option_map shape_bytes) (sym (get_or-map (numbered_layout ls) ns class 0 None lt))
 
 -- one more instance of it at the end
-pub instance-again : (cs : List ClassShape) (ls : List LayoutShape) (ks : List PackedShape) (ns : List ℕ) (class number : ℕ) (shape : ObjectShape) → made_layout (map (numbered_layout ls) ns) class ≡ Some shape → number ≡ get_or ns class number
+pub instance-again : (cs : List ClassShape) (ls : List LayoutShape) (ks : List PackedShape) (ns : List ℕ) (class number : ℕ) (shape : ObjectShape)
+    → made_layout (map (numbered_layout ls) ns) class ≡ Some shape → number ≡ get_or ns class number
     → map (kept_shape cs ls) (ks ++ kept.Instance (number - 1) ∷ []) ≡ map (kept_shape cs ls) ks ++ shape ∷ []
 instance-again cs ls ks ns class number shape made is =
     let there = number-some ls ns class (ap (λ (o : Option ObjectShape). is_some o) made) in
     map-append (kept_shape cs ls) ks (kept.Instance (number - 1) ∷ [])
-    ∙ ap (λ (s : ObjectShape). map (kept_shape cs ls) ks ++ s ∷ []) (ap (λ (n : ℕ). shape_at (map layout_view ls) (n - 1)) (number-read ns class number there.0 is) ∙ shape-numbered ls ns class shape made)
+    ∙ ap (λ (s : ObjectShape). map (kept_shape cs ls) ks ++ s ∷ [])
+    (ap (λ (n : ℕ). shape_at (map layout_view ls) (n - 1)) (number-read ns class number there.0 is) ∙ shape-numbered ls ns class shape made)
 
-pub packed-again : (ks : List PackedShape) (n : ℕ) (ls : List LayoutShape) (ns : List ℕ) (class number : ℕ) → ArePacked ks n (length ls) ns → is_some (made_layout (map (numbered_layout ls) ns) class) ≡ true → number ≡ get_or ns class number
+pub packed-again : (ks : List PackedShape) (n : ℕ) (ls : List LayoutShape) (ns : List ℕ) (class number : ℕ) → ArePacked ks n (length ls) ns
+    → is_some (made_layout (map (numbered_layout ls) ns) class) ≡ true → number ≡ get_or ns class number
     → ArePacked (ks ++ kept.Instance (number - 1) ∷ []) n (length ls) ns
 packed-again ks n ls ns class number h some is =
     let there = number-some ls ns class some in

@@ -1,6 +1,7 @@
--- The shapes of four parts of the objects.
+-- The shapes of the objects of several parts.
 -- Source: this project.
-use Rattle.std.specs.Prelude.{◌≡◌, ℕ, ◌+◌, ◌<◌, ◌≤◌, ◌^◌, List, length, slice_get}
+use Rattle.std.specs.Prelude.{◌≡◌, ℕ, ◌+◌, ◌<◌, ◌≤◌, List, length, map, slice_get}
+use Rattle.std.specs.List.{flat_map}
 use Rattle.hd_shapes.specs.Shapes.{ObjectShape}
 use Rattle.hd_shapes.specs.PackedShapes.{ShapeLists}
 
@@ -8,12 +9,19 @@ use Rattle.hd_shapes.specs.PackedShapes.{ShapeLists}
 pub record ObjectShapes : Type 0 where
   pub objects : List ObjectShape
 
--- the ends say how many objects the parts up to each of three have together, and numbers of eight bytes count those of all
-pub record AreJoined (first second third fourth : ShapeLists) (first_end second_end third_end : ℕ) : Type 0 where
-  pub first_is : first_end ≡ length first.objects
-  pub second_is : second_end ≡ first_end + length second.objects
-  pub third_is : third_end ≡ second_end + length third.objects
-  pub few : third_end + length fourth.objects < 2 ^ 64
+-- the objects of all parts, those of each part behind those of the part before
+abbrev pub joined_objects : List ShapeLists → List ObjectShape
+joined_objects parts = flat_map (λ part. part.objects) parts
+
+-- how many objects each part has
+abbrev pub part_lens : List ShapeLists → List ℕ
+part_lens parts = map (λ part. length part.objects) parts
+
+-- there is a part, an index of as many objects as each part has, and the number of all objects
+pub record AreJoined (parts : List ShapeLists) (lens : List ℕ) (count : ℕ) : Type 0 where
+  pub some : 0 < length parts
+  pub lens_are : lens ≡ part_lens parts
+  pub count_is : count ≡ length (joined_objects parts)
 
 -- the objects of a part stand among all from a number on
 pub record StandAt (part all : List ObjectShape) (first : ℕ) : Type 0 where

@@ -11,7 +11,7 @@
 //!   layout has what all instances of a class share: recorded bytes, slot names, referent and its kind. It is made
 //!   with the first instance of the class. That instance has the bytes of all its fields in the file, so a layout
 //!   takes memory in proportion to bytes that are there, and a class without instances takes none for it.
-//! - `joined_shapes.rt`: the shapes of four parts, which four threads make. The parts stay apart and are read as one.
+//! - `joined_shapes.rt`: the shapes of several parts, which threads make. The parts stay apart and are read as one.
 //! - `shape_list.rt`: a pass over the objects takes a `ShapeList`, which keeps the part of the last object at hand.
 #![tactic(auto)]
 

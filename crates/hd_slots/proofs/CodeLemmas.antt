@@ -1,5 +1,6 @@
 -- Lemmas on references as numbers of four bytes.
-use Rattle.std.proofs.Common.{◌≡◌, ◌≢◌, ◌∙◌, ℕ, zero, suc, ◌+◌, ◌-◌, ◌<◌, ◌≤◌, ◌^◌, inl, inr, Bool, true, false, List, [], ◌∷◌, ◌++◌, length, map, get_or, Some, None, refl, sym, ap, arith, All, cond, ltb, eqb, eqb-true, ne_eqb, length-append}
+use Rattle.std.proofs.Common.{◌≡◌, ◌≢◌, ◌∙◌, ℕ, zero, suc, ◌+◌, ◌-◌, ◌<◌, ◌≤◌, ◌^◌, inl, inr, Bool, true, false, List, [], ◌∷◌, ◌++◌, length, map, get_or, Some}
+use Rattle.std.proofs.Common.{None, refl, sym, ap, arith, All, cond, ltb, eqb, eqb-true, ne_eqb, length-append}
 use Rattle.std.specs.List.{position, prefix_len}
 use Rattle.std.specs.Prelude.{not, is_some}
 use Rattle.std.proofs.lemmas.Bool.{cases_eq, cases_lt, lt-ltb, le-ltb}
@@ -13,7 +14,8 @@ use Rattle.hd_slots.specs.Codes.{id_of_code, IsCode}
 all_pass : (ids : List ℕ) → All (λ id. 0 < id) ids → prefix_len (λ x. not (eqb 0 x)) ids ≡ length ids
 all_pass [] h = refl
 all_pass (zero ∷ ids) h = let pos : 0 < 0 = All-head (λ id. 0 < id) zero ids h in absurd (omega arith)
-all_pass (suc n ∷ ids) h = let rest : prefix_len (λ x. not (eqb 0 x)) ids ≡ length ids = all_pass ids (All-tail (λ id. 0 < id) (suc n) ids h) in rw (ne_eqb 0 (suc n) (omega arith)) (omega (arith, rest))
+all_pass (suc n ∷ ids) h = let rest : prefix_len (λ x. not (eqb 0 x)) ids ≡ length ids = all_pass ids (All-tail (λ id. 0 < id) (suc n) ids h) in
+    rw (ne_eqb 0 (suc n) (omega arith)) (omega (arith, rest))
 
 pub null-nowhere : (ids : List ℕ) → All (λ id. 0 < id) ids → position (λ x. eqb 0 x) ids ≡ None
 null-nowhere ids h = rw (all_pass ids h, le-ltb (length ids) (length ids) (omega arith)) refl
@@ -39,7 +41,8 @@ null-code ids absent few h = record {
 }
 
 -- where an ID is found
-pub object-code : (ids absent : List ℕ) (id code : ℕ) → length ids < 2 ^ 32 - 1 → position (λ x. eqb id x) ids ≡ Some code → IsCode ids absent code × (id_of_code ids absent code ≡ id)
+pub object-code : (ids absent : List ℕ) (id code : ℕ) → length ids < 2 ^ 32 - 1 → position (λ x. eqb id x) ids ≡ Some code → IsCode ids absent code
+    × (id_of_code ids absent code ≡ id)
 object-code ids absent id code few found =
     let at = position-Some (λ x. eqb id x) ids code 0 found in
     let is : id_of_code ids absent code ≡ id = id-object ids absent code few at.0 ∙ sym (eqb-true id (get_or ids code 0) at.1) in
@@ -52,7 +55,8 @@ absent-code ids absent id room none =
     let code = length ids + length absent in
     let zero_index : code - length ids - length absent ≡ 0 = omega arith in
     let index : code - length ids ≡ length absent = omega arith in
-    let here : get_or (absent ++ id ∷ []) (code - length ids) 0 ≡ id = get_or-append_right absent (id ∷ []) (length absent) (code - length ids) 0 refl (omega arith) ∙ ap (λ n. get_or (id ∷ []) n 0) zero_index in
+    let here : get_or (absent ++ id ∷ []) (code - length ids) 0 ≡ id = get_or-append_right absent (id ∷ []) (length absent) (code - length ids) 0 refl
+    (omega arith) ∙ ap (λ n. get_or (id ∷ []) n 0) zero_index in
     let is : id_of_code ids (absent ++ id ∷ []) code ≡ id = id-absent ids (absent ++ id ∷ []) code (omega arith) (omega arith) ∙ here in
     (record { target = rw (is, none, le-ltb code (length ids) (omega arith)) refl; known = inr (omega (arith, length-append absent (id ∷ []))) }, is)
 
@@ -77,7 +81,8 @@ code-longer ids absent more code h = record {
 pub codes-longer : (ids absent more codes : List ℕ) → All (IsCode ids absent) codes → All (IsCode ids (absent ++ more)) codes
 codes-longer ids absent more codes h = All-weaker (IsCode ids absent) (IsCode ids (absent ++ more)) (λ code is. code-longer ids absent more code is) codes h
 
-pub ids-longer : (ids absent more codes : List ℕ) → All (IsCode ids absent) codes → map (id_of_code ids (absent ++ more)) codes ≡ map (id_of_code ids absent) codes
+pub ids-longer : (ids absent more codes : List ℕ) → All (IsCode ids absent) codes → map (id_of_code ids (absent ++ more)) codes ≡ map
+    (id_of_code ids absent) codes
 ids-longer ids absent more [] h = refl
 ids-longer ids absent more (code ∷ codes) h =
     ap (λ id. id ∷ map (id_of_code ids (absent ++ more)) codes) (id-longer ids absent more code (All-head (IsCode ids absent) code codes h))

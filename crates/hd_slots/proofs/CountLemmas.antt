@@ -1,12 +1,12 @@
 -- Lemmas on how many of these numbers are objects', null and absent.
-use Rattle.std.proofs.Common.{◌≡◌, ◌∙◌, ℕ, ◌+◌, ◌-◌, ◌<◌, ◌^◌, inl, inr, Bool, true, false, ◌&&◌, List, [], ◌∷◌, length, map, get_or, Option, Some, None, refl, sym, ap, arith, All, cond, ltb, eqb, ne_eqb}
+use Rattle.std.proofs.Common.{◌≡◌, ◌∙◌, ℕ, ◌+◌, ◌-◌, ◌<◌, ◌^◌, inl, inr, Bool, true, false, ◌&&◌, List, [], ◌∷◌, length, map, get_or, Option, Some, None, refl}
+use Rattle.std.proofs.Common.{ap, arith, All, cond, ltb, eqb, ne_eqb}
 use Rattle.std.specs.List.{position}
-use Rattle.std.specs.Prelude.{not, is_some, is_none, count_by, sum_by}
+use Rattle.std.specs.Prelude.{not, is_some, is_none, count_by}
 use Rattle.std.proofs.lemmas.Bool.{cases_eq, cases_lt, lt-ltb, le-ltb}
 use Rattle.std.proofs.lemmas.List.Elements.{All-head, All-tail, All-get_or}
-use Rattle.std.proofs.lemmas.List.Sums.{sum_by-append, sum_by-cons}
-use Rattle.hd_slots.specs.Table.{Rows, null_code, is_known, is_absent, known_in, absent_in}
-use Rattle.hd_slots.specs.JoinedInside.{joined_rows}
+use Rattle.std.proofs.lemmas.List.Sums.{sum_by-cons}
+use Rattle.hd_slots.specs.Table.{null_code, is_known, is_absent}
 use Rattle.hd_slots.specs.Codes.{id_of_code, IsCode}
 use Rattle.hd_slots.proofs.CodeLemmas.{id-absent, known-code}
 
@@ -32,7 +32,8 @@ module _ (ids absent : List ℕ) (few : length ids < 2 ^ 31) (no_null : All (λ 
       | inl lt ↦
           let known : is_known ids (id_of_code ids absent code) ≡ true = known-code ids absent code h ∙ lt-ltb code (length ids) lt in
           let no : is_absent ids (id_of_code ids absent code) ≡ false =
-          absent-is ids (id_of_code ids absent code) ∙ ap (λ b. not (eqb (id_of_code ids absent code) 0) && not b) known ∙ and-false (not (eqb (id_of_code ids absent code) 0)) in
+          absent-is ids (id_of_code ids absent code) ∙ ap (λ b. not (eqb (id_of_code ids absent code) 0) && not b) known
+          ∙ and-false (not (eqb (id_of_code ids absent code) 0)) in
           rw (no, lt-ltb code (length ids) lt, ne_eqb code null_code other) refl
       | inr le ↦
           let within : code - length ids < length absent = elim h.known [ inl null ↦ absurd (other null) | inr lt ↦ omega arith ] in
@@ -48,7 +49,8 @@ module _ (ids absent : List ℕ) (few : length ids < 2 ^ 31) (no_null : All (λ 
 
   -- each number is counted once
   pub count-all : (codes : List ℕ) → All (IsCode ids absent) codes
-      → count_by (is_absent ids) (map (id_of_code ids absent) codes) + count_by (λ code. ltb code (length ids)) codes + count_by (λ code. eqb code null_code) codes ≡ length codes
+      → count_by (is_absent ids) (map (id_of_code ids absent) codes) + count_by (λ code. ltb code (length ids)) codes + count_by
+      (λ code. eqb code null_code) codes ≡ length codes
   count-all [] h = refl
   count-all (code ∷ codes) h =
       let here = one-of_three code (All-head (IsCode ids absent) code codes h) in
@@ -64,19 +66,9 @@ pub count-known : (ids absent codes : List ℕ) → All (IsCode ids absent) code
 count-known ids absent [] h = refl
 count-known ids absent (code ∷ codes) h =
     let one_if : Bool → ℕ = λ b. cond b 1 0 in
-    let here : one_if (is_known ids (id_of_code ids absent code)) ≡ one_if (ltb code (length ids)) = ap one_if (known-code ids absent code (All-head (IsCode ids absent) code codes h)) in
+    let here : one_if (is_known ids (id_of_code ids absent code)) ≡ one_if (ltb code (length ids)) =
+    ap one_if (known-code ids absent code (All-head (IsCode ids absent) code codes h)) in
     let rest = count-known ids absent codes (All-tail (IsCode ids absent) code codes h) in
     let old = sum_by-cons (λ id. cond (is_known ids id) 1 0) (id_of_code ids absent code) (map (id_of_code ids absent) codes) in
     let new = sum_by-cons (λ (x : ℕ). cond (ltb x (length ids)) 1 0) code codes in
     omega (arith, here, rest, old, new)
-
--- the IDs of two parts are counted in each
-pub known-joined : (front back : Rows) → back.ids ≡ front.ids → known_in (joined_rows front back) ≡ known_in front + known_in back
-known-joined front back ids =
-    sum_by-append (count_by (is_known front.ids)) front.rows back.rows
-    ∙ ap (λ (ids : List ℕ). known_in front + sum_by (count_by (is_known ids)) back.rows) (sym ids)
-
-pub absent-joined : (front back : Rows) → back.ids ≡ front.ids → absent_in (joined_rows front back) ≡ absent_in front + absent_in back
-absent-joined front back ids =
-    sum_by-append (count_by (is_absent front.ids)) front.rows back.rows
-    ∙ ap (λ (ids : List ℕ). absent_in front + sum_by (count_by (is_absent ids)) back.rows) (sym ids)

@@ -1,5 +1,6 @@
 -- Lemmas on a list cut at indexes.
-use Rattle.std.proofs.Common.{◌≡◌, ◌∙◌, ℕ, zero, suc, ◌+◌, ◌-◌, ◌<◌, ◌≤◌, Bool, List, [], ◌∷◌, ◌++◌, length, take, drop, get_or, cond, refl, sym, ap, arith, All}
+use Rattle.std.proofs.Common.{◌≡◌, ◌∙◌, ℕ, zero, suc, ◌+◌, ◌-◌, ◌<◌, ◌≤◌, Bool, List, [], ◌∷◌, ◌++◌, length, take, drop, get_or, cond, refl, sym, ap, arith}
+use Rattle.std.proofs.Common.{All}
 use Rattle.std.specs.Prelude.{count_by, sum_by}
 use Rattle.std.proofs.lemmas.List.{take-append-le, drop-append-le, length-drop, drop-take, take-take, take_all}
 use Rattle.std.proofs.lemmas.List.Sums.{sum_by-cons, sum_by-take-drop}
@@ -42,11 +43,13 @@ rows_from-append [] xs ys h = refl
 rows_from-append (s ∷ es) xs ys h = between-append s es xs ys (All-head (λ e. e ≤ length xs) s es h) (All-tail (λ e. e ≤ length xs) s es h)
 
 -- one more cut makes one more part
-between-push : {X : Type 0} (s : ℕ) (es : List ℕ) (e : ℕ) (xs : List X) → between s (es ++ e ∷ []) xs ≡ between s es xs ++ take (e - last_from s es) (drop (last_from s es) xs) ∷ []
+between-push : {X : Type 0} (s : ℕ) (es : List ℕ) (e : ℕ) (xs : List X) → between s (es ++ e ∷ []) xs ≡ between s es xs
+    ++ take (e - last_from s es) (drop (last_from s es) xs) ∷ []
 between-push s [] e xs = refl
 between-push s (f ∷ es) e xs = ap (λ r. take (f - s) (drop s xs) ∷ r) (between-push f es e xs)
 
-pub rows_from-push : {X : Type 0} (ss : List ℕ) (e : ℕ) (xs : List X) → 0 < length ss → rows_from (ss ++ e ∷ []) xs ≡ rows_from ss xs ++ take (e - last_from 0 ss) (drop (last_from 0 ss) xs) ∷ []
+pub rows_from-push : {X : Type 0} (ss : List ℕ) (e : ℕ) (xs : List X) → 0 < length ss → rows_from (ss ++ e ∷ []) xs ≡ rows_from ss xs
+    ++ take (e - last_from 0 ss) (drop (last_from 0 ss) xs) ∷ []
 rows_from-push [] e xs some = absurd (omega arith)
 rows_from-push (s ∷ es) e xs some = between-push s es e xs
 
@@ -103,7 +106,8 @@ module _ {X : Type 0} (p : X → Bool) (xs : List X) where
       omega (arith, sum_by-cons (count_by p) (take (e - s) (drop s xs)) (between e es xs), part-counted s e h.0, parts-counted e es n h.1)
 
   -- so all of a list, where the indexes begin and end with it
-  pub rows-counted : (ss : List ℕ) → 0 < length ss → get_or ss 0 0 ≡ 0 → AreRising 0 ss (length xs) → last_from 0 ss ≡ length xs → sum_by (count_by p) (rows_from ss xs) ≡ count_by p xs
+  pub rows-counted : (ss : List ℕ) → 0 < length ss → get_or ss 0 0 ≡ 0 → AreRising 0 ss (length xs) → last_from 0 ss ≡ length xs
+      → sum_by (count_by p) (rows_from ss xs) ≡ count_by p xs
   rows-counted [] some first rising whole = absurd (omega arith)
   rows-counted (s ∷ es) some first rising whole =
       let none : before s ≡ 0 = ap before first in

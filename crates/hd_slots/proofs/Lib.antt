@@ -1,7 +1,7 @@
 pub mod CodeLemmas
 pub mod CountLemmas
 pub mod CutLemmas
-pub mod JobLemmas
+pub mod PartLemmas
 pub mod ResolvingLemmas
 pub mod SharedLemmas
 pub mod TableLemmas

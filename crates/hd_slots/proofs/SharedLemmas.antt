@@ -1,5 +1,6 @@
 -- Lemmas on what is kept of slots while rows are made: offsets of IDs, and marks of shared ones.
-use Rattle.std.proofs.Common.{◌≡◌, ◌∙◌, ℕ, ◌+◌, ◌-◌, ◌<◌, ◌^◌, inl, inr, List, [], ◌∷◌, ◌++◌, length, map, get_or, refl, sym, ap, subst, arith, All, length-append}
+use Rattle.std.proofs.Common.{◌≡◌, ◌∙◌, ℕ, ◌+◌, ◌-◌, ◌<◌, ◌^◌, inl, inr, List, [], ◌∷◌, ◌++◌, length, map, get_or, refl, sym, ap, subst, arith, All}
+use Rattle.std.proofs.Common.{length-append}
 use Rattle.std.proofs.lemmas.Bool.{cases_lt, lt-ltb, le-ltb}
 use Rattle.std.proofs.lemmas.List.{map-append, get_or-map, get_or_append_left}
 use Rattle.std.proofs.lemmas.List.Elements.{All-head, All-tail, All-nil, All-cons, All-weaker}
@@ -19,11 +20,13 @@ shared-offset shared index =
     rw (le-ltb (mark + index) mark (omega arith), back) refl
 
 -- one more slot
-pub offsets-push : (shared items : List ℕ) (item offset : ℕ) → offset_of shared item ≡ offset → map (offset_of shared) (items ++ item ∷ []) ≡ map (offset_of shared) items ++ offset ∷ []
+pub offsets-push : (shared items : List ℕ) (item offset : ℕ) → offset_of shared item ≡ offset → map (offset_of shared) (items ++ item ∷ []) ≡ map
+    (offset_of shared) items ++ offset ∷ []
 offsets-push shared items item offset is = map-append (offset_of shared) items (item ∷ []) ∙ ap (λ (o : ℕ). map (offset_of shared) items ++ o ∷ []) is
 
 -- the offsets lie within the file
-pub offsets-within : (size : IdSize) (n : ℕ) (shared items : List ℕ) → All (IsIdWithin size n) shared → All (IsKept size n (length shared)) items → All (IsIdWithin size n) (map (offset_of shared) items)
+pub offsets-within : (size : IdSize) (n : ℕ) (shared items : List ℕ) → All (IsIdWithin size n) shared → All (IsKept size n (length shared)) items
+    → All (IsIdWithin size n) (map (offset_of shared) items)
 offsets-within size n shared [] within kept = All-nil (IsIdWithin size n)
 offsets-within size n shared (item ∷ items) within kept =
     let here = All-head (IsKept size n (length shared)) item items kept in
@@ -35,7 +38,8 @@ offsets-within size n shared (item ∷ items) within kept =
     All-cons (IsIdWithin size n) (offset_of shared item) (map (offset_of shared) items) first rest
 
 -- further shared offsets change none
-pub offsets-same : (size : IdSize) (n : ℕ) (shared more items : List ℕ) → All (IsKept size n (length shared)) items → map (offset_of (shared ++ more)) items ≡ map (offset_of shared) items
+pub offsets-same : (size : IdSize) (n : ℕ) (shared more items : List ℕ) → All (IsKept size n (length shared)) items
+    → map (offset_of (shared ++ more)) items ≡ map (offset_of shared) items
 offsets-same size n shared more [] kept = refl
 offsets-same size n shared more (item ∷ items) kept =
     let here = All-head (IsKept size n (length shared)) item items kept in
@@ -46,9 +50,11 @@ offsets-same size n shared more (item ∷ items) kept =
     ] in
     ap (λ (o : ℕ). o ∷ map (offset_of (shared ++ more)) items) same ∙ ap (λ (os : List ℕ). offset_of shared item ∷ os) rest
 
-pub kept-more : (size : IdSize) (n : ℕ) (shared more items : List ℕ) → All (IsKept size n (length shared)) items → All (IsKept size n (length (shared ++ more))) items
+pub kept-more : (size : IdSize) (n : ℕ) (shared more items : List ℕ) → All (IsKept size n (length shared)) items
+    → All (IsKept size n (length (shared ++ more))) items
 kept-more size n shared more items kept =
-    All-weaker (IsKept size n (length shared)) (IsKept size n (length (shared ++ more))) (λ item h. record { own = h.own; shared = λ le. omega (arith, h.shared le, length-append shared more) }) items kept
+    All-weaker (IsKept size n (length shared)) (IsKept size n (length (shared ++ more)))
+    (λ item h. record { own = h.own; shared = λ le. omega (arith, h.shared le, length-append shared more) }) items kept
 
 -- an offset within the file is no mark
 pub kept-own : (size : IdSize) (n many offset : ℕ) → n < 2 ^ 31 → IsIdWithin size n offset → IsKept size n many offset
@@ -59,7 +65,8 @@ all-own size n many offsets small within = All-weaker (IsIdWithin size n) (IsKep
 
 module _ (ids bytes : List ℕ) (size : IdSize) where
   -- what is found for offsets alone
-  pub found-own : (offsets : List ℕ) → length bytes < 2 ^ 31 → All (IsIdWithin size (length bytes)) offsets → map (found_item ids bytes size []) offsets ≡ map (found_code ids bytes size) offsets
+  pub found-own : (offsets : List ℕ) → length bytes < 2 ^ 31 → All (IsIdWithin size (length bytes)) offsets → map (found_item ids bytes size []) offsets ≡ map
+      (found_code ids bytes size) offsets
   found-own [] small within = refl
   found-own (offset ∷ offsets) small within =
       let here = All-head (IsIdWithin size (length bytes)) offset offsets within in

@@ -1,8 +1,10 @@
 -- Lemmas on rows of IDs: one more ID, one more row, what a row holds.
-use Rattle.std.proofs.Common.{◌≡◌, ◌∙◌, ℕ, suc, ◌+◌, ◌-◌, ◌<◌, ◌≤◌, ◌^◌, Bool, List, [], ◌∷◌, ◌++◌, length, map, take, drop, get_or, None, sym, ap, subst, arith, All, eqb, length-append}
+use Rattle.std.proofs.Common.{◌≡◌, ◌∙◌, ℕ, suc, ◌+◌, ◌-◌, ◌<◌, ◌≤◌, ◌^◌, Bool, List, [], ◌∷◌, ◌++◌, length, map, take, drop, get_or, None, sym, ap, subst}
+use Rattle.std.proofs.Common.{arith, All, eqb, length-append}
 use Rattle.std.specs.List.{position}
 use Rattle.std.specs.Prelude.{count_by, sum_by}
-use Rattle.std.proofs.lemmas.List.{ext_get_or, map-append, length-map, drop-append-le, take_all, length-take, length-drop, get_or-take, get_or-drop, get_or-map, drop_all, get_or_append_left}
+use Rattle.std.proofs.lemmas.List.{ext_get_or, map-append, length-map, drop-append-le, take_all, length-take, length-drop, get_or-take, get_or-drop, get_or-map}
+use Rattle.std.proofs.lemmas.List.{drop_all, get_or_append_left}
 use Rattle.std.proofs.lemmas.List.Elements.{All-push, All-weaker}
 use Rattle.hd_terms.specs.declared.IdSize.{IdSize}
 use Rattle.hd_slots.specs.Table.{Rows, Table, row_at, id_at, IsIdWithin}
@@ -10,7 +12,8 @@ use Rattle.hd_slots.specs.Resolving.{AreCodesOf}
 use Rattle.hd_slots.specs.Codes.{id_of_code, object_of_code, IsCode}
 use Rattle.hd_slots.specs.Cuts.{rows_from, last_from, AreRising}
 use Rattle.hd_slots.specs.Parts.{rows_of, AreParts, table_from, AreOffsets}
-use Rattle.hd_slots.proofs.CutLemmas.{rows_from-append, rows_from-push, last_from-push, last_from-within, length-rows_from, row-at, rising-further, rising-push, rows-counted}
+use Rattle.hd_slots.proofs.CutLemmas.{rows_from-append, rows_from-push, last_from-push, last_from-within, length-rows_from, row-at, rising-further, rising-push}
+use Rattle.hd_slots.proofs.CutLemmas.{rows-counted}
 
 -- rows by offsets of IDs in a file
 module _ (bytes : List ℕ) (size : IdSize) (ids starts offsets : List ℕ) (h : AreOffsets bytes size ids starts offsets) where
@@ -26,19 +29,26 @@ module _ (bytes : List ℕ) (size : IdSize) (ids starts offsets : List ℕ) (h :
     many = length-append offsets (offset ∷ [])
 
     pub table-push : table_from bytes size ids starts (offsets ++ offset ∷ [])
-        ≡ record (table_from bytes size ids starts offsets) { filling = (table_from bytes size ids starts offsets).filling ++ id_at bytes size offset ∷ []; count = length offsets + 1 }
+        ≡ record (table_from bytes size ids starts offsets) {
+          filling = (table_from bytes size ids starts offsets).filling ++ id_at bytes size offset ∷ [];
+          count = length offsets + 1;
+        }
     table-push =
         let long : length values ≡ length offsets = length-map offsets (id_at bytes size) in
         let within : All (λ s. s ≤ length values) starts = subst (λ (n : ℕ). All (λ s. s ≤ n) starts) (sym long) h.within in
-        let rows : rows_from starts (map (id_at bytes size) (offsets ++ offset ∷ [])) ≡ rows_from starts values = ap (rows_from starts) more ∙ rows_from-append starts values (id_at bytes size offset ∷ []) within in
-        let rest : drop (last_from 0 starts) (map (id_at bytes size) (offsets ++ offset ∷ [])) ≡ drop (last_from 0 starts) values ++ id_at bytes size offset ∷ [] =
-        ap (drop (last_from 0 starts)) more ∙ drop-append-le (last_from 0 starts) values (id_at bytes size offset ∷ []) (last_from-within (length values) 0 starts (omega arith) within) in
+        let rows : rows_from starts (map (id_at bytes size) (offsets ++ offset ∷ [])) ≡ rows_from starts values = ap (rows_from starts) more
+        ∙ rows_from-append starts values (id_at bytes size offset ∷ []) within in
+        let rest : drop (last_from 0 starts) (map (id_at bytes size) (offsets ++ offset ∷ [])) ≡ drop (last_from 0 starts) values
+        ++ id_at bytes size offset ∷ [] =
+        ap (drop (last_from 0 starts)) more ∙ drop-append-le (last_from 0 starts) values (id_at bytes size offset ∷ [])
+        (last_from-within (length values) 0 starts (omega arith) within) in
         let t : List (List ℕ) → List ℕ → ℕ → Table = λ rs fs n. record { bytes = bytes; size = size; ids = ids; rows = rs; filling = fs; count = n } in
         ap (λ rs. t rs (drop (last_from 0 starts) (map (id_at bytes size) (offsets ++ offset ∷ []))) (length (offsets ++ offset ∷ []))) rows
         ∙ ap (λ fs. t (rows_from starts values) fs (length (offsets ++ offset ∷ []))) rest
         ∙ ap (λ n. t (rows_from starts values) (drop (last_from 0 starts) values ++ id_at bytes size offset ∷ []) n) many
 
-    pub offsets-push : IsIdWithin size (length bytes) offset → length ids + length offsets < 2 ^ 32 - 1 → AreOffsets bytes size ids starts (offsets ++ offset ∷ [])
+    pub offsets-push : IsIdWithin size (length bytes) offset → length ids + length offsets < 2 ^ 32 - 1
+        → AreOffsets bytes size ids starts (offsets ++ offset ∷ [])
     offsets-push in_file room = record {
       small = h.small;
       few = h.few;
@@ -53,13 +63,20 @@ module _ (bytes : List ℕ) (size : IdSize) (ids starts offsets : List ℕ) (h :
 
   -- one more row
   pub table-end : table_from bytes size ids (starts ++ length offsets ∷ []) offsets
-      ≡ record (table_from bytes size ids starts offsets) { rows = (table_from bytes size ids starts offsets).rows ++ (table_from bytes size ids starts offsets).filling ∷ []; filling = [] }
+      ≡ record (table_from bytes size ids starts offsets) {
+        rows = (table_from bytes size ids starts offsets).rows
+            ++ (table_from bytes size ids starts offsets).filling ∷ [];
+        filling = [];
+      }
   table-end =
       let s = last_from 0 starts in
       let long : length values ≡ length offsets = length-map offsets (id_at bytes size) in
-      let part : take (length offsets - s) (drop s values) ≡ drop s values = take_all (length offsets - s) (drop s values) (omega (arith, length-drop s values)) in
-      let rows : rows_from (starts ++ length offsets ∷ []) values ≡ rows_from starts values ++ drop s values ∷ [] = rows_from-push starts (length offsets) values h.begins ∙ ap (λ (p : List ℕ). rows_from starts values ++ p ∷ []) part in
-      let rest : drop (last_from 0 (starts ++ length offsets ∷ [])) values ≡ [] = ap (λ (n : ℕ). drop n values) (last_from-push 0 starts (length offsets)) ∙ drop_all (length offsets) values (omega arith) in
+      let part : take (length offsets - s) (drop s values) ≡ drop s values =
+      take_all (length offsets - s) (drop s values) (omega (arith, length-drop s values)) in
+      let rows : rows_from (starts ++ length offsets ∷ []) values ≡ rows_from starts values ++ drop s values ∷ [] =
+      rows_from-push starts (length offsets) values h.begins ∙ ap (λ (p : List ℕ). rows_from starts values ++ p ∷ []) part in
+      let rest : drop (last_from 0 (starts ++ length offsets ∷ [])) values ≡ [] = ap (λ (n : ℕ). drop n values) (last_from-push 0 starts (length offsets))
+      ∙ drop_all (length offsets) values (omega arith) in
       let t : List (List ℕ) → List ℕ → Table = λ rs fs. record { bytes = bytes; size = size; ids = ids; rows = rs; filling = fs; count = length offsets } in
       ap (λ rs. t rs (drop (last_from 0 (starts ++ length offsets ∷ [])) values)) rows ∙ ap (λ fs. t (rows_from starts values ++ drop s values ∷ []) fs) rest
 
@@ -128,7 +145,15 @@ module _ (ids starts items absent : List ℕ) (h : AreParts ids starts items abs
     row_is = row-at starts (map (id_of_code ids absent) items) o lt
 
     pub length-row : length (row_at (rows_of ids starts items absent) o) ≡ end - start
-    length-row = ap length row_is ∙ omega (arith, length-take (end - start) (drop start (map (id_of_code ids absent) items)), length-drop start (map (id_of_code ids absent) items), length-map items (id_of_code ids absent), end-within)
+    length-row = ap length row_is
+        ∙ omega (
+          arith,
+          length-take (end - start) (drop start (map (id_of_code ids absent) items)),
+          length-drop start
+              (map (id_of_code ids absent) items),
+          length-map items (id_of_code ids absent),
+          end-within,
+        )
 
     -- the same of rows that are these
     pub length-row_of : (t : Rows) → rows_of ids starts items absent ≡ t → length (row_at t o) ≡ end - start
@@ -158,7 +183,8 @@ module _ (ids starts items absent : List ℕ) (h : AreParts ids starts items abs
       code-at : get_or codes i 0 ≡ get_or items (start + i) 0
       code-at = get_or-take (end - start) (drop start items) i 0 (omega (arith, length-row)) ∙ get_or-drop start items i 0
 
-      target-at : get_or (map (object_of_code (length ids)) codes) i None ≡ get_or (map (λ id. position (λ x. eqb id x) ids) (row_at (rows_of ids starts items absent) o)) i None
+      target-at : get_or (map (object_of_code (length ids)) codes) i None ≡ get_or
+          (map (λ id. position (λ x. eqb id x) ids) (row_at (rows_of ids starts items absent) o)) i None
       target-at =
           let row = row_at (rows_of ids starts items absent) o in
           get_or-map (object_of_code (length ids)) codes i 0 None (omega (arith, length-codes, length-row))

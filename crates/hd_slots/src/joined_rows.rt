@@ -1,6 +1,7 @@
-//! The references of four parts of the objects, as the file has them.
-ghost use Rattle.std.specs.Prelude.{◌≡◌, ◌+◌, ◌<◌, ◌^◌, [], length, All, IfOk};
-ghost use Rattle.hd_slots.specs.JoinedInside.{joined_table};
+//! The references of all parts of the objects, as the file has them.
+ghost use Rattle.std.specs.Prelude.{◌≡◌, ◌+◌, ◌<◌, ◌^◌, [], length, map, All, IfOk, Ok};
+ghost use Rattle.hd_slots.specs.JoinedInside.{joined_table, rows_in, AreOfOneFile};
+ghost use Rattle.hd_slots.specs.Table.{Rows};
 
 use crate::resolved_rows::ResolvedRows;
 use crate::slot_table::SlotTable;
@@ -11,15 +12,12 @@ use std::marker::Model;
 use std::sync::Arc;
 use std::thread::{Threads, map_vec};
 
-/// The references of objects as the file has them, in four parts: the rows of each part lie behind those of the one before.
+/// The references of objects as the file has them, in parts: the rows of each part lie behind those of the one before.
 ///
-/// Four threads make the rows of a part of the objects each, and nothing has to be copied where the parts are put together.
+/// Each part is made by a thread of its own, and nothing has to be copied where the parts are put together.
 #[derive(Drop)]
 pub struct JoinedRows<'a> {
-    first: UnresolvedSlots<'a>,
-    second: UnresolvedSlots<'a>,
-    third: UnresolvedSlots<'a>,
-    fourth: UnresolvedSlots<'a>,
+    parts: Vec<UnresolvedSlots<'a>>,
 }
 
 impl<'a> Model for JoinedRows<'a> {
@@ -28,31 +26,32 @@ impl<'a> Model for JoinedRows<'a> {
 
     ghost Value = { Table };
 
-    ghost view = { λ a. joined_table (joined_table (joined_table a.first a.second) a.third) a.fourth };
+    ghost view = { λ a. joined_table a.parts.items };
 
-    ghost invariant = { λ a. AreOfOneFile a.first a.second a.third a.fourth };
+    ghost invariant = { λ a. AreOfOneFile a.parts.items };
+}
+
+/// The resolved rows of all parts, if memory didn't run out in any.
+fn all_resolved(
+    alloc: Global,
+    parts: Vec<Result<ResolvedRows, AllocError>>,
+) -> Result<Vec<ResolvedRows>, AllocError>
+    ensures { IfOk result (λ all. parts.items ≡ map (λ (t : Rows). Ok t) all.items) }
+{
+    let mut all = Vec::with_capacity(alloc, parts.len())?;
+    for part in parts {
+        all.push(part?)?;
+    }
+    Ok(all)
 }
 
 impl<'a> JoinedRows<'a> {
-    /// The rows of all four, which are over the same IDs and of the same file. No row is being filled.
-    pub fn join(
-        first: UnresolvedSlots<'a>,
-        second: UnresolvedSlots<'a>,
-        third: UnresolvedSlots<'a>,
-        fourth: UnresolvedSlots<'a>,
-    ) -> JoinedRows<'a>
-        requires bytes { (second.bytes ≡ first.bytes) × (third.bytes ≡ first.bytes) × (fourth.bytes ≡ first.bytes) }
-        requires size { (second.size ≡ first.size) × (third.size ≡ first.size) × (fourth.size ≡ first.size) }
-        requires ids { (second.ids ≡ first.ids) × (third.ids ≡ first.ids) × (fourth.ids ≡ first.ids) }
-        requires filled { (first.filling ≡ []) × (second.filling ≡ []) × (third.filling ≡ []) × (fourth.filling ≡ []) }
-        ensures { result ≡ joined_table (joined_table (joined_table first.entry second.entry) third.entry) fourth.entry }
+    /// The rows of all parts, 1 to 256 of them, which are over the same IDs and of the same file. No row is being filled.
+    pub fn join(parts: Vec<UnresolvedSlots<'a>>) -> JoinedRows<'a>
+        requires { AreOfOneFile parts.items }
+        ensures { result ≡ joined_table parts.entry.items }
     {
-        JoinedRows {
-            first,
-            second,
-            third,
-            fourth,
-        }
+        JoinedRows { parts }
     }
 
     /// The same rows, over the objects of these IDs.
@@ -66,22 +65,14 @@ impl<'a> JoinedRows<'a> {
         requires room { length ids + self.count < 2 ^ 32 }
         ensures { IfOk result (λ t. t ≡ record self.entry { ids = ids }) }
     {
-        let Self {
-            first,
-            second,
-            third,
-            fourth,
-        } = self;
+        let Self { parts } = self;
         let ids = Arc::new(alloc, ids)?;
-        let second_ids = Arc::try_clone(&ids)?;
-        let third_ids = Arc::try_clone(&ids)?;
-        let fourth_ids = Arc::try_clone(&ids)?;
-        Ok(JoinedRows {
-            first: first.with_ids(ids),
-            second: second.with_ids(second_ids),
-            third: third.with_ids(third_ids),
-            fourth: fourth.with_ids(fourth_ids),
-        })
+        let mut numbered = Vec::with_capacity(alloc, parts.len())?;
+        for part in parts {
+            let ids = Arc::try_clone(&ids)?;
+            numbered.push(part.with_ids(ids))?;
+        }
+        Ok(JoinedRows { parts: numbered })
     }
 
     /// The rows by numbers of objects, which are looked for on all processors, those of all parts side by side.
@@ -92,37 +83,18 @@ impl<'a> JoinedRows<'a> {
     pub fn resolve<R: Threads + Sync>(self, rt: &R, alloc: Global) -> Result<SlotTable, AllocError>
         ensures { IfOk result (λ t. t ≡ record { ids = self.entry.ids; rows = self.entry.rows }) }
     {
-        let Self {
-            first,
-            second,
-            third,
-            fourth,
-        } = self;
-        let mut parts = Vec::with_capacity(alloc, 4)?;
-        parts.push(first)?;
-        parts.push(second)?;
-        parts.push(third)?;
-        parts.push(fourth)?;
-        let mut resolved = map_vec(
+        let Self { parts } = self;
+        let ids = parts[0].share_ids()?;
+        let resolved = map_vec(
             rt,
             parts,
             &|part: UnresolvedSlots<'_>| -> Result<ResolvedRows, AllocError>
                 requires { part.filling ≡ [] }
-                ensures { IfOk result (λ t. t ≡ record { ids = part.entry.ids; rows = part.entry.rows }) }
+                ensures { IfOk result (λ t. t ≡ rows_in part.entry) }
             { part.resolve(rt, alloc) },
         )?;
-        let Some(fourth) = resolved.pop() else {
-            unreachable!()
-        };
-        let Some(third) = resolved.pop() else {
-            unreachable!()
-        };
-        let Some(second) = resolved.pop() else {
-            unreachable!()
-        };
-        let Some(first) = resolved.pop() else {
-            unreachable!()
-        };
-        Ok(SlotTable::new(first?, second?, third?, fourth?))
+        let parts = all_resolved(alloc, resolved)?;
+        let slot_table = SlotTable::new(alloc, ids, parts)?;
+        Ok(slot_table)
     }
 }

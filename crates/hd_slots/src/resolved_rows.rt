@@ -98,32 +98,6 @@ impl ResolvedRows {
         self.starts.as_slice().len() - 1
     }
 
-    /// How many objects there are.
-    pub(crate) fn objects(&self) -> usize
-        ensures { result ≡ length self.now.ids }
-    {
-        self.objects
-    }
-
-    /// The ID of the object of a number.
-    pub(crate) fn id_of(&self, o: u32) -> u64
-        requires { o < length self.now.ids }
-        ensures { result ≡ slice_index self.now.ids o }
-    {
-        self.ids.get(o as usize)
-    }
-
-    /// The number of the object with an ID. No two objects have one ID.
-    pub(crate) fn index_of(&self, id: u64) -> Option<u32>
-        ensures first { result ≡ position (λ x. id == x) self.now.ids }
-        ensures distinct { (o : ℕ) → o < length self.now.ids → slice_index self.now.ids o ≡ id → result ≡ Some o }
-    {
-        match self.ids.index_of(id) {
-            Some(object) => Some(object as u32),
-            None => None,
-        }
-    }
-
     /// How many IDs the row of an object has.
     pub(crate) fn row_len(&self, o: u32) -> u32
         requires { o < length self.now.rows }

@@ -1,70 +1,71 @@
 //! The references of all objects by the numbers of the objects referred to, row by row.
-ghost use Rattle.std.specs.Prelude.{◌≡◌, ℕ, ◌+◌, ◌<◌, ◌-◌, ◌^◌, ◌==◌, length, map, position, slice_index, Some};
+ghost use Rattle.std.specs.Prelude.{◌≡◌, ℕ, ◌<◌, ◌≤◌, ◌==◌, length, map, position, slice_index, Some, IfOk};
+ghost use Rattle.std.specs.Arc.{arc_value};
 ghost use Rattle.hd_slots.specs.Cuts.{last_from};
-ghost use Rattle.hd_slots.specs.Table.{row_at, known_in, absent_in};
-ghost use Rattle.hd_slots.specs.JoinedInside.{joined_rows};
+ghost use Rattle.hd_slots.specs.Table.{Rows, row_at, known_in, absent_in};
+ghost use Rattle.hd_slots.specs.JoinedInside.{joined_rows, AreOfOneDump};
 
 use crate::counting::IdCounts;
 use crate::resolved_rows::ResolvedRows;
 use crate::targets::Targets;
+use hd_ids::ObjectIds;
+use hd_parts::PartIndex;
+use std::alloc::{AllocError, Global};
 use std::marker::Model;
+use std::sync::Arc;
 
-/// The references of all objects, a row of IDs for each, in four parts: the rows of each part lie behind those of the one before.
+/// The references of all objects, a row of IDs for each, in parts: the rows of each part lie behind those of the one before.
 #[derive(Drop)]
 pub struct SlotTable {
-    first: ResolvedRows,
-    second: ResolvedRows,
-    third: ResolvedRows,
-    fourth: ResolvedRows,
-    /// How many rows the first part has.
-    first_end: usize,
-    /// How many the first two parts have.
-    second_end: usize,
-    /// How many the first three parts have.
-    third_end: usize,
+    ids: Arc<ObjectIds>,
+    parts: Vec<ResolvedRows>,
+    /// How many rows each part has.
+    index: PartIndex,
 }
 
 impl Model for SlotTable {
+    ghost use Rattle.std.specs.Arc.{arc_value};
     ghost use Rattle.hd_slots.specs.Table.{Rows};
-    ghost use Rattle.hd_slots.specs.JoinedInside.{joined_rows, AreOfOneDump};
+    ghost use Rattle.hd_slots.specs.JoinedInside.{joined_rows, AreIndexed};
 
     ghost Value = { Rows };
 
-    ghost view = { λ a. joined_rows (joined_rows (joined_rows a.first a.second) a.third) a.fourth };
+    ghost view = { λ a. joined_rows (arc_value a.ids) a.parts.items };
 
-    ghost invariant = { λ a. AreOfOneDump a.first a.second a.third a.fourth a.first_end a.second_end a.third_end };
+    ghost invariant = { λ a. AreIndexed (arc_value a.ids) a.parts.items a.index };
+}
+
+/// How many rows each part has.
+fn lens_of(alloc: Global, parts: &[ResolvedRows]) -> Result<Vec<usize>, AllocError>
+    ensures { IfOk result (λ lens. lens.items ≡ map (λ (t : Rows). length t.rows) parts.now) }
+{
+    let mut lens = Vec::with_capacity(alloc, parts.len())?;
+    for part in parts {
+        lens.push(part.rows())?;
+    }
+    Ok(lens)
 }
 
 impl SlotTable {
-    /// The rows of all four parts, which are over the same IDs.
+    /// The rows of all parts, 1 to 256 of them, which are over these IDs.
     pub(crate) fn new(
-        first: ResolvedRows,
-        second: ResolvedRows,
-        third: ResolvedRows,
-        fourth: ResolvedRows,
-    ) -> SlotTable
-        requires { (second.ids ≡ first.ids) × (third.ids ≡ first.ids) × (fourth.ids ≡ first.ids) }
-        ensures { result ≡ joined_rows (joined_rows (joined_rows first second) third) fourth }
+        alloc: Global,
+        ids: Arc<ObjectIds>,
+        parts: Vec<ResolvedRows>,
+    ) -> Result<SlotTable, AllocError>
+        requires { AreOfOneDump (arc_value ids) parts.items }
+        ensures { IfOk result (λ t. t ≡ joined_rows (arc_value ids) parts.items) }
     {
-        let first_end = first.rows();
-        let second_end = first_end + second.rows();
-        let third_end = second_end + third.rows();
-        SlotTable {
-            first,
-            second,
-            third,
-            fourth,
-            first_end,
-            second_end,
-            third_end,
-        }
+        let lens = lens_of(alloc, parts.as_slice())?;
+        let index = PartIndex::of(alloc, lens.as_slice())?;
+        Ok(SlotTable { ids, parts, index })
     }
 
     /// How many objects there are.
     pub fn objects(&self) -> usize
         ensures { result ≡ length self.now.ids }
     {
-        self.first.objects()
+        self.ids.len()
     }
 
     /// The ID of the object of a number.
@@ -72,7 +73,7 @@ impl SlotTable {
         requires { o < length self.now.ids }
         ensures { result ≡ slice_index self.now.ids o }
     {
-        self.first.id_of(o)
+        self.ids.get(o as usize)
     }
 
     /// The number of the object with an ID. No two objects have one ID.
@@ -80,7 +81,10 @@ impl SlotTable {
         ensures first { result ≡ position (λ x. id == x) self.now.ids }
         ensures distinct { (o : ℕ) → o < length self.now.ids → slice_index self.now.ids o ≡ id → result ≡ Some o }
     {
-        self.first.index_of(id)
+        match self.ids.index_of(id) {
+            Some(object) => Some(object as u32),
+            None => None,
+        }
     }
 
     /// The part that has the row of an object, and the number of the row there.
@@ -91,17 +95,8 @@ impl SlotTable {
         ensures within { result.1 < length result.0.now.rows }
         ensures same { row_at result.0.now result.1 ≡ row_at self.now o }
     {
-        let row = o as usize;
-        if row < self.second_end {
-            if row < self.first_end {
-                return (&self.first, o);
-            }
-            return (&self.second, (row - self.first_end) as u32);
-        }
-        if row < self.third_end {
-            return (&self.third, (row - self.second_end) as u32);
-        }
-        (&self.fourth, (row - self.third_end) as u32)
+        let (part, first) = self.index.find(o);
+        (&self.parts[part], o - first)
     }
 
     /// How many IDs the row of an object has.
@@ -139,14 +134,16 @@ impl SlotTable {
         ensures objects { result.objects ≡ known_in self.now }
         ensures others { result.others ≡ absent_in self.now }
     {
-        let first = self.first.counts();
-        let second = self.second.counts();
-        let third = self.third.counts();
-        let fourth = self.fourth.counts();
-        IdCounts {
-            objects: first.objects + second.objects + third.objects + fourth.objects,
-            others: first.others + second.others + third.others + fourth.others,
+        let mut counts = IdCounts {
+            objects: 0,
+            others: 0,
+        };
+        for part in self.parts.as_slice() {
+            let more = part.counts();
+            counts.objects += more.objects;
+            counts.others += more.others;
         }
+        counts
     }
 
     /// The last ID of an object's row, 0 where it has none.

@@ -176,6 +176,15 @@ impl<'a> UnresolvedSlots<'a> {
         next < self.ids.len() && self.ids.get(next) == id
     }
 
+    /// The IDs of the objects, which are shared.
+    pub(crate) fn share_ids(&self) -> Result<Arc<ObjectIds>, AllocError>
+        ensures ids { IfOk result (λ ids. arc_value ids ≡ self.now.ids) }
+        ensures few { IfOk result (λ ids. length (arc_value ids) < 2 ^ 31) }
+    {
+        let ids = Arc::try_clone(&self.ids)?;
+        Ok(ids)
+    }
+
     /// The same rows, over the objects of these IDs.
     pub(crate) fn with_ids(self, ids: Arc<ObjectIds>) -> UnresolvedSlots<'a>
         requires few { length (arc_value ids) < 2 ^ 31 }

@@ -1,5 +1,6 @@
 -- One event more is one live edit more, or one fewer.
-use Rattle.std.proofs.Common.{◌≡◌, ◌∙◌, inl, inr, ℕ, ◌<◌, ◌≤◌, ◌==◌, Bool, true, false, cond, not, List, [], ◌∷◌, ◌++◌, length, Option, Some, None, slice_get, refl, sym, ap, subst, arith, length-append}
+use Rattle.std.proofs.Common.{◌≡◌, ◌∙◌, inl, inr, ℕ, ◌<◌, ◌≤◌, ◌==◌, Bool, true, false, cond, not, List, [], ◌∷◌, ◌++◌, length, Option, Some, None, slice_get}
+use Rattle.std.proofs.Common.{refl, sym, ap, subst, arith, length-append}
 use Rattle.std.specs.Option.{option_and_then, option_or}
 use Rattle.std.proofs.lemmas.Bool.{cases_lt, cases_eq, eq-eqb, eqb-true}
 use Rattle.std.proofs.lemmas.Option.{option_and_then_some}
@@ -132,13 +133,15 @@ module _ (before later : List Event) (next : IsNextLog before later) (e : Event)
 
   -- an edit is done
   pub moves_done : (edit : Edit) → e.what ≡ whats.Do edit → Moves before later (not (adds_root (Some edit))) (length before) edit
-  moves_done edit is = done-by before later (length before) edit (subst (λ (log : List Event). HasOneMore before log (length before) edit) later-is (edit-more before e edit is))
+  moves_done edit is = done-by before later (length before) edit
+      (subst (λ (log : List Event). HasOneMore before log (length before) edit) later-is (edit-more before e edit is))
 
   by-what : (what : What) (k : ℕ) → log_fault_of before e.who what ≡ None → what ≡ whats.Undo k → IsOwnLive before k e.who
   by-what (whats.Do edit) k none is = absurd cc
   by-what (whats.Undo j) k none is =
       let same : j ≡ k = cc in
-      subst (λ (n : ℕ). IsOwnLive before n e.who) same (own_live_event before j e.who (first-none (undo_fault before j e.who (slice_get before j)) (full_fault before) none))
+      subst (λ (n : ℕ). IsOwnLive before n e.who) same
+      (own_live_event before j e.who (first-none (undo_fault before j e.who (slice_get before j)) (full_fault before) none))
 
   own : (k : ℕ) → e.what ≡ whats.Undo k → IsOwnLive before k e.who
   own k is = by-what e.what k no-fault is
@@ -151,9 +154,12 @@ module _ (before later : List Event) (next : IsNextLog before later) (e : Event)
   pub moves_back : (k : ℕ) (moved : Moved) → e.what ≡ whats.Undo k → IsMovedBack before k moved → Moves before later moved.loses moved.event moved.edit
   moves_back k moved is back =
       let edit : moved.edit ≡ (own k is).edit = back.is e.who (own k is).edit (own k is).own in
-      let fewer : HasOneMore later before k (own k is).edit = subst (λ (log : List Event). HasOneMore log before k (own k is).edit) later-is (edit-fewer before e k e.who (own k is) is) in
-      let undone : Moves before later (adds_root (Some moved.edit)) k moved.edit = undone-by before later k moved.edit (subst (λ (y : Edit). HasOneMore later before k y) (sym edit) fewer) in
-      subst (λ (n : ℕ). Moves before later moved.loses n moved.edit) (sym back.event) (subst (λ (b : Bool). Moves before later b k moved.edit) (sym back.loses) undone)
+      let fewer : HasOneMore later before k (own k is).edit = subst (λ (log : List Event). HasOneMore log before k (own k is).edit) later-is
+      (edit-fewer before e k e.who (own k is) is) in
+      let undone : Moves before later (adds_root (Some moved.edit)) k moved.edit =
+      undone-by before later k moved.edit (subst (λ (y : Edit). HasOneMore later before k y) (sym edit) fewer) in
+      subst (λ (n : ℕ). Moves before later moved.loses n moved.edit) (sym back.event)
+      (subst (λ (b : Bool). Moves before later b k moved.edit) (sym back.loses) undone)
 
   -- an edit that is done is one live edit more
   pub edits_done : (edit : Edit) → IsLawful before → e.what ≡ whats.Do edit → ChangesEdits before later true edit

@@ -1,6 +1,7 @@
 //! The dumps that several tests share.
 use hd_decode::NoGate;
-use hd_graph::{Graph, open_dump};
+use hd_graph::Graph;
+use hd_opening::open_dump;
 use hd_spell::spell;
 use hd_terms::{Mode, NoMemory};
 use std::alloc::Global;

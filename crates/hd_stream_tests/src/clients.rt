@@ -1,7 +1,7 @@
 //! A server over the two arrays, and clients that ask it.
 use hd_board::open;
 use hd_decode::NoGate;
-use hd_graph::open_dump;
+use hd_opening::open_dump;
 use hd_protocol::SAMPLE;
 use hd_server::{ServeOnFault, serve_on};
 use hd_terms::Mode;

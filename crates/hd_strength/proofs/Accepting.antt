@@ -1,4 +1,5 @@
-use Rattle.std.proofs.Common.{◌≡◌, ◌≢◌, ◌∙◌, ℕ, ◌+◌, ◌-◌, ◌<◌, ◌≤◌, inl, inr, Bool, List, [], ◌∷◌, Contains, length, length-append, set, Some, slice_get, refl, sym, ap, subst, arith}
+use Rattle.std.proofs.Common.{◌≡◌, ◌≢◌, ◌∙◌, ℕ, ◌+◌, ◌-◌, ◌<◌, ◌≤◌, inl, inr, Bool, List, [], ◌∷◌, Contains, length, length-append, set, Some, slice_get, refl}
+use Rattle.std.proofs.Common.{sym, ap, subst, arith}
 use Rattle.std.proofs.lemmas.Bool.{cases_eq, cases_lt}
 use Rattle.std.proofs.lemmas.List.{get_or-set_same, get_or-set_other, length-set}
 use Rattle.std.proofs.lemmas.List.Elements.{Contains-push, Contains-push_cases, Contains-append_left}
@@ -24,7 +25,8 @@ use Rattle.hd_strength.proofs.RowLemmas.{at_source}
 use Rattle.hd_strength.proofs.FoundLemmas.{seen-strength}
 use Rattle.hd_strength.proofs.Weights.{weight, weight-none, weight-some}
 use Rattle.hd_strength.proofs.Grow.{still_had, take}
-use Rattle.hd_strength.proofs.Spreading.{rows_of, kept_by, offered_strength-some, sum-set, part-le-sum, own_rank, own_within, offers_stay, offers_within, done_before, not_queued_after, own_before, changed}
+use Rattle.hd_strength.proofs.Spreading.{rows_of, kept_by, offered_strength-some, sum-set, part-le-sum, own_rank, own_within, offers_stay, offers_within}
+use Rattle.hd_strength.proofs.Spreading.{done_before, not_queued_after, own_before, changed}
 
 -- one of a part's own is reached by an edge, with the stamp behind one
 module _ (mode : Mode) (whole : Bool) (s : Strength) (old new : Part) (e : Edge) (stamp : ℕ)
@@ -39,7 +41,8 @@ module _ (mode : Mode) (whole : Bool) (s : Strength) (old new : Part) (e : Edge)
   place_within = omega (arith, own.first, own.last)
 
   pub found_here : found_at new e.target ≡ seen whole k
-  found_here = ap (λ (n : ℕ). reached_at new.found.list (e.target - n)) r.keeps.same_first ∙ ap (λ (f : Findings). reached_at f.list place) r.keeps.kept ∙ get_or-set_same old.found.list place (seen whole k) unreached place_within
+  found_here = ap (λ (n : ℕ). reached_at new.found.list (e.target - n)) r.keeps.same_first ∙ ap (λ (f : Findings). reached_at f.list place) r.keeps.kept
+      ∙ get_or-set_same old.found.list place (seen whole k) unreached place_within
 
   pub found_others : (o : ℕ) → IsOwn old o → o ≢ e.target → found_at new o ≡ found_at old o
   found_others o his ne =
@@ -84,9 +87,11 @@ module _ (mode : Mode) (whole : Bool) (s : Strength) (old new : Part) (e : Edge)
   queued_here : IsPassedOn mode s → Contains new.queue e.target
   queued_here high = subst (λ (xs : List ℕ). Contains xs e.target) (sym (r.queued high)) (Contains-push old.queue e.target)
 
-  queued_after : ((o : ℕ) → Contains old.queue o → IsOwn old o × ((found_at old o).strength ≡ s) × IsPassedOn mode s) → (o : ℕ) → Contains new.queue o → IsOwn new o × ((found_at new o).strength ≡ s) × IsPassedOn mode s
+  queued_after : ((o : ℕ) → Contains old.queue o → IsOwn old o × ((found_at old o).strength ≡ s) × IsPassedOn mode s) → (o : ℕ) → Contains new.queue o
+      → IsOwn new o × ((found_at new o).strength ≡ s) × IsPassedOn mode s
   queued_after h o c = elim (cases_lt (rank s) (rank (least_passed_on mode))) [
-    | inl low ↦ let before = h o (subst (λ (xs : List ℕ). Contains xs o) (r.not_queued (λ high. omega arith)) c) in (own_after o before.0, still o before.0 before.1, before.2)
+    | inl low ↦ let before = h o (subst (λ (xs : List ℕ). Contains xs o) (r.not_queued (λ high. omega arith)) c) in
+        (own_after o before.0, still o before.0 before.1, before.2)
     | inr high ↦ elim (Contains-push_cases old.queue e.target o (subst (λ (xs : List ℕ). Contains xs o) (r.queued high) c)) [
       | inl before ↦ let was = h o before in (own_after o was.0, still o was.0 was.1, high)
       | inr same ↦ subst (λ (o : ℕ). IsOwn new o × ((found_at new o).strength ≡ s) × IsPassedOn mode s) same (own_after e.target own, strength_here, high)
@@ -108,13 +113,15 @@ module _ (mode : Mode) (whole : Bool) (s : Strength) (old new : Part) (e : Edge)
   fit_after dump same_mode f some room = record {
     within = omega (arith, f.within, r.keeps.same_first, same_length);
     few = f.few;
-    queued = λ o c. let q = queued_after (λ o c. let was = f.queued o c in (was.0, was.1, subst (λ (m : Mode). IsPassedOn m s) same_mode was.2)) o c in (q.0, q.1, subst (λ (m : Mode). IsPassedOn m s) (sym same_mode) q.2);
+    queued = λ o c. let q = queued_after (λ o c. let was = f.queued o c in (was.0, was.1, subst (λ (m : Mode). IsPassedOn m s) same_mode was.2)) o c in
+        (q.0, q.1, subst (λ (m : Mode). IsPassedOn m s) (sym same_mode) q.2);
     room = omega (arith, room, r.keeps.counted, fewer some);
     offered = λ u y c. own_after y.source (f.offered u y (subst (λ (b : Buckets). Contains (bucket b u) y) r.keeps.same_buckets c));
   }
 
 -- by an offer that is backed, or could be made
-module _ (dump : Dump) (log : List Event) (parts : List Part) (ks : List Reached) (whole : Bool) (s : Strength) (limit : ℕ) (D D' : ℕ → ℕ → Type 0) (m : ℕ) (old new : Part) (x : Offer) (e : Edge) (stamp : ℕ)
+module _ (dump : Dump) (log : List Event) (parts : List Part) (ks : List Reached) (whole : Bool) (s : Strength) (limit : ℕ) (D D' : ℕ → ℕ → Type 0) (m : ℕ)
+    (old new : Part) (x : Offer) (e : Edge) (stamp : ℕ)
     (h : IsSearching dump log parts ks whole s limit D) (there : slice_get parts m ≡ Some old)
     (r : Reaches (seen whole) dump.mode old new s e.source e.slot e.target stamp) (own : IsOwn old e.target) (low : rank (found_at old e.target).strength ≡ 0)
     (is : edge_at dump log x.source x.index ≡ Some e) (passes : PassesOn dump.mode (reached_at ks x.source)) (gives : s ≡ offered_strength ks e)
@@ -166,17 +173,24 @@ module _ (dump : Dump) (log : List Event) (parts : List Part) (ks : List Reached
 
   done_part : (o i : ℕ) → IsDoneIn after o × D' o i → PassesOn dump.mode (reached_at kept_after o) → (IsDoneIn parts o × D o i) × (o ≢ t)
   done_part o i done p = (
-    (done_before parts m old new there o done.0 (λ c. not_queued_after parts m old new there o done.0 (still_queued dump.mode whole s old new e stamp r own low o c)), part o i done.1),
+    (
+      done_before parts m old new there o done.0
+          (λ c. not_queued_after parts m old new there o done.0 (still_queued dump.mode whole s old new e stamp r own low o c)),
+      part o i done.1,
+    ),
     λ same.
         let rank_t : rank_at kept_after o ≡ rank s = ap (rank_at kept_after) same ∙ ap (λ (k : Reached). rank k.strength) here in
-        not_queued_after parts m old new there o done.0 (subst (λ (o : ℕ). Contains new.queue o) (sym same) (queued_here dump.mode whole s old new e stamp r own low (omega (arith, p)))),
+        not_queued_after parts m old new there o done.0
+        (subst (λ (o : ℕ). Contains new.queue o) (sym same) (queued_here dump.mode whole s old new e stamp r own low (omega (arith, p)))),
   )
 
   grown : IsGrowing (standing dump log) (edge_at dump log) kept_after (IsOfferedIn after) s limit (λ o i. IsDoneIn after o × D' o i)
-  grown = take (standing dump log) (edge_at dump log) (rows_of dump log) ks kept_after (IsOfferedIn parts) (IsOfferedIn after) s limit (λ o i. IsDoneIn parts o × D o i) (λ o i. IsDoneIn after o × D' o i) x e
+  grown = take (standing dump log) (edge_at dump log) (rows_of dump log) ks kept_after (IsOfferedIn parts) (IsOfferedIn after) s limit
+      (λ o i. IsDoneIn parts o × D o i) (λ o i. IsDoneIn after o × D' o i) x e
       h.growing within stay is passes gives low_kept stamp last here others done_part
 
-  had : (given o : ℕ) → IsHadOrPromised (edge_at dump log) ks (IsOfferedIn parts) given o → IsHadOrPromised (edge_at dump log) kept_after (IsOfferedIn after) given o
+  had : (given o : ℕ) → IsHadOrPromised (edge_at dump log) ks (IsOfferedIn parts) given o
+      → IsHadOrPromised (edge_at dump log) kept_after (IsOfferedIn after) given o
   had = still_had (edge_at dump log) ks kept_after (IsOfferedIn parts) (IsOfferedIn after) raises stay
 
   same_len : length new.found.list ≡ length old.found.list
@@ -186,12 +200,15 @@ module _ (dump : Dump) (log : List Event) (parts : List Part) (ks : List Reached
   own_old = own_before dump log parts ks whole s limit D m old new h there r.keeps.same_first same_len
 
   fit_new : IsFit dump s new
-  fit_new = fit_after dump.mode whole s old new e stamp r own low dump refl (h.each m old there).fit some (omega (arith, room, part-le-sum unreached_of parts m old there))
+  fit_new = fit_after dump.mode whole s old new e stamp r own low dump refl (h.each m old there).fit some
+      (omega (arith, room, part-le-sum unreached_of parts m old there))
 
   found_kept : (o : ℕ) → IsOwn new o → found_at new o ≡ seen whole (reached_at kept_after o)
   found_kept o mine = elim (cases_eq o t) [
-    | inl same ↦ subst (λ (o : ℕ). found_at new o ≡ seen whole (reached_at kept_after o)) (sym same) (found_here dump.mode whole s old new e stamp r own low ∙ ap (seen whole) (sym here))
-    | inr other ↦ found_others dump.mode whole s old new e stamp r own low o (own_old o mine) other ∙ (h.each m old there).own o (own_old o mine) ∙ ap (seen whole) (sym (others o other))
+    | inl same ↦ subst (λ (o : ℕ). found_at new o ≡ seen whole (reached_at kept_after o)) (sym same) (found_here dump.mode whole s old new e stamp r own low
+        ∙ ap (seen whole) (sym here))
+    | inr other ↦ found_others dump.mode whole s old new e stamp r own low o (own_old o mine) other ∙ (h.each m old there).own o (own_old o mine)
+        ∙ ap (seen whole) (sym (others o other))
   ]
 
   stamps_after : (o : ℕ) → IsOwn new o → (reached_at kept_after o).stamp ≤ new.count
@@ -201,7 +218,8 @@ module _ (dump : Dump) (log : List Event) (parts : List Part) (ks : List Reached
   ]
 
   pub accepted : IsSearching dump log after kept_after whole s limit D'
-  accepted = changed dump log parts ks whole s limit D m old new h there r.keeps.same_first same_len kept_after limit D' grown fit_new (ap (λ (f : Findings). f.whole) r.keeps.kept) found_kept stamps_after
+  accepted = changed dump log parts ks whole s limit D m old new h there r.keeps.same_first same_len kept_after limit D' grown fit_new
+      (ap (λ (f : Findings). f.whole) r.keeps.kept) found_kept stamps_after
       (omega (arith, room, r.keeps.counted, fewer_in)) (omega (arith, fewer_in)) (λ o apart. others o (λ same. apart (subst (IsOwn old) (sym same) own))) had
       (λ o flag. had (rank s) o ((h.each m old there).handed o (rw (← r.keeps.same_handed) flag))) (length-set ks t k')
 

@@ -18,19 +18,24 @@ use Rattle.hd_strength.specs.Buckets.{bucket, AddsTo}
 use Rattle.hd_strength.specs.Found.{Findings, seen}
 use Rattle.hd_strength.specs.Rows.{width, edge_at}
 use Rattle.hd_strength.specs.Growing.{rank_at, offered_strength, offer_at, IsBacked, IsHadOrPromised, unreached_count}
-use Rattle.hd_strength.specs.Parts.{IsOwn, found_at, unreached_of, to_do, IsOfferedIn, IsDoneIn, IsFit, IsSearching, AreSearching, IsAny, IsBelow, GoesOn, HasGoneOn, HasRelaxed, IsSameBut, IsTakenOut, HasNoneQueued, IsPassedOver, IsAccepted, IsOffered, IsSlotRelaxed, Reaches}
+use Rattle.hd_strength.specs.Parts.{IsOwn, found_at, unreached_of, to_do, IsOfferedIn, IsDoneIn, IsFit, IsSearching, AreSearching, IsAny, IsBelow, GoesOn}
+use Rattle.hd_strength.specs.Parts.{HasGoneOn, HasRelaxed, IsSameBut, IsTakenOut, HasNoneQueued, IsPassedOver, IsAccepted, IsOffered, IsSlotRelaxed, Reaches}
 use Rattle.hd_strength.proofs.RowLemmas.{at_source, is_at}
 use Rattle.hd_strength.proofs.Rowed.{slice_get-set_same, set-there}
 use Rattle.hd_strength.proofs.Grow.{still_had, less_had, weaken, offer, offered_strength-le}
-use Rattle.hd_strength.proofs.Spreading.{own_strength, own_rank, offers_stay, offers_within, offered_cases, here_after, done_before, not_queued_after, unchanged}
+use Rattle.hd_strength.proofs.Spreading.{own_strength, own_rank, offers_stay, offers_within, offered_cases, here_after, done_before, not_queued_after}
+use Rattle.hd_strength.proofs.Spreading.{unchanged}
 use Rattle.hd_strength.proofs.Accepting.{accepted, kept_after, target_after, no_more, own_after, still, fit_after}
 
 -- two steps after one another
-pub goes_on_after : (dump : Dump) (log : List Event) (s : Strength) (D E F : ℕ → ℕ → Type 0) (a b c : Part) → GoesOn dump log s D E a b → GoesOn dump log s E F b c → GoesOn dump log s D F a c
+pub goes_on_after : (dump : Dump) (log : List Event) (s : Strength) (D E F : ℕ → ℕ → Type 0) (a b c : Part) → GoesOn dump log s D E a b
+    → GoesOn dump log s E F b c → GoesOn dump log s D F a c
 goes_on_after dump log s D E F a b c first second whole parts k there h =
-    subst (AreSearching dump log whole s (rank s + 1) F) (set-set parts k b c) (second whole (set parts k b) k (slice_get-set_same parts k a b there) (first whole parts k there h))
+    subst (AreSearching dump log whole s (rank s + 1) F) (set-set parts k b c)
+    (second whole (set parts k b) k (slice_get-set_same parts k a b there) (first whole parts k there h))
 
-pub gone_on_after : (dump : Dump) (log : List Event) (s : Strength) (D E F : ℕ → ℕ → Type 0) (a b c : Part) → HasGoneOn dump log s D E a b → HasGoneOn dump log s E F b c → HasGoneOn dump log s D F a c
+pub gone_on_after : (dump : Dump) (log : List Event) (s : Strength) (D E F : ℕ → ℕ → Type 0) (a b c : Part) → HasGoneOn dump log s D E a b
+    → HasGoneOn dump log s E F b c → HasGoneOn dump log s D F a c
 gone_on_after dump log s D E F a b c first second = record {
   fit = second.fit;
   goes_on = goes_on_after dump log s D E F a b c first.goes_on second.goes_on;
@@ -62,7 +67,8 @@ module _ (dump : Dump) (log : List Event) (s : Strength) (old new : Part) (same 
     offered = λ u y c. own_same_back old new same.first same.found y.source (f.offered u y (subst (λ (b : Buckets). Contains (bucket b u) y) same.buckets c));
   }
 
-  module _ (D D' : ℕ → ℕ → Type 0) (whole : Bool) (parts : List Part) (k : ℕ) (there : slice_get parts k ≡ Some old) (h : AreSearching dump log whole s (rank s + 1) D parts) where
+  module _ (D D' : ℕ → ℕ → Type 0) (whole : Bool) (parts : List Part) (k : ℕ) (there : slice_get parts k ≡ Some old)
+      (h : AreSearching dump log whole s (rank s + 1) D parts) where
     abbrev after : List Part
     after = set parts k new
 
@@ -73,22 +79,28 @@ module _ (dump : Dump) (log : List Event) (s : Strength) (old new : Part) (same 
     within = offers_within parts k old new there (λ u y c. subst (λ (b : Buckets). Contains (bucket b u) y) same.buckets c)
 
     -- the search goes on, where what is done was done
-    pub same_goes_on : ((o : ℕ) → Contains new.queue o → Contains old.queue o) → ((o i : ℕ) → (Contains new.queue o → ⊥) → D' o i → (Contains old.queue o → ⊥) × D o i) → AreSearching dump log whole s (rank s + 1) D' after
+    pub same_goes_on : ((o : ℕ) → Contains new.queue o → Contains old.queue o)
+        → ((o i : ℕ) → (Contains new.queue o → ⊥) → D' o i → (Contains old.queue o → ⊥) × D o i) → AreSearching dump log whole s (rank s + 1) D' after
     same_goes_on queue part = record {
       kept = h.kept;
-      holds = unchanged dump log parts h.kept whole s (rank s + 1) D k old new h.holds there same.first (ap (λ (f : Findings). length f.list) same.found) (rank s + 1) D' same.found same.count
-          (weaken (standing dump log) (edge_at dump log) h.kept (IsOfferedIn after) s (rank s + 1) (λ o i. IsDoneIn parts o × D o i) (λ o i. IsDoneIn after o × D' o i)
-          (offer (standing dump log) (edge_at dump log) h.kept (IsOfferedIn parts) (IsOfferedIn after) s (rank s + 1) (rank s + 1) (λ o i. IsDoneIn parts o × D o i) h.holds.growing (omega arith) stay (λ u y c. inl (within u y c)))
+      holds = unchanged dump log parts h.kept whole s (rank s + 1) D k old new h.holds there same.first (ap (λ (f : Findings). length f.list) same.found)
+          (rank s + 1) D' same.found same.count
+          (weaken (standing dump log) (edge_at dump log) h.kept (IsOfferedIn after) s (rank s + 1) (λ o i. IsDoneIn parts o × D o i)
+          (λ o i. IsDoneIn after o × D' o i)
+          (offer (standing dump log) (edge_at dump log) h.kept (IsOfferedIn parts) (IsOfferedIn after) s (rank s + 1) (rank s + 1)
+          (λ o i. IsDoneIn parts o × D o i) h.holds.growing (omega arith) stay (λ u y c. inl (within u y c)))
           (λ o i e done there' p.
           let was = part o i (not_queued_after parts k old new there o done.0) done.1 in
           inl (done_before parts k old new there o done.0 was.0, was.1)))
           (fit_same queue (h.holds.each k old there).fit)
           (still_had (edge_at dump log) h.kept h.kept (IsOfferedIn parts) (IsOfferedIn after) (λ o. omega arith) stay)
-          (λ o flag. still_had (edge_at dump log) h.kept h.kept (IsOfferedIn parts) (IsOfferedIn after) (λ o. omega arith) stay (rank s) o ((h.holds.each k old there).handed o (same.handed o flag)));
+          (λ o flag. still_had (edge_at dump log) h.kept h.kept (IsOfferedIn parts) (IsOfferedIn after) (λ o. omega arith) stay (rank s) o
+          ((h.holds.each k old there).handed o (same.handed o flag)));
     }
 
 -- a part that is as it was goes on
-pub rested : (dump : Dump) (log : List Event) (s : Strength) (D : ℕ → ℕ → Type 0) (old new : Part) → IsFit dump s old → IsSameBut old new → new.queue ≡ old.queue → HasGoneOn dump log s D D old new
+pub rested : (dump : Dump) (log : List Event) (s : Strength) (D : ℕ → ℕ → Type 0) (old new : Part) → IsFit dump s old → IsSameBut old new
+    → new.queue ≡ old.queue → HasGoneOn dump log s D D old new
 rested dump log s D old new f same queue = record {
   fit = fit_same dump log s old new same (λ o c. subst (λ (xs : List ℕ). Contains xs o) queue c) f;
   goes_on = λ whole parts k there h. same_goes_on dump log s old new same D D whole parts k there h (λ o c. subst (λ (xs : List ℕ). Contains xs o) queue c)
@@ -97,7 +109,8 @@ rested dump log s D old new f same queue = record {
 }
 
 -- an object is taken out of the queue
-pub taken_out : (dump : Dump) (log : List Event) (s : Strength) (old new : Part) (o : ℕ) → IsFit dump s old → IsTakenOut old new o → HasGoneOn dump log s IsAny (IsBelow o 0) old new
+pub taken_out : (dump : Dump) (log : List Event) (s : Strength) (old new : Part) (o : ℕ) → IsFit dump s old → IsTakenOut old new o
+    → HasGoneOn dump log s IsAny (IsBelow o 0) old new
 taken_out dump log s old new o f t = record {
   fit = fit_same dump log s old new t.same t.taken.before f;
   goes_on = λ whole parts k there h. same_goes_on dump log s old new t.same IsAny (IsBelow o 0) whole parts k there h t.taken.before
@@ -116,10 +129,13 @@ pub taken-less : (old new : Part) (o : ℕ) → IsTakenOut old new o → to_do n
 taken-less old new o t = omega (arith, unreached_same old new t.same.first t.same.found, t.taken.one_less)
 
 -- one more slot is done, by a fact of its own
-pub slot_done : (dump : Dump) (log : List Event) (whole : Bool) (s : Strength) (limit : ℕ) (o i : ℕ) (parts : List Part) (ks : List Reached) → IsSearching dump log parts ks whole s limit (IsBelow o i)
-    → ((e : Edge) → edge_at dump log o i ≡ Some e → IsHadOrPromised (edge_at dump log) ks (IsOfferedIn parts) (rank (offered_strength ks e)) e.target) → IsSearching dump log parts ks whole s limit (IsBelow o (i + 1))
+pub slot_done : (dump : Dump) (log : List Event) (whole : Bool) (s : Strength) (limit : ℕ) (o i : ℕ) (parts : List Part) (ks : List Reached)
+    → IsSearching dump log parts ks whole s limit (IsBelow o i)
+    → ((e : Edge) → edge_at dump log o i ≡ Some e → IsHadOrPromised (edge_at dump log) ks (IsOfferedIn parts) (rank (offered_strength ks e)) e.target)
+    → IsSearching dump log parts ks whole s limit (IsBelow o (i + 1))
 slot_done dump log whole s limit o i parts ks h fact = record {
-  growing = weaken (standing dump log) (edge_at dump log) ks (IsOfferedIn parts) s limit (λ p j. IsDoneIn parts p × IsBelow o i p j) (λ p j. IsDoneIn parts p × IsBelow o (i + 1) p j) h.growing
+  growing = weaken (standing dump log) (edge_at dump log) ks (IsOfferedIn parts) s limit (λ p j. IsDoneIn parts p × IsBelow o i p j)
+      (λ p j. IsDoneIn parts p × IsBelow o (i + 1) p j) h.growing
       (λ p j e done is passes. elim (cases_eq p o) [
         | inr other ↦ inl (done.0, λ same. absurd (other same))
         | inl same ↦ elim (cases_eq j i) [
@@ -133,13 +149,15 @@ slot_done dump log whole s limit o i parts ks h fact = record {
 }
 
 -- all slots of an object are done
-pub row_done : (dump : Dump) (log : List Event) (s : Strength) (o n : ℕ) (p : Part) → IsFit dump s p → width dump o ≤ n → HasGoneOn dump log s (IsBelow o n) IsAny p p
+pub row_done : (dump : Dump) (log : List Event) (s : Strength) (o n : ℕ) (p : Part) → IsFit dump s p → width dump o ≤ n
+    → HasGoneOn dump log s (IsBelow o n) IsAny p p
 row_done dump log s o n part f le = record {
   fit = f;
   goes_on = λ whole parts k there h. record {
     kept = h.kept;
     holds = subst (λ (ps : List Part). IsSearching dump log ps h.kept whole s (rank s + 1) IsAny) (sym (set-there parts k part there)) (record {
-      growing = weaken (standing dump log) (edge_at dump log) h.kept (IsOfferedIn parts) s (rank s + 1) (λ p j. IsDoneIn parts p × IsBelow o n p j) (λ p j. IsDoneIn parts p × IsAny p j) h.holds.growing
+      growing = weaken (standing dump log) (edge_at dump log) h.kept (IsOfferedIn parts) s (rank s + 1) (λ p j. IsDoneIn parts p × IsBelow o n p j)
+          (λ p j. IsDoneIn parts p × IsAny p j) h.holds.growing
           (λ p i e done is passes. inl (
             done.0,
             λ same.
@@ -163,7 +181,9 @@ module _ (old new : Buckets) (t : Strength) (x : Offer) (adds : AddsTo old new t
   added_stay r y c = elim (cases_eq (rank r) (rank t)) [
     | inl one ↦
         let same : r ≡ t = same_rank r t one in
-        subst (λ (r : Strength). Contains (bucket new r) y) (sym same) (subst (λ (xs : List Offer). Contains xs y) (sym adds.here) (Contains-append_left (bucket old t) (x ∷ []) y (subst (λ (r : Strength). Contains (bucket old r) y) same c)))
+        subst (λ (r : Strength). Contains (bucket new r) y) (sym same)
+        (subst (λ (xs : List Offer). Contains xs y) (sym adds.here)
+        (Contains-append_left (bucket old t) (x ∷ []) y (subst (λ (r : Strength). Contains (bucket old r) y) same c)))
     | inr other ↦ subst (λ (xs : List Offer). Contains xs y) (sym (adds.others r (λ same. other (ap rank same)))) c
   ]
 
@@ -171,7 +191,8 @@ module _ (old new : Buckets) (t : Strength) (x : Offer) (adds : AddsTo old new t
   added_cases r y c = elim (cases_eq (rank r) (rank t)) [
     | inl one ↦
         let same : r ≡ t = same_rank r t one in
-        elim (Contains-push_cases (bucket old t) x y (subst (λ (xs : List Offer). Contains xs y) adds.here (subst (λ (r : Strength). Contains (bucket new r) y) same c))) [
+        elim (Contains-push_cases (bucket old t) x y
+        (subst (λ (xs : List Offer). Contains xs y) adds.here (subst (λ (r : Strength). Contains (bucket new r) y) same c))) [
           | inl before ↦ inl (subst (λ (r : Strength). Contains (bucket old r) y) (sym same) before)
           | inr is ↦ inr (same, sym is)
         ]
@@ -179,9 +200,11 @@ module _ (old new : Buckets) (t : Strength) (x : Offer) (adds : AddsTo old new t
   ]
 
 -- a step that looks at one more slot of an object of the part
-module _ (dump : Dump) (log : List Event) (s : Strength) (old new : Part) (o i : ℕ) (f : IsFit dump s old) (own : IsOwn old o) (source : (found_at old o).strength ≡ s) (passes : IsPassedOn dump.mode s) where
+module _ (dump : Dump) (log : List Event) (s : Strength) (old new : Part) (o i : ℕ) (f : IsFit dump s old) (own : IsOwn old o)
+    (source : (found_at old o).strength ≡ s) (passes : IsPassedOn dump.mode s) where
   -- what the object gives
-  given_is : (parts : List Part) (ks : List Reached) (whole : Bool) (k : ℕ) (D : ℕ → ℕ → Type 0) → IsSearching dump log parts ks whole s (rank s + 1) D → slice_get parts k ≡ Some old → (e : Edge) → edge_at dump log o i ≡ Some e
+  given_is : (parts : List Part) (ks : List Reached) (whole : Bool) (k : ℕ) (D : ℕ → ℕ → Type 0) → IsSearching dump log parts ks whole s (rank s + 1) D
+      → slice_get parts k ≡ Some old → (e : Edge) → edge_at dump log o i ≡ Some e
       → offered_strength ks e ≡ weaker_of s (given_by e.kind)
   given_is parts ks whole k D h there e is =
       ap (λ (n : ℕ). weaker_of (reached_at ks n).strength (given_by e.kind)) (at_source dump log o i e is)
@@ -196,10 +219,13 @@ module _ (dump : Dump) (log : List Event) (s : Strength) (old new : Part) (o i :
     fit = f;
     goes_on = λ whole parts k there h. record {
       kept = h.kept;
-      holds = subst (λ (ps : List Part). IsSearching dump log ps h.kept whole s (rank s + 1) (IsBelow o (i + 1))) (sym (set-there parts k old there)) (slot_done dump log whole s (rank s + 1) o i parts h.kept h.holds (λ e is.
-          let le : rank (offered_strength h.kept e) ≤ rank s = omega (arith, ap rank (given_is parts h.kept whole k (IsBelow o i) h.holds there e is), weaker-le_left s (given_by e.kind)) in
+      holds = subst (λ (ps : List Part). IsSearching dump log ps h.kept whole s (rank s + 1) (IsBelow o (i + 1))) (sym (set-there parts k old there))
+          (slot_done dump log whole s (rank s + 1) o i parts h.kept h.holds (λ e is.
+          let le : rank (offered_strength h.kept e) ≤ rank s =
+          omega (arith, ap rank (given_is parts h.kept whole k (IsBelow o i) h.holds there e is), weaker-le_left s (given_by e.kind)) in
           less_had (edge_at dump log) h.kept (IsOfferedIn parts) (rank s) (rank (offered_strength h.kept e)) e.target le (elim (d.known e is).by [
-            | inl reached ↦ inl (h.holds.growing.floor e.target (omega (arith, reached.1, own_rank dump log parts h.kept whole s (rank s + 1) (IsBelow o i) k old h.holds there e.target reached.0)))
+            | inl reached ↦ inl (h.holds.growing.floor e.target
+                (omega (arith, reached.1, own_rank dump log parts h.kept whole s (rank s + 1) (IsBelow o i) k old h.holds there e.target reached.0)))
             | inr flag ↦ (h.holds.each k old there).handed e.target flag
           ])));
     };
@@ -216,11 +242,18 @@ module _ (dump : Dump) (log : List Event) (s : Strength) (old new : Part) (o i :
         let q = h.holds.each k old there in
         let r = take_whole whole q.alike in
         let ks : List Reached = h.kept in
-        let strong : (reached_at ks o).strength ≡ s = sym (own_strength dump log parts ks whole s (rank s + 1) (IsBelow o i) k old h.holds there o own) ∙ source in
+        let strong : (reached_at ks o).strength ≡ s = sym (own_strength dump log parts ks whole s (rank s + 1) (IsBelow o i) k old h.holds there o own)
+        ∙ source in
         let gives : s ≡ offered_strength ks a.edge = a.gives ∙ sym (given_is parts ks whole k (IsBelow o i) h.holds there a.edge a.is) in
-        let after : List Reached = kept_after dump log parts ks whole s (rank s + 1) (IsBelow o i) (IsBelow o i) k old new (offer_at o i) a.edge old.count h.holds there r a.own a.unreached a.is (rw strong passes) gives (q.stamps o own) (omega arith) q.room (λ o i d. d) in
-        let done = accepted dump log parts ks whole s (rank s + 1) (IsBelow o i) (IsBelow o i) k old new (offer_at o i) a.edge old.count h.holds there r a.own a.unreached a.is (rw strong passes) gives (q.stamps o own) (omega arith) q.room (λ o i d. d) in
-        let has : rank_at after a.edge.target ≡ rank s = target_after dump log parts ks whole s (rank s + 1) (IsBelow o i) (IsBelow o i) k old new (offer_at o i) a.edge old.count h.holds there r a.own a.unreached a.is (rw strong passes) gives (q.stamps o own) (omega arith) q.room (λ o i d. d) in
+        let after : List Reached = kept_after dump log parts ks whole s (rank s + 1) (IsBelow o i) (IsBelow o i) k old new
+        (offer_at o i) a.edge old.count h.holds there r a.own a.unreached a.is (rw strong passes) gives (q.stamps o own) (omega arith) q.room
+        (λ o i d. d) in
+        let done = accepted dump log parts ks whole s (rank s + 1) (IsBelow o i) (IsBelow o i) k old new
+        (offer_at o i) a.edge old.count h.holds there r a.own a.unreached a.is (rw strong passes) gives (q.stamps o own) (omega arith) q.room
+        (λ o i d. d) in
+        let has : rank_at after a.edge.target ≡ rank s = target_after dump log parts ks whole s (rank s + 1) (IsBelow o i) (IsBelow o i) k old new
+        (offer_at o i) a.edge old.count h.holds there r a.own a.unreached a.is (rw strong passes) gives (q.stamps o own) (omega arith) q.room
+        (λ o i d. d) in
         record {
           kept = after;
           holds = slot_done dump log whole s (rank s + 1) o i (set parts k new) after done (λ e is.
@@ -228,7 +261,8 @@ module _ (dump : Dump) (log : List Event) (s : Strength) (old new : Part) (o i :
               let own' : IsOwn new o = own_after dump.mode whole s old new a.edge old.count r a.own a.unreached o own in
               let there' = here_after parts k old new there in
               let strength : (found_at new o).strength ≡ s = still dump.mode whole s old new a.edge old.count r a.own a.unreached o own source in
-              let from : (reached_at after o).strength ≡ s = sym (own_strength dump log (set parts k new) after whole s (rank s + 1) (IsBelow o i) k new done there' o own') ∙ strength in
+              let from : (reached_at after o).strength ≡ s =
+              sym (own_strength dump log (set parts k new) after whole s (rank s + 1) (IsBelow o i) k new done there' o own') ∙ strength in
               let less : rank (offered_strength after e) ≤ rank_at after e.source = offered_strength-le after e in
               let at : rank_at after e.source ≡ rank_at after o = ap (rank_at after) (at_source dump log o i e is) in
               inl (omega (arith, ap rank from, ap (λ (e : Edge). rank_at after e.target) one)));
@@ -257,8 +291,12 @@ module _ (dump : Dump) (log : List Event) (s : Strength) (old new : Part) (o i :
       within = omega (arith, f.within, a.same_first, ap (λ (f : Findings). length f.list) a.same_found);
       few = f.few;
       queued = λ p c.
-          let was = f.queued p (subst (λ (xs : List ℕ). Contains xs p) a.same_queue c) in
-          (own_same_back old new a.same_first a.same_found p was.0, ap (λ (k : Reached). k.strength) (found_same old new a.same_first a.same_found p) ∙ was.1, was.2);
+          let was = f.queued p (subst (λ (xs : List ℕ). Contains xs p) a.same_queue c) in (
+            own_same_back old new a.same_first a.same_found p was.0,
+            ap (λ (k : Reached). k.strength) (found_same old new a.same_first a.same_found p)
+                ∙ was.1,
+            was.2,
+          );
       room = omega (arith, f.room, a.same_count, unreached_same old new a.same_first a.same_found);
       offered = λ u y c. own_same_back old new a.same_first a.same_found y.source (elim (added_cases old.buckets new.buckets t (offer_at o i) a.adds u y c) [
         | inl before ↦ f.offered u y before
@@ -271,31 +309,55 @@ module _ (dump : Dump) (log : List Event) (s : Strength) (old new : Part) (o i :
         let ks : List Reached = h.kept in
         let q = h.holds.each k old there in
         let after : List Part = set parts k new in
-        let strong : (reached_at ks o).strength ≡ s = sym (own_strength dump log parts ks whole s (rank s + 1) (IsBelow o i) k old h.holds there o own) ∙ source in
+        let strong : (reached_at ks o).strength ≡ s = sym (own_strength dump log parts ks whole s (rank s + 1) (IsBelow o i) k old h.holds there o own)
+        ∙ source in
         let gives : t ≡ offered_strength ks a.edge = a.gives ∙ sym (given_is parts ks whole k (IsBelow o i) h.holds there a.edge a.is) in
         let below : rank t < rank s + 1 = omega (arith, ap rank a.gives, weaker-le_left s (given_by a.edge.kind)) in
-        let back : IsBacked dump.mode (edge_at dump log) ks t (offer_at o i) = record { edge = a.edge; is = a.is; passes_on = rw strong passes; gives = gives } in
-        let stay : (u : Strength) (y : Offer) → IsOfferedIn parts u y → IsOfferedIn after u y = offers_stay parts k old new there (added_stay old.buckets new.buckets t (offer_at o i) a.adds) in
-        let made : IsOfferedIn after t (offer_at o i) = record { index = k; part = new; there = here_after parts k old new there; made = added_here old.buckets new.buckets t (offer_at o i) a.adds } in
-        let had : (given p : ℕ) → IsHadOrPromised (edge_at dump log) ks (IsOfferedIn parts) given p → IsHadOrPromised (edge_at dump log) ks (IsOfferedIn after) given p = still_had (edge_at dump log) ks ks (IsOfferedIn parts) (IsOfferedIn after) (λ o. omega arith) stay in
-        let grown = offer (standing dump log) (edge_at dump log) ks (IsOfferedIn parts) (IsOfferedIn after) s (rank s + 1) (rank s + 1) (λ o' i'. IsDoneIn parts o' × IsBelow o i o' i') h.holds.growing (omega arith) stay
+        let back : IsBacked dump.mode (edge_at dump log) ks t (offer_at o i) =
+        record { edge = a.edge; is = a.is; passes_on = rw strong passes; gives = gives } in
+        let stay : (u : Strength) (y : Offer) → IsOfferedIn parts u y → IsOfferedIn after u y =
+        offers_stay parts k old new there (added_stay old.buckets new.buckets t (offer_at o i) a.adds) in
+        let made : IsOfferedIn after t (offer_at o i) =
+        record { index = k; part = new; there = here_after parts k old new there; made = added_here old.buckets new.buckets t (offer_at o i) a.adds } in
+        let had : (given p : ℕ) → IsHadOrPromised (edge_at dump log) ks (IsOfferedIn parts) given p
+        → IsHadOrPromised (edge_at dump log) ks (IsOfferedIn after) given p = still_had (edge_at dump log) ks ks (IsOfferedIn parts) (IsOfferedIn after)
+        (λ o. omega arith) stay in
+        let grown = offer (standing dump log) (edge_at dump log) ks (IsOfferedIn parts) (IsOfferedIn after) s (rank s + 1) (rank s + 1)
+        (λ o' i'. IsDoneIn parts o' × IsBelow o i o' i') h.holds.growing (omega arith) stay
         (λ u y c. elim (offered_cases parts k old new there u y c) [
           | inr before ↦ inl (record { index = before.0; part = before.1; there = before.3; made = before.4 })
           | inl mine ↦ elim (added_cases old.buckets new.buckets t (offer_at o i) a.adds u y mine) [
             | inl before ↦ inl (record { index = k; part = old; there = there; made = before })
             | inr both ↦ inr (
-              subst (λ (y : Offer). IsBacked dump.mode (edge_at dump log) ks u y) (sym both.1) (subst (λ (u : Strength). IsBacked dump.mode (edge_at dump log) ks u (offer_at o i)) (sym both.0) back),
+              subst (λ (y : Offer). IsBacked dump.mode (edge_at dump log) ks u y) (sym both.1)
+                  (subst (λ (u : Strength). IsBacked dump.mode (edge_at dump log) ks u (offer_at o i)) (sym both.0) back),
               omega (arith, ap rank both.0),
             )
           ]
         ]) in
-        let waiting : IsSearching dump log after ks whole s (rank s + 1) (IsBelow o i) = unchanged dump log parts ks whole s (rank s + 1) (IsBelow o i) k old new h.holds there a.same_first (ap (λ (f : Findings). length f.list) a.same_found) (rank s + 1) (IsBelow o i) a.same_found a.same_count
-        (weaken (standing dump log) (edge_at dump log) ks (IsOfferedIn after) s (rank s + 1) (λ o' i'. IsDoneIn parts o' × IsBelow o i o' i') (λ o' i'. IsDoneIn after o' × IsBelow o i o' i') grown
-        (λ p j e done there' pass. inl (done_before parts k old new there p done.0 (λ c. not_queued_after parts k old new there p done.0 (subst (λ (xs : List ℕ). Contains xs p) (sym a.same_queue) c)), done.1)))
+        let waiting : IsSearching dump log after ks whole s (rank s + 1) (IsBelow o i) = unchanged dump log parts ks whole s (rank s + 1)
+        (IsBelow o i) k old new h.holds there a.same_first (ap (λ (f : Findings). length f.list) a.same_found) (rank s + 1)
+        (IsBelow o i) a.same_found a.same_count
+        (weaken (standing dump log) (edge_at dump log) ks (IsOfferedIn after) s (rank s + 1) (λ o' i'. IsDoneIn parts o' × IsBelow o i o' i')
+        (λ o' i'. IsDoneIn after o' × IsBelow o i o' i') grown
+        (λ p j e done there' pass. inl (
+          done_before parts k old new there p done.0
+              (λ c. not_queued_after parts k old new there p done.0 (subst (λ (xs : List ℕ). Contains xs p) (sym a.same_queue) c)),
+          done.1,
+        )))
         fit_offered had
         (λ p flag. elim (a.handed p flag) [
           | inl before ↦ had (rank s) p (q.handed p before)
-          | inr now ↦ inr (record { strength = t; offer = offer_at o i; edge = a.edge; made = made; is = a.is; target = sym now.0; enough = omega (arith, ap rank now.1) })
+          | inr now ↦ inr (record {
+            strength = t;
+            offer = offer_at o i;
+            edge = a.edge;
+            made = made;
+            is = a.is;
+            target = sym now.0;
+            enough =
+                omega (arith, ap rank now.1);
+          })
         ]) in
         record {
           kept = ks;
@@ -313,10 +375,19 @@ module _ (dump : Dump) (log : List Event) (s : Strength) (old new : Part) (o i :
         }
 
     pub waits : HasGoneOn dump log s (IsBelow o i) (IsBelow o (i + 1)) old new
-    waits = record { fit = fit_offered; goes_on = goes_on_offered; no_more = omega (arith, unreached_same old new a.same_first a.same_found, ap length a.same_queue) }
+    waits = record {
+      fit = fit_offered;
+      goes_on = goes_on_offered;
+      no_more =
+          omega (arith, unreached_same old new a.same_first a.same_found, ap length a.same_queue);
+    }
 
     pub own_offered : IsOwn new o × ((found_at new o).strength ≡ s)
-    own_offered = (own_same_back old new a.same_first a.same_found o own, ap (λ (k : Reached). k.strength) (found_same old new a.same_first a.same_found o) ∙ source)
+    own_offered = (
+      own_same_back old new a.same_first a.same_found o own,
+      ap (λ (k : Reached). k.strength) (found_same old new a.same_first a.same_found o)
+          ∙ source,
+    )
 
 -- an object is relaxed up to one of its slots
 pub record HasLooked (dump : Dump) (log : List Event) (s : Strength) (start now : Part) (o i : ℕ) : Type 0 where
@@ -328,25 +399,34 @@ pub record HasLooked (dump : Dump) (log : List Event) (s : Strength) (start now 
 pub looked : (dump : Dump) (log : List Event) (s : Strength) (start old new : Part) (o i : ℕ) → HasLooked dump log s start old o i → IsPassedOn dump.mode s
     → IsSlotRelaxed dump.mode (edge_at dump log) old new s o i → HasLooked dump log s start new o (i + 1)
 looked dump log s start old new o i h passes (inl d) = record {
-  gone_on = gone_on_after dump log s (IsBelow o 0) (IsBelow o i) (IsBelow o (i + 1)) start old new h.gone_on (passed_over dump log s old new o i h.gone_on.fit h.own h.source passes d);
+  gone_on = gone_on_after dump log s (IsBelow o 0) (IsBelow o i) (IsBelow o (i + 1)) start old new h.gone_on
+      (passed_over dump log s old new o i h.gone_on.fit h.own h.source passes d);
   own = subst (λ (p : Part). IsOwn p o) (sym d.same) h.own;
   source = subst (λ (p : Part). (found_at p o).strength ≡ s) (sym d.same) h.source;
 }
 looked dump log s start old new o i h passes (inr (inl a)) = record {
-  gone_on = gone_on_after dump log s (IsBelow o 0) (IsBelow o i) (IsBelow o (i + 1)) start old new h.gone_on (accepted_at_once dump log s old new o i h.gone_on.fit h.own h.source passes a);
+  gone_on = gone_on_after dump log s (IsBelow o 0) (IsBelow o i) (IsBelow o (i + 1)) start old new h.gone_on
+      (accepted_at_once dump log s old new o i h.gone_on.fit h.own h.source passes a);
   own = (own_accepted dump log s old new o i h.gone_on.fit h.own h.source passes a).0;
   source = (own_accepted dump log s old new o i h.gone_on.fit h.own h.source passes a).1;
 }
 looked dump log s start old new o i h passes (inr (inr a)) = record {
-  gone_on = gone_on_after dump log s (IsBelow o 0) (IsBelow o i) (IsBelow o (i + 1)) start old new h.gone_on (waits dump log s old new o i h.gone_on.fit h.own h.source passes a);
+  gone_on = gone_on_after dump log s (IsBelow o 0) (IsBelow o i) (IsBelow o (i + 1)) start old new h.gone_on
+      (waits dump log s old new o i h.gone_on.fit h.own h.source passes a);
   own = (own_offered dump log s old new o i h.gone_on.fit h.own h.source passes a).0;
   source = (own_offered dump log s old new o i h.gone_on.fit h.own h.source passes a).1;
 }
 
 -- no slot is looked at yet
-pub begun : (dump : Dump) (log : List Event) (s : Strength) (p : Part) (o : ℕ) → IsFit dump s p → IsOwn p o → (found_at p o).strength ≡ s → HasLooked dump log s p p o 0
+pub begun : (dump : Dump) (log : List Event) (s : Strength) (p : Part) (o : ℕ) → IsFit dump s p → IsOwn p o → (found_at p o).strength ≡ s
+    → HasLooked dump log s p p o 0
 begun dump log s p o f own source = record {
-  gone_on = record { fit = f; goes_on = λ whole parts k there h. subst (AreSearching dump log whole s (rank s + 1) (IsBelow o 0)) (sym (set-there parts k p there)) h; no_more = omega arith };
+  gone_on = record {
+    fit = f;
+    goes_on = λ whole parts k there h. subst (AreSearching dump log whole s (rank s + 1) (IsBelow o 0))
+        (sym (set-there parts k p there)) h;
+    no_more = omega arith;
+  };
   own = own;
   source = source;
 }
@@ -359,21 +439,24 @@ quiet dump log s old new f n = record {
 }
 
 -- an object is taken out and passed on
-pub passed_on : (dump : Dump) (log : List Event) (s : Strength) (old popped new : Part) (o : ℕ) → IsFit dump s old → IsTakenOut old popped o → HasGoneOn dump log s (IsBelow o 0) IsAny popped new → HasRelaxed dump log s old new
+pub passed_on : (dump : Dump) (log : List Event) (s : Strength) (old popped new : Part) (o : ℕ) → IsFit dump s old → IsTakenOut old popped o
+    → HasGoneOn dump log s (IsBelow o 0) IsAny popped new → HasRelaxed dump log s old new
 passed_on dump log s old popped new o f t h = record {
   gone_on = gone_on_after dump log s IsAny (IsBelow o 0) IsAny old popped new (taken_out dump log s old popped o f t) h;
   less = λ some. omega (arith, taken-less old popped o t, h.no_more);
 }
 
 -- objects that were passed on one after the other
-pub relaxed_after : (dump : Dump) (log : List Event) (s : Strength) (a b c : Part) → HasRelaxed dump log s a b → HasRelaxed dump log s b c → HasRelaxed dump log s a c
+pub relaxed_after : (dump : Dump) (log : List Event) (s : Strength) (a b c : Part) → HasRelaxed dump log s a b → HasRelaxed dump log s b c
+    → HasRelaxed dump log s a c
 relaxed_after dump log s a b c first second = record {
   gone_on = gone_on_after dump log s IsAny IsAny IsAny a b c first.gone_on second.gone_on;
   less = λ some. omega (arith, first.less some, second.gone_on.no_more);
 }
 
 -- what is noted beside doesn't count
-pub noted : (dump : Dump) (log : List Event) (s : Strength) (a b c : Part) → HasRelaxed dump log s a b → IsSameBut b c → c.queue ≡ b.queue → HasRelaxed dump log s a c
+pub noted : (dump : Dump) (log : List Event) (s : Strength) (a b c : Part) → HasRelaxed dump log s a b → IsSameBut b c → c.queue ≡ b.queue
+    → HasRelaxed dump log s a c
 noted dump log s a b c h same queue =
     let rest = rested dump log s IsAny b c h.gone_on.fit same queue in
     record {
@@ -386,6 +469,7 @@ abbrev pub HasBegun : Dump → List Event → Strength → Part → Part → ℕ
 HasBegun dump log s start now n = ((n ≡ 0) × (now ≡ start)) ⊎ HasRelaxed dump log s start now
 
 -- one more object is passed on
-pub one_more : (dump : Dump) (log : List Event) (s : Strength) (start now new : Part) (n : ℕ) → HasBegun dump log s start now n → HasRelaxed dump log s now new → HasRelaxed dump log s start new
+pub one_more : (dump : Dump) (log : List Event) (s : Strength) (start now new : Part) (n : ℕ) → HasBegun dump log s start now n → HasRelaxed dump log s now new
+    → HasRelaxed dump log s start new
 one_more dump log s start now new n (inl none) step = subst (λ (p : Part). HasRelaxed dump log s p new) none.1 step
 one_more dump log s start now new n (inr some) step = relaxed_after dump log s start now new some step

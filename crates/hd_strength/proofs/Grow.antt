@@ -26,7 +26,8 @@ pub offered_strength-le : (ks : List Reached) (e : Edge) → rank (offered_stren
 offered_strength-le ks e = weaker-le_left (reached_at ks e.source).strength (given_by e.kind)
 
 -- what has or is promised a rank, has or is promised each lesser one
-pub less_had : (at : ℕ → ℕ → Option Edge) (ks : List Reached) (offers : Offers) (given less o : ℕ) → less ≤ given → IsHadOrPromised at ks offers given o → IsHadOrPromised at ks offers less o
+pub less_had : (at : ℕ → ℕ → Option Edge) (ks : List Reached) (offers : Offers) (given less o : ℕ) → less ≤ given → IsHadOrPromised at ks offers given o
+    → IsHadOrPromised at ks offers less o
 less_had at ks offers given less o le (inl had) = inl (omega arith)
 less_had at ks offers given less o le (inr p) = inr (record {
   strength = p.strength;
@@ -39,7 +40,8 @@ less_had at ks offers given less o le (inr p) = inr (record {
 })
 
 -- where no rank falls and offers stay, as much is had or promised
-pub still_had : (at : ℕ → ℕ → Option Edge) (ks ks' : List Reached) (old new : Offers) → ((o : ℕ) → rank_at ks o ≤ rank_at ks' o) → ((t : Strength) (x : Offer) → old t x → new t x)
+pub still_had : (at : ℕ → ℕ → Option Edge) (ks ks' : List Reached) (old new : Offers) → ((o : ℕ) → rank_at ks o ≤ rank_at ks' o)
+    → ((t : Strength) (x : Offer) → old t x → new t x)
     → (given o : ℕ) → IsHadOrPromised at ks old given o → IsHadOrPromised at ks' new given o
 still_had at ks ks' old new raises stay given o (inl had) = inl (omega (arith, raises o))
 still_had at ks ks' old new raises stay given o (inr p) = inr (record {
@@ -53,8 +55,10 @@ still_had at ks ks' old new raises stay given o (inr p) = inr (record {
 })
 
 -- and where one offer goes whose target has what it gives
-pub still_had_but : (at : ℕ → ℕ → Option Edge) (ks : List Reached) (old new : Offers) (s : Strength) (x : Offer) (e : Edge) → at x.source x.index ≡ Some e → rank s ≤ rank_at ks e.target
-    → ((t : Strength) (y : Offer) → old t y → ((t ≡ s) × (y ≡ x)) ⊎ new t y) → (given o : ℕ) → IsHadOrPromised at ks old given o → IsHadOrPromised at ks new given o
+pub still_had_but : (at : ℕ → ℕ → Option Edge) (ks : List Reached) (old new : Offers) (s : Strength) (x : Offer) (e : Edge) → at x.source x.index ≡ Some e
+    → rank s ≤ rank_at ks e.target
+    → ((t : Strength) (y : Offer) → old t y → ((t ≡ s) × (y ≡ x)) ⊎ new t y) → (given o : ℕ) → IsHadOrPromised at ks old given o
+    → IsHadOrPromised at ks new given o
 still_had_but at ks old new s x e is has left given o (inl had) = inl had
 still_had_but at ks old new s x e is has left given o (inr p) = elim (left p.strength p.offer p.made) [
   | inr still ↦ inr (record { strength = p.strength; offer = p.offer; edge = p.edge; made = still; is = p.is; target = p.target; enough = p.enough })
@@ -68,8 +72,10 @@ still_had_but at ks old new s x e is has left given o (inr p) = elim (left p.str
 ]
 
 -- a slot that is done was done before, or is by a fact of its own
-pub weaken : (g : Standing) (at : ℕ → ℕ → Option Edge) (ks : List Reached) (offers : Offers) (s : Strength) (limit : ℕ) (D D' : ℕ → ℕ → Type 0) → IsGrowing g at ks offers s limit D
-    → ((o i : ℕ) (e : Edge) → D' o i → at o i ≡ Some e → PassesOn g.mode (reached_at ks o) → D o i ⊎ IsHadOrPromised at ks offers (rank (offered_strength ks e)) e.target) → IsGrowing g at ks offers s limit D'
+pub weaken : (g : Standing) (at : ℕ → ℕ → Option Edge) (ks : List Reached) (offers : Offers) (s : Strength) (limit : ℕ) (D D' : ℕ → ℕ → Type 0)
+    → IsGrowing g at ks offers s limit D
+    → ((o i : ℕ) (e : Edge) → D' o i → at o i ≡ Some e → PassesOn g.mode (reached_at ks o) → D o i
+    ⊎ IsHadOrPromised at ks offers (rank (offered_strength ks e)) e.target) → IsGrowing g at ks offers s limit D'
 weaken g at ks offers s limit D D' h part = record {
   supported = h.supported;
   by_roots = h.by_roots;
@@ -83,8 +89,10 @@ weaken g at ks offers s limit D D' h part = record {
 }
 
 -- other offers, as many or more, each backed, with a limit that is as great or greater
-pub offer : (g : Standing) (at : ℕ → ℕ → Option Edge) (ks : List Reached) (old new : Offers) (s : Strength) (limit limit' : ℕ) (D : ℕ → ℕ → Type 0) → IsGrowing g at ks old s limit D → limit ≤ limit'
-    → ((t : Strength) (x : Offer) → old t x → new t x) → ((t : Strength) (x : Offer) → new t x → old t x ⊎ (IsBacked g.mode at ks t x × (rank t < limit'))) → IsGrowing g at ks new s limit' D
+pub offer : (g : Standing) (at : ℕ → ℕ → Option Edge) (ks : List Reached) (old new : Offers) (s : Strength) (limit limit' : ℕ) (D : ℕ → ℕ → Type 0)
+    → IsGrowing g at ks old s limit D → limit ≤ limit'
+    → ((t : Strength) (x : Offer) → old t x → new t x) → ((t : Strength) (x : Offer) → new t x → old t x ⊎ (IsBacked g.mode at ks t x × (rank t < limit')))
+    → IsGrowing g at ks new s limit' D
 offer g at ks old new s limit limit' D h le stay parts = record {
   supported = h.supported;
   by_roots = h.by_roots;
@@ -101,13 +109,16 @@ offer g at ks old new s limit limit' D h le stay parts = record {
 }
 
 -- an offer to an object that has what it gives is let go
-pub decline : (g : Standing) (at : ℕ → ℕ → Option Edge) (ks : List Reached) (old new : Offers) (s : Strength) (limit : ℕ) (D : ℕ → ℕ → Type 0) (x : Offer) (e : Edge)
+pub decline : (g : Standing) (at : ℕ → ℕ → Option Edge) (ks : List Reached) (old new : Offers) (s : Strength) (limit : ℕ) (D : ℕ → ℕ → Type 0) (x : Offer)
+    (e : Edge)
     → IsGrowing g at ks old s limit D → at x.source x.index ≡ Some e → 1 ≤ rank_at ks e.target
-    → ((t : Strength) (y : Offer) → new t y → old t y) → ((t : Strength) (y : Offer) → old t y → ((t ≡ s) × (y ≡ x)) ⊎ new t y) → IsGrowing g at ks new s limit D
+    → ((t : Strength) (y : Offer) → new t y → old t y) → ((t : Strength) (y : Offer) → old t y → ((t ≡ s) × (y ≡ x)) ⊎ new t y)
+    → IsGrowing g at ks new s limit D
 decline g at ks old new s limit D x e h is reached within left = record {
   supported = h.supported;
   by_roots = h.by_roots;
-  by_edges = λ o i f done there p. still_had_but at ks old new s x e is (h.floor e.target reached) left (rank (offered_strength ks f)) f.target (h.by_edges o i f done there p);
+  by_edges = λ o i f done there p. still_had_but at ks old new s x e is (h.floor e.target reached) left (rank (offered_strength ks f)) f.target
+      (h.by_edges o i f done there p);
   backed = λ t y c. h.backed t y (within t y c);
   floor = h.floor;
   ceiling = λ t y c. h.ceiling t y (within t y c);
@@ -141,11 +152,13 @@ descend g at ks offers s next limit D h le = record {
 }
 
 -- an object takes what an edge gives it, which is the strength that is spread
-module _ (g : Standing) (at : ℕ → ℕ → Option Edge) (rows : AreRows g at) (ks ks' : List Reached) (old new : Offers) (s : Strength) (limit : ℕ) (D D' : ℕ → ℕ → Type 0) (x : Offer) (e : Edge)
+module _ (g : Standing) (at : ℕ → ℕ → Option Edge) (rows : AreRows g at) (ks ks' : List Reached) (old new : Offers) (s : Strength) (limit : ℕ)
+    (D D' : ℕ → ℕ → Type 0) (x : Offer) (e : Edge)
     (h : IsGrowing g at ks old s limit D)
     (within : (t : Strength) (y : Offer) → new t y → old t y)
     (stay : (t : Strength) (y : Offer) → old t y → new t y)
-    (is : at x.source x.index ≡ Some e) (passes_on : PassesOn g.mode (reached_at ks x.source)) (gives : s ≡ offered_strength ks e) (low : rank_at ks e.target ≡ 0)
+    (is : at x.source x.index ≡ Some e) (passes_on : PassesOn g.mode (reached_at ks x.source)) (gives : s ≡ offered_strength ks e)
+    (low : rank_at ks e.target ≡ 0)
     (stamp : ℕ) (last : (reached_at ks x.source).stamp ≤ stamp)
     (here : reached_at ks' e.target ≡ record { strength = s; support = supports.Edge e.source e.slot; stamp = stamp + 1 })
     (others : (o : ℕ) → o ≢ e.target → reached_at ks' o ≡ reached_at ks o)
@@ -234,17 +247,20 @@ module _ (g : Standing) (at : ℕ → ℕ → Option Edge) (rows : AreRows g at)
         gives = b.gives ∙ sym (same_offered_strength b.edge (subst (λ (o : ℕ). reached_at ks' o ≡ reached_at ks o) (sym from) there));
       }
 
-  still_done : (o i : ℕ) (f : Edge) → D o i → o ≢ e.target → at o i ≡ Some f → PassesOn g.mode (reached_at ks' o) → IsHadOrPromised at ks' new (rank (offered_strength ks' f)) f.target
+  still_done : (o i : ℕ) (f : Edge) → D o i → o ≢ e.target → at o i ≡ Some f → PassesOn g.mode (reached_at ks' o)
+      → IsHadOrPromised at ks' new (rank (offered_strength ks' f)) f.target
   still_done o i f done other there p =
       let same : reached_at ks' o ≡ reached_at ks o = others o other in
-      let from : offered_strength ks' f ≡ offered_strength ks f = same_offered_strength f (subst (λ (o : ℕ). reached_at ks' o ≡ reached_at ks o) (sym (rows.source o i f there)) same) in
+      let from : offered_strength ks' f ≡ offered_strength ks f =
+      same_offered_strength f (subst (λ (o : ℕ). reached_at ks' o ≡ reached_at ks o) (sym (rows.source o i f there)) same) in
       subst (λ (r : Strength). IsHadOrPromised at ks' new (rank r) f.target) (sym from)
       (still_had at ks ks' old new raises stay (rank (offered_strength ks f)) f.target (h.by_edges o i f done there (rw (← same) p)))
 
   pub take : IsGrowing g at ks' new s limit D'
   take = record {
     supported = supported;
-    by_roots = λ r c. let strong : (reached_at ks r.target).strength ≡ strengths.Strong = h.by_roots r c in rw (stays r.target (rw strong (omega arith))) strong;
+    by_roots = λ r c. let strong : (reached_at ks r.target).strength ≡ strengths.Strong = h.by_roots r c in
+        rw (stays r.target (rw strong (omega arith))) strong;
     by_edges = λ o i f done there p. let before : D o i × (o ≢ e.target) = part o i done p in still_done o i f before.0 before.1 there p;
     backed = λ r y c. still_backed r y (h.backed r y (within r y c));
     floor = floor;
@@ -252,7 +268,8 @@ module _ (g : Standing) (at : ℕ → ℕ → Option Edge) (rows : AreRows g at)
   }
 
 -- once no offer is left all is settled
-pub settled_in_the_end : (g : Standing) (at : ℕ → ℕ → Option Edge) → AreRows g at → (ks : List Reached) (offers : Offers) (s : Strength) (limit : ℕ) (D : ℕ → ℕ → Type 0) → IsGrowing g at ks offers s limit D
+pub settled_in_the_end : (g : Standing) (at : ℕ → ℕ → Option Edge) → AreRows g at → (ks : List Reached) (offers : Offers) (s : Strength) (limit : ℕ)
+    (D : ℕ → ℕ → Type 0) → IsGrowing g at ks offers s limit D
     → ((t : Strength) (x : Offer) → offers t x → ⊥) → ((o i : ℕ) → D o i) → Settled g ks
 settled_in_the_end g at rows ks offers s limit D h none all = record {
   supported = h.supported;

@@ -1,4 +1,5 @@
-use Rattle.std.proofs.Common.{◌≡◌, ◌∙◌, suc, ◌<◌, ◌^◌, length, flat_map, arith, length-append, true, List, [], ◌∷◌, ◌++◌, map, slice_get, append_assoc, refl, sym, ap}
+use Rattle.std.proofs.Common.{◌≡◌, ◌∙◌, suc, ◌<◌, ◌^◌, length, flat_map, arith, length-append, true, List, [], ◌∷◌, ◌++◌, map, slice_get, append_assoc, refl}
+use Rattle.std.proofs.Common.{sym, ap}
 use Rattle.std.proofs.lemmas.List.{map-append}
 use Rattle.hd_terms.specs.declared.Strength.{Strength}
 use Rattle.hd_terms.specs.Settled.{Reached}
@@ -7,7 +8,8 @@ use Rattle.hd_strength.specs.Found.{seen, strength_of}
 use Rattle.hd_strength.specs.Parts.{AreWhole, found_in, lists_in}
 
 -- what one more part found is put behind the rest
-pub one_joined : (kept new list all : List Reached) (parts later : List Part) (p : Part) → kept ++ found_in parts ≡ all → parts ≡ p ∷ later → list ≡ p.found.list → new ≡ kept ++ list → new ++ found_in later ≡ all
+pub one_joined : (kept new list all : List Reached) (parts later : List Part) (p : Part) → kept ++ found_in parts ≡ all → parts ≡ p ∷ later
+    → list ≡ p.found.list → new ≡ kept ++ list → new ++ found_in later ≡ all
 one_joined kept new list all parts later p h next same is =
     ap (λ (ks : List Reached). ks ++ found_in later) (is ∙ ap (λ (ks : List Reached). kept ++ ks) same)
     ∙ append_assoc kept p.found.list (found_in later)
@@ -15,7 +17,8 @@ one_joined kept new list all parts later p h next same is =
     ∙ h
 
 -- the strengths that one more part found are put behind the rest
-pub one_strengths_joined : (strengths new list all : List Strength) (parts later : List Part) (p : Part) → strengths ++ map strength_of (found_in parts) ≡ all → parts ≡ p ∷ later → list ≡ map strength_of p.found.list → new ≡ strengths ++ list → new ++ map strength_of (found_in later) ≡ all
+pub one_strengths_joined : (strengths new list all : List Strength) (parts later : List Part) (p : Part) → strengths ++ map strength_of (found_in parts) ≡ all
+    → parts ≡ p ∷ later → list ≡ map strength_of p.found.list → new ≡ strengths ++ list → new ++ map strength_of (found_in later) ≡ all
 one_strengths_joined strengths new list all parts later p h next same is =
     ap (λ (ss : List Strength). ss ++ map strength_of (found_in later)) (is ∙ ap (λ (ss : List Strength). strengths ++ ss) same)
     ∙ append_assoc strengths (map strength_of p.found.list) (map strength_of (found_in later))
@@ -37,7 +40,8 @@ all-seen [] = refl
 all-seen (k ∷ ks) = ap (λ (ks : List Reached). k ∷ ks) (all-seen ks)
 
 -- the list of what one more part found is put behind the rest
-pub one_listed : (lists new all : List (List Reached)) (list : List Reached) (parts later : List Part) (p : Part) → lists ++ lists_in parts ≡ all → parts ≡ p ∷ later → list ≡ p.found.list → new ≡ lists ++ list ∷ [] → new ++ lists_in later ≡ all
+pub one_listed : (lists new all : List (List Reached)) (list : List Reached) (parts later : List Part) (p : Part) → lists ++ lists_in parts ≡ all
+    → parts ≡ p ∷ later → list ≡ p.found.list → new ≡ lists ++ list ∷ [] → new ++ lists_in later ≡ all
 one_listed lists new all list parts later p h next same is =
     ap (λ (ls : List (List Reached)). ls ++ lists_in later) (is ∙ ap (λ (ks : List Reached). lists ++ ks ∷ []) same)
     ∙ append_assoc lists (p.found.list ∷ []) (lists_in later)

@@ -1,5 +1,6 @@
 -- A log with one more event has one live edit more, or one fewer.
-use Rattle.std.proofs.Common.{◌≡◌, ◌∙◌, ℕ, zero, suc, ◌+◌, ◌<◌, ◌≤◌, ◌||◌, Bool, true, false, cond, not, List, [], ◌∷◌, ◌++◌, length, Option, Some, None, slice_get, refl, sym, ap, arith}
+use Rattle.std.proofs.Common.{◌≡◌, ◌∙◌, ℕ, zero, suc, ◌+◌, ◌<◌, ◌≤◌, ◌||◌, Bool, true, false, cond, not, List, [], ◌∷◌, ◌++◌, length, Option, Some, None}
+use Rattle.std.proofs.Common.{slice_get, refl, sym, ap, arith}
 use Rattle.std.specs.Prelude.{count_by}
 use Rattle.std.specs.List.{list_any, filter_map, cons_option, enumerate_from}
 use Rattle.std.proofs.lemmas.Bool.{eq-eqb, ne_eqb}
@@ -56,7 +57,8 @@ module _ (test : Edit → Bool) (f g : ℕ × Event → Option Edit) where
       ∙ sym (counted-option test (g (n, y)) (filter_map g (enumerate_from (n + 1) log)))
 
   -- where they are but for one event, which has none after
-  module _ (t : ℕ) (event : Event) (x : Edit) (had : f (t, event) ≡ Some x) (none : g (t, event) ≡ None) (others : (k : ℕ) (e : Event) → (k ≡ t → ⊥) → f (k, e) ≡ g (k, e)) where
+  module _ (t : ℕ) (event : Event) (x : Edit) (had : f (t, event) ≡ Some x) (none : g (t, event) ≡ None)
+      (others : (k : ℕ) (e : Event) → (k ≡ t → ⊥) → f (k, e) ≡ g (k, e)) where
     one-fewer : (log : List Event) (n i : ℕ) → n + i ≡ t → slice_get log i ≡ Some event → counted test f n log ≡ counted test g n log + (cond (test x) 1 0)
     unfolding passes
     one-fewer [] n i at is = absurd cc
@@ -101,7 +103,8 @@ module _ (log : List Event) (event : Event) where
   live-still k e other = ap (λ (b : Bool). cond b (edit_of e.what) None) (stays-still k other)
 
   -- the live edits that pass a test, with the event's own
-  counted-after : (test : Edit → Bool) → count_by test (live_edits after) ≡ counted test (live_edit after) 0 log + passes test (live_edit after (length log, event))
+  counted-after : (test : Edit → Bool) → count_by test (live_edits after) ≡ counted test (live_edit after) 0 log + passes test
+      (live_edit after (length log, event))
   counted-after test =
       let f : ℕ × Event → Option Edit = live_edit after in
       let number : 0 + length log ≡ length log = omega arith in

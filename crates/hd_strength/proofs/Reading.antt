@@ -20,7 +20,8 @@ pub no_root_past : (dump : Dump) (log : List Event) (r : ℕ) → root_count dum
 unfolding root_at
 no_root_past dump log r past =
     let n : ℕ = r - length dump.roots in
-    let none : root_at dump log r ≡ None = rw (lt-leb (suc r) (length dump.roots) (omega arith)) (ap (root_by_event dump log n) (slice_get_past log n (omega arith))) in
+    let none : root_at dump log r ≡ None = rw (lt-leb (suc r) (length dump.roots) (omega arith))
+    (ap (root_by_event dump log n) (slice_get_past log n (omega arith))) in
     sym (ap (option_map (λ (x : RootEntry). x.target)) none)
 
 -- the object that a root holds is one
@@ -39,5 +40,6 @@ read_at dump log o i = option_map read_of (edge_at dump log o i)
 pub read_none : (dump : Dump) (log : List Event) (o i : ℕ) → ((e : Edge) → edge_at dump log o i ≡ Some e → ⊥) → None ≡ read_at dump log o i
 read_none dump log o i none = sym (ap (option_map read_of) (none_of (edge_at dump log o i) none))
 
-pub read_some : (dump : Dump) (log : List Event) (o i : ℕ) (s : SlotEntry) (t : ℕ) → edge_at dump log o i ≡ Some (edge_to o s t) → Some (record { kind = s.kind; target = t }) ≡ read_at dump log o i
+pub read_some : (dump : Dump) (log : List Event) (o i : ℕ) (s : SlotEntry) (t : ℕ) → edge_at dump log o i ≡ Some (edge_to o s t)
+    → Some (record { kind = s.kind; target = t }) ≡ read_at dump log o i
 read_some dump log o i s t is = sym (ap (option_map read_of) is)

@@ -1,5 +1,6 @@
 -- What edits take away, edit by edit.
-use Rattle.std.proofs.Common.{◌≡◌, ◌∙◌, ℕ, ◌+◌, ◌*◌, ◌<◌, ◌==◌, Bool, true, false, ◌||◌, ◌&&◌, not, cond, nat_eq, nat_lt, List, [], ◌∷◌, ◌++◌, length, take, get_or, Option, Some, None, slice_get, sym, ap, subst, refl, arith, append-nil}
+use Rattle.std.proofs.Common.{◌≡◌, ◌∙◌, ℕ, ◌+◌, ◌*◌, ◌<◌, ◌==◌, Bool, true, false, ◌||◌, ◌&&◌, not, cond, nat_eq, nat_lt, List, [], ◌∷◌, ◌++◌, length, take}
+use Rattle.std.proofs.Common.{get_or, Option, Some, None, slice_get, sym, ap, subst, refl, arith, append-nil}
 use Rattle.std.specs.Prelude.{◌-◌, is_some, position, count_by}
 use Rattle.std.specs.List.{list_any, filter_map, cons_option, enumerate_from}
 use Rattle.std.proofs.lemmas.Bool.{eqb-true, eq-eqb, ltb-true, lt-ltb, and_parts}
@@ -26,7 +27,8 @@ use Rattle.hd_strength.specs.Cleared.{clears, clear_count, is_cleared}
 use Rattle.hd_strength.specs.Multiset.{multiplicity, is_number}
 use Rattle.hd_strength.specs.OneMore.{AreOneMore}
 use Rattle.hd_strength.proofs.MultisetLemmas.{any_counted}
-use Rattle.hd_strength.specs.Removed.{Removals, slot_key, has_slot, slot_count, has_root, takes_slot, AreSlots, AreKinds, AreRoots, IsRemovedBy, IsEditedKey, IsOnlySlot, IsNamedSlot}
+use Rattle.hd_strength.specs.Removed.{Removals, slot_key, has_slot, slot_count, has_root, takes_slot, AreSlots, AreKinds, AreRoots, IsRemovedBy, IsEditedKey}
+use Rattle.hd_strength.specs.Removed.{IsOnlySlot, IsNamedSlot}
 
 -- tests
 or-false_right : (a : Bool) → (a || false) ≡ a
@@ -106,7 +108,8 @@ module _ (dump : Dump) (edit : Edit) (p : Option (ℕ × ℕ)) (only : IsOnlySlo
 
   pub no_key : p ≡ None → IsEditedKey dump edit None
   no_key none o i s lt at =
-      none-by (takes_slot (object_at dump o) s edit) (λ h. let clash : None ≡ some_of o i = sym none ∙ only.only o i s lt at h in absurd cc) ∙ sym (and-false (nat_lt i 4294967296))
+      none-by (takes_slot (object_at dump o) s edit) (λ h. let clash : None ≡ some_of o i = sym none ∙ only.only o i s lt at h in absurd cc)
+      ∙ sym (and-false (nat_lt i 4294967296))
 
 -- the number of the root that an edit drops
 pub same_number : (root r : ℕ) → (r == root) ≡ (root == r)
@@ -119,20 +122,23 @@ module _ (dump : Dump) (edit : Edit) (id : ℕ) (name : Object → Option Slot) 
   parts : (x : Object) (s : SlotEntry) → takes_slot x s edit ≡ true → (x.id ≡ id) × (is_slot s.slot (name x) ≡ true)
   parts x s t = let both = and_parts (x.id == id) (is_slot s.slot (name x)) (sym (form x s) ∙ t) in (eqb-true x.id id both.0, both.1)
 
-  pub object_slot : (o : ℕ) (p : Option (ℕ × ℕ)) → m ≡ Some o → m ≡ index_of dump.objects id → IsNamedSlot (object_at dump o).slots (name (object_at dump o)) o p → IsOnlySlot dump (λ x s. takes_slot x s edit) p
+  pub object_slot : (o : ℕ) (p : Option (ℕ × ℕ)) → m ≡ Some o → m ≡ index_of dump.objects id
+      → IsNamedSlot (object_at dump o).slots (name (object_at dump o)) o p → IsOnlySlot dump (λ x s. takes_slot x s edit) p
   object_slot o p is first named = record {
     passes = λ x i s at there.
         let object : x ≡ o = named.object x i at in
         let same : object_at dump x ≡ object_at dump o = ap (object_at dump) object in
         let has_id : (object_at dump o).id ≡ id = id-found dump id o (sym first ∙ is) in
         let slot : is_slot s.slot (name (object_at dump o)) ≡ true = named.named x i s at (ap (λ (y : Object). slice_get y.slots i) (sym same) ∙ there) in
-        ap (λ (y : Object). takes_slot y s edit) same ∙ form (object_at dump o) s ∙ both-true ((object_at dump o).id == id) (is_slot s.slot (name (object_at dump o))) (eq-eqb (object_at dump o).id id has_id) slot;
+        ap (λ (y : Object). takes_slot y s edit) same ∙ form (object_at dump o) s
+        ∙ both-true ((object_at dump o).id == id) (is_slot s.slot (name (object_at dump o))) (eq-eqb (object_at dump o).id id has_id) slot;
     only = λ x i s lt at t.
         let here = parts (object_at dump x) s t in
         let found : Some x ≡ Some o = sym (distinct x lt here.0) ∙ is in
         let object : x ≡ o = cc in
         let same : object_at dump x ≡ object_at dump o = ap (object_at dump) object in
-        named.only i s (ap (λ (y : Object). slice_get y.slots i) (sym same) ∙ at) (ap (λ (y : Object). is_slot s.slot (name y)) (sym same) ∙ here.1) ∙ ap (λ (n : ℕ). Some (n, i)) (sym object);
+        named.only i s (ap (λ (y : Object). slice_get y.slots i) (sym same) ∙ at) (ap (λ (y : Object). is_slot s.slot (name y)) (sym same) ∙ here.1)
+        ∙ ap (λ (n : ℕ). Some (n, i)) (sym object);
   }
 
 -- a named slot of an object
@@ -153,8 +159,10 @@ module _ (slots : List SlotEntry) (slot : Slot) (o : ℕ) (q : Option ℕ)
 abbrev pub edits_before : List Event → ℕ → List Edit
 edits_before log k = filter_map (live_edit log) (enumerate_from 0 (take k log))
 
-edits-more : (log : List Event) (k : ℕ) (e : Event) → slice_get log k ≡ Some e → edits_before log (k + 1) ≡ edits_before log k ++ cons_option (live_edit log (k, e)) []
-edits-more log k e at = ap (filter_map (live_edit log)) (numbered_more log k e at) ∙ filter_map-append (live_edit log) (enumerate_from 0 (take k log)) ((k, e) ∷ [])
+edits-more : (log : List Event) (k : ℕ) (e : Event) → slice_get log k ≡ Some e → edits_before log (k + 1) ≡ edits_before log k
+    ++ cons_option (live_edit log (k, e)) []
+edits-more log k e at = ap (filter_map (live_edit log)) (numbered_more log k e at) ∙ filter_map-append (live_edit log) (enumerate_from 0 (take k log))
+    ((k, e) ∷ [])
 
 -- one more event, by whether it is a live edit
 module _ (log : List Event) (k : ℕ) (r : Option Edit) (lt : k < length log) (is : (e : Event) → slice_get log k ≡ Some e → r ≡ live_edit log (k, e)) where
@@ -194,17 +202,20 @@ module _ (es fs : List Edit) (edit : Edit) (one : AreOneMore es fs edit) where
   slots_more dump key keys keys' is new are o i s lt at =
       let test : Edit → Bool = takes_slot (object_at dump o) s in
       let k : ℕ = slot_key o i in
-      slot-more (nat_lt i 4294967296) (is_number key k) (test edit) (multiplicity k keys) (multiplicity k keys') (count_by test es) (count_by test fs) (is o i s lt at) (new k) (one test) (are o i s lt at)
+      slot-more (nat_lt i 4294967296) (is_number key k) (test edit) (multiplicity k keys) (multiplicity k keys') (count_by test es) (count_by test fs)
+      (is o i s lt at) (new k) (one test) (are o i s lt at)
 
   pub kinds_more : (old new : Cleared) → ((kind : EdgeKind) → clear_count new kind ≡ clear_count old kind + (cond (clears kind edit) 1 0)) → AreKinds es old
       → AreKinds fs new
   kinds_more old new counts are kind =
-      number-more (clears kind edit) (clears kind edit) (clear_count old kind) (clear_count new kind) (count_by (clears kind) es) (count_by (clears kind) fs) refl (counts kind) (one (clears kind)) (are kind)
+      number-more (clears kind edit) (clears kind edit) (clear_count old kind) (clear_count new kind) (count_by (clears kind) es)
+      (count_by (clears kind) fs) refl (counts kind) (one (clears kind)) (are kind)
 
   pub roots_more : (root : Option ℕ) (numbers numbers' : List ℕ) → ((r : ℕ) → is_number root r ≡ drops r edit)
       → ((n : ℕ) → multiplicity n numbers' ≡ multiplicity n numbers + (cond (is_number root n) 1 0)) → AreRoots es numbers → AreRoots fs numbers'
   roots_more root numbers numbers' is new are r =
-      number-more (is_number root r) (drops r edit) (multiplicity r numbers) (multiplicity r numbers') (count_by (drops r) es) (count_by (drops r) fs) (is r) (new r) (one (drops r)) (are r)
+      number-more (is_number root r) (drops r edit) (multiplicity r numbers) (multiplicity r numbers') (count_by (drops r) es) (count_by (drops r) fs) (is r)
+      (new r) (one (drops r)) (are r)
 
 -- and one fewer
 module _ (es fs : List Edit) (edit : Edit) (one : AreOneMore fs es edit) where
@@ -213,17 +224,20 @@ module _ (es fs : List Edit) (edit : Edit) (one : AreOneMore fs es edit) where
   slots_fewer dump key keys keys' is new are o i s lt at =
       let test : Edit → Bool = takes_slot (object_at dump o) s in
       let k : ℕ = slot_key o i in
-      slot-fewer (nat_lt i 4294967296) (is_number key k) (test edit) (multiplicity k keys) (multiplicity k keys') (count_by test es) (count_by test fs) (is o i s lt at) (new k) (one test) (are o i s lt at)
+      slot-fewer (nat_lt i 4294967296) (is_number key k) (test edit) (multiplicity k keys) (multiplicity k keys') (count_by test es) (count_by test fs)
+      (is o i s lt at) (new k) (one test) (are o i s lt at)
 
   pub kinds_fewer : (old new : Cleared) → ((kind : EdgeKind) → clear_count new kind ≡ clear_count old kind - (cond (clears kind edit) 1 0)) → AreKinds es old
       → AreKinds fs new
   kinds_fewer old new counts are kind =
-      number-fewer (clears kind edit) (clears kind edit) (clear_count old kind) (clear_count new kind) (count_by (clears kind) es) (count_by (clears kind) fs) refl (counts kind) (one (clears kind)) (are kind)
+      number-fewer (clears kind edit) (clears kind edit) (clear_count old kind) (clear_count new kind) (count_by (clears kind) es)
+      (count_by (clears kind) fs) refl (counts kind) (one (clears kind)) (are kind)
 
   pub roots_fewer : (root : Option ℕ) (numbers numbers' : List ℕ) → ((r : ℕ) → is_number root r ≡ drops r edit)
       → ((n : ℕ) → multiplicity n numbers' ≡ multiplicity n numbers - (cond (is_number root n) 1 0)) → AreRoots es numbers → AreRoots fs numbers'
   roots_fewer root numbers numbers' is new are r =
-      number-fewer (is_number root r) (drops r edit) (multiplicity r numbers) (multiplicity r numbers') (count_by (drops r) es) (count_by (drops r) fs) (is r) (new r) (one (drops r)) (are r)
+      number-fewer (is_number root r) (drops r edit) (multiplicity r numbers) (multiplicity r numbers') (count_by (drops r) es) (count_by (drops r) fs) (is r)
+      (new r) (one (drops r)) (are r)
 
 -- before any event
 pub no_slots : (dump : Dump) (keys : List ℕ) → keys ≡ [] → AreSlots dump [] keys
@@ -259,7 +273,8 @@ or-mixed false false false d = refl
 any-parts : (p q r : Edit → Bool) → ((edit : Edit) → p edit ≡ (q edit || r edit)) → (es : List Edit) → list_any p es ≡ (list_any q es || list_any r es)
 any-parts p q r parts [] = refl
 any-parts p q r parts (e ∷ es) =
-    ap (λ (b : Bool). b || list_any p es) (parts e) ∙ ap (λ (b : Bool). (q e || r e) || b) (any-parts p q r parts es) ∙ or-mixed (q e) (r e) (list_any q es) (list_any r es)
+    ap (λ (b : Bool). b || list_any p es) (parts e) ∙ ap (λ (b : Bool). (q e || r e) || b) (any-parts p q r parts es)
+    ∙ or-mixed (q e) (r e) (list_any q es) (list_any r es)
 
 -- the keys have that of a slot where it is counted
 small-counted : (small any : Bool) (n : ℕ) → any ≡ nat_lt 0 n → (small && any) ≡ nat_lt 0 (cond small n 0)
@@ -318,7 +333,8 @@ is-none None h = refl
 is-none (Some edit) h = absurd cc
 
 -- the live edit at an index, by its flag and what the event does
-module _ (log : List Event) (k : ℕ) (x : Event) (live : List Bool) (d : Bool) (flags : live ≡ live_flags log) (read : slice_get log k ≡ Some x) (e : Event) (at : slice_get log k ≡ Some e) where
+module _ (log : List Event) (k : ℕ) (x : Event) (live : List Bool) (d : Bool) (flags : live ≡ live_flags log) (read : slice_get log k ≡ Some x) (e : Event)
+    (at : slice_get log k ≡ Some e) where
   flag : get_or live k d ≡ is_live log (k, e)
   flag = ap (λ (bs : List Bool). get_or bs k d) flags ∙ flag-at log k e d at
 
@@ -337,7 +353,8 @@ unfolding has_slot
 slot_found keys o i found small is = is ∙ sym (ap (λ (b : Bool). b && list_any (nat_eq (slot_key o i)) keys) (lt-ltb i 4294967296 small))
 
 -- the same where its kind isn't cleared
-pub slot_of_kind : (keys : List ℕ) (o i : ℕ) (cleared : Cleared) (kind : EdgeKind) (found : Bool) → is_cleared cleared kind ≡ false → found ≡ has_slot keys o i → found ≡ (has_slot keys o i || is_cleared cleared kind)
+pub slot_of_kind : (keys : List ℕ) (o i : ℕ) (cleared : Cleared) (kind : EdgeKind) (found : Bool) → is_cleared cleared kind ≡ false → found ≡ has_slot keys o i
+    → found ≡ (has_slot keys o i || is_cleared cleared kind)
 slot_of_kind keys o i cleared kind found none is = is ∙ sym (ap (λ (b : Bool). has_slot keys o i || b) none ∙ or-false_right (has_slot keys o i))
 
 -- a look-up of a root

@@ -1,4 +1,5 @@
-use Rattle.std.proofs.Common.{◌≡◌, ◌∙◌, ℕ, suc, nat_lt, ◌<◌, inl, inr, List, [], ◌∷◌, Contains, length, cond, not, Bool, false, ◌+◌, ◌-◌, ◌≤◌, get_or, Option, None, Some, slice_get, true, refl, sym, ap, subst, arith}
+use Rattle.std.proofs.Common.{◌≡◌, ◌∙◌, ℕ, suc, nat_lt, ◌<◌, inl, inr, List, [], ◌∷◌, Contains, length, cond, not, Bool, false, ◌+◌, ◌-◌, ◌≤◌, get_or, Option}
+use Rattle.std.proofs.Common.{None, Some, slice_get, true, refl, sym, ap, subst, arith}
 use Rattle.std.specs.Prelude.{◌==◌, ◌&&◌, ◌||◌, map}
 use Rattle.std.specs.Option.{option_map, option_and_then}
 use Rattle.std.specs.List.{filter, filter_map, enumerate_from}
@@ -17,10 +18,13 @@ use Rattle.hd_log.proofs.LastLemmas.{by_event}
 use Rattle.hd_terms.specs.Paths.{Edge, RootEntry}
 use Rattle.hd_terms.specs.Dump.{SlotEntry, Object, Root, Dump, no_object, object_at}
 use Rattle.hd_terms.specs.Edges.{index_of, edge_of}
-use Rattle.hd_terms.specs.EditedDump.{RootOn, standing, standing_from, is_untouched, is_dropped, is_root, adds_root, live_edit_at, root_stands, root_entries, dump_root, root_added, added_root, held_by}
+use Rattle.hd_terms.specs.EditedDump.{RootOn, standing, standing_from, is_untouched, is_dropped, is_root, adds_root, live_edit_at, root_stands, root_entries}
+use Rattle.hd_terms.specs.EditedDump.{dump_root, root_added, added_root, held_by}
 use Rattle.hd_terms.specs.Log.{live_edit, edit_of, stays}
-use Rattle.hd_strength.specs.Rows.{width, edge_by, edge_at, added_id, root_by, root_by_event, root_count, root_at, standing_root, standing_dump_root, standing_added_root, added_by}
-use Rattle.hd_strength.proofs.Lists.{Contains-nil, Contains-head, Contains-tail, Contains-cons_cases, Contains-slice_get, flat_map_contains, flat_map_only, filter_map_contains, filter_map_only, filter_contains, filter_only, enumerate_contains, enumerate_only}
+use Rattle.hd_strength.specs.Rows.{width, edge_by, edge_at, added_id, root_by, root_by_event, root_count, root_at, standing_root, standing_dump_root}
+use Rattle.hd_strength.specs.Rows.{standing_added_root, added_by}
+use Rattle.hd_strength.proofs.Lists.{Contains-nil, Contains-head, Contains-tail, Contains-cons_cases, Contains-slice_get, flat_map_contains, flat_map_only}
+use Rattle.hd_strength.proofs.Lists.{filter_map_contains, filter_map_only, filter_contains, filter_only, enumerate_contains, enumerate_only}
 
 -- the edge of a slot to the object of a number
 abbrev pub edge_to : ℕ → SlotEntry → ℕ → Edge
@@ -44,9 +48,11 @@ pub slot_at : (dump : Dump) (o i : ℕ) → i < width dump o → (s : SlotEntry)
 slot_at dump o i lt = slot-there (object_at dump o).slots i lt
 
 -- the edge of a slot, by the number that its ID has
-by_target : (o : ℕ) (s : SlotEntry) (t : Option ℕ) (e : Edge) → option_map (λ (target : ℕ). edge_to o s target) t ≡ Some e → (t ≡ Some e.target) × (e ≡ edge_to o s e.target)
+by_target : (o : ℕ) (s : SlotEntry) (t : Option ℕ) (e : Edge) → option_map (λ (target : ℕ). edge_to o s target) t ≡ Some e → (t ≡ Some e.target)
+    × (e ≡ edge_to o s e.target)
 by_target o s None e h = absurd (cc)
-by_target o s (Some t) e h = let same : edge_to o s t ≡ e = cc in (ap (λ (x : Edge). Some x.target) same, sym same ∙ ap (λ (x : Edge). edge_to o s x.target) same)
+by_target o s (Some t) e h = let same : edge_to o s t ≡ e = cc in
+    (ap (λ (x : Edge). Some x.target) same, sym same ∙ ap (λ (x : Edge). edge_to o s x.target) same)
 
 -- tests
 pub not-true : (b : Bool) → not b ≡ true → b ≡ false
@@ -126,7 +132,8 @@ is_at dump log o i e is =
       | inr le ↦ let none : width dump o ≡ 0 = ap (λ (x : Object). length x.slots) (get_or_past dump.objects o no_object le) in absurd (omega arith)
     ] in
     let s : SlotEntry = get_or (object_at dump o).slots i (record { slot = e.slot; kind = e.kind; id = 0 }) in
-    let there : slice_get (object_at dump o).slots i ≡ Some s = slice_get-get_or (object_at dump o).slots i (record { slot = e.slot; kind = e.kind; id = 0 }) within in
+    let there : slice_get (object_at dump o).slots i ≡ Some s =
+    slice_get-get_or (object_at dump o).slots i (record { slot = e.slot; kind = e.kind; id = 0 }) within in
     let found : (index_of dump.objects s.id ≡ Some e.target) × (e ≡ edge_to o s e.target) = at_edge dump log o i s there e is in
     record {
       object = object;
@@ -155,7 +162,8 @@ edge_stands_at dump log o i e is =
     (ap (option_map (λ (target : ℕ). edge_to o at.entry target)) at.index ∙ ap (λ (y : Edge). Some y) (sym at.is)))
 
 -- what is in the filtered list passes
-passes-cases : {X : Type 0} (p : X → Bool) (b : Bool) (z : X) (zs : List X) (x : X) → p z ≡ b → ((Contains (filter p zs) x) → p x ≡ true) → Contains (cond b (z ∷ filter p zs) (filter p zs)) x → p x ≡ true
+passes-cases : {X : Type 0} (p : X → Bool) (b : Bool) (z : X) (zs : List X) (x : X) → p z ≡ b → ((Contains (filter p zs) x) → p x ≡ true)
+    → Contains (cond b (z ∷ filter p zs) (filter p zs)) x → p x ≡ true
 passes-cases p true z zs x is later c = elim (Contains-cons_cases z (filter p zs) x c) [ inl same ↦ ap p (sym same) ∙ is | inr rest ↦ later rest ]
 passes-cases p false z zs x is later c = later c
 
@@ -174,22 +182,28 @@ edge_has_index dump log e c =
     let source : e.source ≡ n.0 = ap (λ (x : Edge). x.source) edge in
     let there : slice_get dump.objects n.0 ≡ Some n.1 = enumerate_only dump.objects n numbered in
     let object : object_at dump n.0 ≡ n.1 = get_or_from_slice_get dump.objects n.0 n.1 no_object there in
-    let slot : slice_get (object_at dump n.0).slots i ≡ Some s = ap (λ (x : Object). slice_get x.slots i) object ∙ slice_get-get_or n.1.slots i s lt ∙ ap (λ (y : SlotEntry). Some y) is in
+    let slot : slice_get (object_at dump n.0).slots i ≡ Some s = ap (λ (x : Object). slice_get x.slots i) object ∙ slice_get-get_or n.1.slots i s lt
+    ∙ ap (λ (y : SlotEntry). Some y) is in
     let stands : is_untouched log (object_at dump n.0) s ≡ true =
-    ap (λ (x : Object). is_untouched log x s) object ∙ filter_passes (is_untouched log n.1) n.1.slots s kept in
-    (i, subst (λ (m : ℕ). edge_at dump log m i ≡ Some e) (sym source) (ap (edge_by dump log n.0) slot ∙ ap (λ (b : Bool). cond b (edge_of dump.objects n.0 s) None) stands ∙ gives))
+    ap (λ (x : Object). is_untouched log x s) object ∙ filter_passes (is_untouched log n.1) n.1.slots s kept in (
+      i,
+      subst (λ (m : ℕ). edge_at dump log m i ≡ Some e) (sym source)
+          (ap (edge_by dump log n.0) slot ∙ ap (λ (b : Bool). cond b (edge_of dump.objects n.0 s) None) stands ∙ gives),
+    )
 
 not-below : (a b : ℕ) → b ≤ a → nat_lt a b ≡ false
 not-below a b le = lt-leb (suc a) b (omega arith)
 
 -- the root of a number, by where it comes from
-pub root_of_dump : (dump : Dump) (log : List Event) (r : ℕ) (root : Root) → slice_get dump.roots r ≡ Some root → root_at dump log r ≡ standing_dump_root dump log (r, root)
+pub root_of_dump : (dump : Dump) (log : List Event) (r : ℕ) (root : Root) → slice_get dump.roots r ≡ Some root
+    → root_at dump log r ≡ standing_dump_root dump log (r, root)
 unfolding root_at
 root_of_dump dump log r root at =
     let lt : r < length dump.roots = slice_get_within dump.roots r root at in
     rw (lt-ltb r (length dump.roots) lt) (ap (root_by dump log r) at)
 
-pub root_of_event : (dump : Dump) (log : List Event) (k : ℕ) (event : Event) → slice_get log k ≡ Some event → root_at dump log (length dump.roots + k) ≡ standing_added_root dump log (k, event)
+pub root_of_event : (dump : Dump) (log : List Event) (k : ℕ) (event : Event) → slice_get log k ≡ Some event
+    → root_at dump log (length dump.roots + k) ≡ standing_added_root dump log (k, event)
 unfolding root_at
 root_of_event dump log k event at =
     let number : (length dump.roots + k) - length dump.roots ≡ k = omega arith in
@@ -200,7 +214,8 @@ pub record IsEntry (dump : Dump) (r : ℕ) (x : RootEntry) : Type 0 where
   pub number : x.number ≡ r
   pub object : x.target < length dump.objects
 
-standing-entry : (dump : Dump) (r id : ℕ) (x : RootEntry) (dropped : Bool) (t : Option ℕ) → index_of dump.objects id ≡ t → cond dropped None (option_map (λ (target : ℕ). entry_to r target) t) ≡ Some x → IsEntry dump r x
+standing-entry : (dump : Dump) (r id : ℕ) (x : RootEntry) (dropped : Bool) (t : Option ℕ) → index_of dump.objects id ≡ t
+    → cond dropped None (option_map (λ (target : ℕ). entry_to r target) t) ≡ Some x → IsEntry dump r x
 standing-entry dump r id x true t found is = absurd cc
 standing-entry dump r id x false None found is = absurd cc
 standing-entry dump r id x false (Some t) found is =
@@ -212,15 +227,18 @@ dump-entry : (dump : Dump) (log : List Event) (r : ℕ) (x : RootEntry) (at : Op
 dump-entry dump log r x None is = absurd cc
 dump-entry dump log r x (Some root) is = standing-entry dump r root.id x (is_dropped log r) (index_of dump.objects root.id) refl is
 
-edit-entry : (dump : Dump) (log : List Event) (k : ℕ) (x : RootEntry) (edit : Option Edit) → added_by dump log k edit ≡ Some x → IsEntry dump (length dump.roots + k) x
+edit-entry : (dump : Dump) (log : List Event) (k : ℕ) (x : RootEntry) (edit : Option Edit) → added_by dump log k edit ≡ Some x
+    → IsEntry dump (length dump.roots + k) x
 edit-entry dump log k x None is = absurd cc
 edit-entry dump log k x (Some (edits.Cut id slot)) is = absurd cc
 edit-entry dump log k x (Some (edits.Clear id)) is = absurd cc
 edit-entry dump log k x (Some (edits.Drop r)) is = absurd cc
 edit-entry dump log k x (Some (edits.ClearAll references)) is = absurd cc
-edit-entry dump log k x (Some (edits.Add id)) is = standing-entry dump (length dump.roots + k) id x (is_dropped log (length dump.roots + k)) (index_of dump.objects id) refl is
+edit-entry dump log k x (Some (edits.Add id)) is = standing-entry dump (length dump.roots + k) id x (is_dropped log (length dump.roots + k))
+    (index_of dump.objects id) refl is
 
-event-entry : (dump : Dump) (log : List Event) (k : ℕ) (x : RootEntry) (at : Option Event) → root_by_event dump log k at ≡ Some x → IsEntry dump (length dump.roots + k) x
+event-entry : (dump : Dump) (log : List Event) (k : ℕ) (x : RootEntry) (at : Option Event) → root_by_event dump log k at ≡ Some x
+    → IsEntry dump (length dump.roots + k) x
 event-entry dump log k x None is = absurd cc
 event-entry dump log k x (Some event) is = edit-entry dump log k x (live_edit log (k, event)) is
 
@@ -230,7 +248,8 @@ is_entry dump log r x is = elim (cases_lt r (length dump.roots)) [
   | inl lt ↦ dump-entry dump log r x (slice_get dump.roots r) (rw (lt-ltb r (length dump.roots) lt) at is)
   | inr le ↦
       let number : length dump.roots + (r - length dump.roots) ≡ r = omega arith in
-      subst (λ (n : ℕ). IsEntry dump n x) number (event-entry dump log (r - length dump.roots) x (slice_get log (r - length dump.roots)) (rw (not-below r (length dump.roots) le) at is))
+      subst (λ (n : ℕ). IsEntry dump n x) number
+      (event-entry dump log (r - length dump.roots) x (slice_get log (r - length dump.roots)) (rw (not-below r (length dump.roots) le) at is))
 ]
 
 -- the object that the root of a number holds, if it holds one
@@ -260,13 +279,17 @@ target-of-entry : (r : ℕ) (t : Option ℕ) → option_map (λ (x : RootEntry).
 target-of-entry r None = refl
 target-of-entry r (Some t) = refl
 
-standing-held : (dump : Dump) (log : List Event) (r id : ℕ) → is_dropped log r ≡ false → option_map (λ (x : RootEntry). x.target) (standing_root dump log r id) ≡ index_of dump.objects id
+standing-held : (dump : Dump) (log : List Event) (r id : ℕ) → is_dropped log r ≡ false
+    → option_map (λ (x : RootEntry). x.target) (standing_root dump log r id) ≡ index_of dump.objects id
 standing-held dump log r id stays =
-    ap (λ (b : Bool). option_map (λ (x : RootEntry). x.target) (cond b None (option_map (λ (target : ℕ). entry_to r target) (index_of dump.objects id)))) stays ∙ target-of-entry r (index_of dump.objects id)
+    ap (λ (b : Bool). option_map (λ (x : RootEntry). x.target) (cond b None (option_map (λ (target : ℕ). entry_to r target) (index_of dump.objects id)))) stays
+    ∙ target-of-entry r (index_of dump.objects id)
 
-standing-dropped : (dump : Dump) (log : List Event) (r id : ℕ) → is_dropped log r ≡ true → option_map (λ (x : RootEntry). x.target) (standing_root dump log r id) ≡ None
+standing-dropped : (dump : Dump) (log : List Event) (r id : ℕ) → is_dropped log r ≡ true
+    → option_map (λ (x : RootEntry). x.target) (standing_root dump log r id) ≡ None
 standing-dropped dump log r id dropped =
-    ap (λ (b : Bool). option_map (λ (x : RootEntry). x.target) (cond b None (option_map (λ (target : ℕ). entry_to r target) (index_of dump.objects id)))) dropped
+    ap (λ (b : Bool). option_map (λ (x : RootEntry). x.target) (cond b None (option_map (λ (target : ℕ). entry_to r target) (index_of dump.objects id))))
+    dropped
 
 -- what a root of the dump holds, by whether it is dropped
 module _ (dump : Dump) (log : List Event) (r : ℕ) (root : Root) (at : slice_get dump.roots r ≡ Some root) where
@@ -279,8 +302,11 @@ module _ (dump : Dump) (log : List Event) (r : ℕ) (root : Root) (at : slice_ge
   pub dump_dropped : is_dropped log r ≡ true → None ≡ held_at dump log r
   dump_dropped dropped = sym (standing-dropped dump log r root.id dropped) ∙ dump-held
 
-root-by : (dump : Dump) (log : List Event) (r : ℕ) (at : Option Root) → slice_get dump.roots r ≡ at → is_dropped log r ≡ true → r < length dump.roots → None ≡ held_at dump log r
-root-by dump log r None at dropped lt = let some : slice_get dump.roots r ≡ Some (get_or dump.roots r (record { kind = kinds.Unknown; id = 0 })) = slice_get-get_or dump.roots r (record { kind = kinds.Unknown; id = 0 }) lt in let same : None ≡ Some (get_or dump.roots r (record { kind = kinds.Unknown; id = 0 })) = sym at ∙ some in absurd (cc)
+root-by : (dump : Dump) (log : List Event) (r : ℕ) (at : Option Root) → slice_get dump.roots r ≡ at → is_dropped log r ≡ true → r < length dump.roots
+    → None ≡ held_at dump log r
+root-by dump log r None at dropped lt = let some : slice_get dump.roots r ≡ Some (get_or dump.roots r (record { kind = kinds.Unknown; id = 0 })) =
+    slice_get-get_or dump.roots r (record { kind = kinds.Unknown; id = 0 }) lt in
+    let same : None ≡ Some (get_or dump.roots r (record { kind = kinds.Unknown; id = 0 })) = sym at ∙ some in absurd (cc)
 root-by dump log r (Some root) at dropped lt = dump_dropped dump log r root at dropped
 
 -- a root of the dump that is dropped holds nothing
@@ -288,14 +314,18 @@ pub dump_dropped_at : (dump : Dump) (log : List Event) (r : ℕ) → r < length 
 dump_dropped_at dump log r lt dropped = root-by dump log r (slice_get dump.roots r) refl dropped lt
 
 -- what an edit adds
-addition : (dump : Dump) (log : List Event) (k : ℕ) (edit : Edit) (id : ℕ) → added_id edit ≡ Some id → option_map (λ (x : RootEntry). x.target) (added_by dump log k (Some edit)) ≡ option_map (λ (x : RootEntry). x.target) (standing_root dump log (length dump.roots + k) id)
+addition : (dump : Dump) (log : List Event) (k : ℕ) (edit : Edit) (id : ℕ) → added_id edit ≡ Some id
+    → option_map (λ (x : RootEntry). x.target) (added_by dump log k (Some edit)) ≡ option_map (λ (x : RootEntry). x.target)
+    (standing_root dump log (length dump.roots + k) id)
 addition dump log k (edits.Cut i slot) id is = absurd cc
 addition dump log k (edits.Clear i) id is = absurd cc
 addition dump log k (edits.Drop n) id is = absurd cc
 addition dump log k (edits.ClearAll references) id is = absurd cc
-addition dump log k (edits.Add i) id is = let same : i ≡ id = cc in ap (λ (j : ℕ). option_map (λ (x : RootEntry). x.target) (standing_root dump log (length dump.roots + k) j)) same
+addition dump log k (edits.Add i) id is = let same : i ≡ id = cc in
+    ap (λ (j : ℕ). option_map (λ (x : RootEntry). x.target) (standing_root dump log (length dump.roots + k) j)) same
 
-no-addition : (dump : Dump) (log : List Event) (k : ℕ) (edit : Edit) → added_id edit ≡ None → option_map (λ (x : RootEntry). x.target) (added_by dump log k (Some edit)) ≡ None
+no-addition : (dump : Dump) (log : List Event) (k : ℕ) (edit : Edit) → added_id edit ≡ None
+    → option_map (λ (x : RootEntry). x.target) (added_by dump log k (Some edit)) ≡ None
 no-addition dump log k (edits.Cut i slot) is = refl
 no-addition dump log k (edits.Clear i) is = refl
 no-addition dump log k (edits.Drop n) is = refl
@@ -303,24 +333,31 @@ no-addition dump log k (edits.ClearAll references) is = refl
 no-addition dump log k (edits.Add i) is = absurd cc
 
 -- what the root holds that an event adds, by its live edit
-module _ (dump : Dump) (log : List Event) (k : ℕ) (r : Option Edit) (lt : k < length log) (is : (e : Event) → slice_get log k ≡ Some e → r ≡ live_edit log (k, e)) where
+module _ (dump : Dump) (log : List Event) (k : ℕ) (r : Option Edit) (lt : k < length log)
+    (is : (e : Event) → slice_get log k ≡ Some e → r ≡ live_edit log (k, e)) where
   event-held : option_map (λ (x : RootEntry). x.target) (added_by dump log k r) ≡ held_at dump log (length dump.roots + k)
-  event-held = by_event log k lt (λ e at. ap (λ (o : Option Edit). option_map (λ (x : RootEntry). x.target) (added_by dump log k o)) (is e at) ∙ ap (option_map (λ (x : RootEntry). x.target)) (sym (root_of_event dump log k e at)))
+  event-held = by_event log k lt (λ e at. ap (λ (o : Option Edit). option_map (λ (x : RootEntry). x.target) (added_by dump log k o)) (is e at)
+      ∙ ap (option_map (λ (x : RootEntry). x.target)) (sym (root_of_event dump log k e at)))
 
   pub no_live_edit : r ≡ None → None ≡ held_at dump log (length dump.roots + k)
   no_live_edit none = sym (ap (λ (o : Option Edit). option_map (λ (x : RootEntry). x.target) (added_by dump log k o)) none) ∙ event-held
 
-  added-held : (edit : Edit) → r ≡ Some edit → option_map (λ (x : RootEntry). x.target) (added_by dump log k (Some edit)) ≡ held_at dump log (length dump.roots + k)
+  added-held : (edit : Edit) → r ≡ Some edit → option_map (λ (x : RootEntry). x.target) (added_by dump log k (Some edit)) ≡ held_at dump log
+      (length dump.roots + k)
   added-held edit some = sym (ap (λ (o : Option Edit). option_map (λ (x : RootEntry). x.target) (added_by dump log k o)) some) ∙ event-held
 
   pub adds_none : (edit : Edit) → r ≡ Some edit → added_id edit ≡ None → None ≡ held_at dump log (length dump.roots + k)
   adds_none edit some none = sym (no-addition dump log k edit none) ∙ added-held edit some
 
-  pub added_dropped : (edit : Edit) (id : ℕ) → r ≡ Some edit → added_id edit ≡ Some id → is_dropped log (length dump.roots + k) ≡ true → None ≡ held_at dump log (length dump.roots + k)
-  added_dropped edit id some adds dropped = sym (standing-dropped dump log (length dump.roots + k) id dropped) ∙ sym (addition dump log k edit id adds) ∙ added-held edit some
+  pub added_dropped : (edit : Edit) (id : ℕ) → r ≡ Some edit → added_id edit ≡ Some id → is_dropped log (length dump.roots + k) ≡ true
+      → None ≡ held_at dump log (length dump.roots + k)
+  added_dropped edit id some adds dropped = sym (standing-dropped dump log (length dump.roots + k) id dropped) ∙ sym (addition dump log k edit id adds)
+      ∙ added-held edit some
 
-  pub added_held : (edit : Edit) (id : ℕ) → r ≡ Some edit → added_id edit ≡ Some id → is_dropped log (length dump.roots + k) ≡ false → index_of dump.objects id ≡ held_at dump log (length dump.roots + k)
-  added_held edit id some adds stays = sym (standing-held dump log (length dump.roots + k) id stays) ∙ sym (addition dump log k edit id adds) ∙ added-held edit some
+  pub added_held : (edit : Edit) (id : ℕ) → r ≡ Some edit → added_id edit ≡ Some id → is_dropped log (length dump.roots + k) ≡ false
+      → index_of dump.objects id ≡ held_at dump log (length dump.roots + k)
+  added_held edit id some adds stays = sym (standing-held dump log (length dump.roots + k) id stays) ∙ sym (addition dump log k edit id adds)
+      ∙ added-held edit some
 
 -- a root that holds an object isn't dropped
 standing-parts : (dropped : Bool) (held : Option RootEntry) (x : RootEntry) → cond dropped None held ≡ Some x → (dropped ≡ false) × (held ≡ Some x)
@@ -333,7 +370,8 @@ adding r (whats.Do (edits.Cut i slot)) id is = absurd cc
 adding r (whats.Do (edits.Clear i)) id is = absurd cc
 adding r (whats.Do (edits.Drop s)) id is = absurd cc
 adding r (whats.Do (edits.ClearAll references)) id is = absurd cc
-adding r (whats.Do (edits.Add i)) id is = let same : i ≡ id = cc in ap (λ (n : ℕ). let root : RootOn = record { number = r; kind = None; id = n } in Some root) same
+adding r (whats.Do (edits.Add i)) id is = let same : i ≡ id = cc in
+    ap (λ (n : ℕ). let root : RootOn = record { number = r; kind = None; id = n } in Some root) same
 adding r (whats.Undo k) id is = absurd cc
 
 added-only : (r : ℕ) (what : What) (root : RootOn) → root_added r what ≡ Some root → (r ≡ root.number) × (edit_of what ≡ Some (edits.Add root.id))
@@ -353,12 +391,14 @@ live-does true what edit is = is
 live-does false what edit is = absurd cc
 
 -- an event that adds a root, where its edit is live
-live-adds : (b : Bool) (what : What) (id : ℕ) → edit_of what ≡ Some (edits.Add id) → adds_root (cond b (edit_of what) None) ≡ true → cond b (edit_of what) None ≡ Some (edits.Add id)
+live-adds : (b : Bool) (what : What) (id : ℕ) → edit_of what ≡ Some (edits.Add id) → adds_root (cond b (edit_of what) None) ≡ true
+    → cond b (edit_of what) None ≡ Some (edits.Add id)
 live-adds true what id is adds = is
 live-adds false what id is adds = absurd cc
 
 -- the entry of a root that stands is among those that stand
-among : (dump : Dump) (log : List Event) (root : RootOn) (x : RootEntry) → Contains (root_entries dump log) root → root_stands (length dump.roots) log root.number ≡ true → held_by dump root ≡ Some x → Contains (standing dump log).roots x
+among : (dump : Dump) (log : List Event) (root : RootOn) (x : RootEntry) → Contains (root_entries dump log) root
+    → root_stands (length dump.roots) log root.number ≡ true → held_by dump root ≡ Some x → Contains (standing dump log).roots x
 among dump log root x c stands holds =
     filter_map_contains (held_by dump) (filter (λ (r : RootOn). root_stands (length dump.roots) log r.number) (root_entries dump log)) root x
     (filter_contains (λ (r : RootOn). root_stands (length dump.roots) log r.number) (root_entries dump log) root c stands) holds
@@ -383,25 +423,30 @@ map_only f (z ∷ zs) y c = elim (Contains-cons_cases (f z) (map f zs) y c) [
 pub number_of_dump : (dump : Dump) (log : List Event) (r : ℕ) → r < length dump.roots → is_dropped log r ≡ false → root_stands (length dump.roots) log r ≡ true
 number_of_dump dump log r lt stays = rw (lt-ltb r (length dump.roots) lt, stays) refl
 
-pub number_of_event : (dump : Dump) (log : List Event) (k : ℕ) (event : Event) → slice_get log k ≡ Some event → is_root (length dump.roots) log (length dump.roots + k) ≡ adds_root (live_edit log (k, event))
+pub number_of_event : (dump : Dump) (log : List Event) (k : ℕ) (event : Event) → slice_get log k ≡ Some event
+    → is_root (length dump.roots) log (length dump.roots + k) ≡ adds_root (live_edit log (k, event))
 number_of_event dump log k event at =
     let number : (length dump.roots + k) - length dump.roots ≡ k = omega arith in
-    ap (λ (b : Bool). b || adds_root (live_edit_at log ((length dump.roots + k) - length dump.roots))) (not-below (length dump.roots + k) (length dump.roots) (omega arith))
+    ap (λ (b : Bool). b || adds_root (live_edit_at log ((length dump.roots + k) - length dump.roots)))
+    (not-below (length dump.roots + k) (length dump.roots) (omega arith))
     ∙ ap (λ (n : ℕ). adds_root (live_edit_at log n)) number
     ∙ ap (λ (e : Option Event). adds_root (option_and_then (λ (x : Event). live_edit log (k, x)) e)) at
 
 -- the entry of a root stands
-stands-in_dump : (dump : Dump) (log : List Event) (r : ℕ) (x : RootEntry) (at : Option Root) → slice_get dump.roots r ≡ at → root_by dump log r at ≡ Some x → Contains (standing dump log).roots x
+stands-in_dump : (dump : Dump) (log : List Event) (r : ℕ) (x : RootEntry) (at : Option Root) → slice_get dump.roots r ≡ at → root_by dump log r at ≡ Some x
+    → Contains (standing dump log).roots x
 stands-in_dump dump log r x None at is = absurd cc
 stands-in_dump dump log r x (Some root) at is =
     let lt : r < length dump.roots = slice_get_within dump.roots r root at in
     let parts = standing-parts (is_dropped log r) (held_by dump (dump_root (r, root))) x is in
     among dump log (dump_root (r, root)) x
-    (Contains-append_left (map dump_root (enumerate_from 0 dump.roots)) (filter_map (added_root (length dump.roots)) (enumerate_from 0 log)) (dump_root (r, root))
+    (Contains-append_left (map dump_root (enumerate_from 0 dump.roots)) (filter_map (added_root (length dump.roots)) (enumerate_from 0 log))
+    (dump_root (r, root))
     (map_contains dump_root (enumerate_from 0 dump.roots) (r, root) (enumerate_contains dump.roots r root at)))
     (number_of_dump dump log r lt parts.0) parts.1
 
-stands-by : (dump : Dump) (log : List Event) (k : ℕ) (x : RootEntry) (event : Event) (edit : Option Edit) → slice_get log k ≡ Some event → live_edit log (k, event) ≡ edit → added_by dump log k edit ≡ Some x → Contains (standing dump log).roots x
+stands-by : (dump : Dump) (log : List Event) (k : ℕ) (x : RootEntry) (event : Event) (edit : Option Edit) → slice_get log k ≡ Some event
+    → live_edit log (k, event) ≡ edit → added_by dump log k edit ≡ Some x → Contains (standing dump log).roots x
 stands-by dump log k x event None at live is = absurd cc
 stands-by dump log k x event (Some (edits.Cut id slot)) at live is = absurd cc
 stands-by dump log k x event (Some (edits.Clear id)) at live is = absurd cc
@@ -414,10 +459,12 @@ stands-by dump log k x event (Some (edits.Add id)) at live is =
     let there : is_root (length dump.roots) log (length dump.roots + k) ≡ true = number_of_event dump log k event at ∙ ap adds_root live in
     among dump log root x
     (Contains-append_right (map dump_root (enumerate_from 0 dump.roots)) (filter_map (added_root (length dump.roots)) (enumerate_from 0 log)) root
-    (filter_map_contains (added_root (length dump.roots)) (enumerate_from 0 log) (k, event) root (enumerate_contains log k event at) (adding (length dump.roots + k) event.what id does)))
+    (filter_map_contains (added_root (length dump.roots)) (enumerate_from 0 log) (k, event) root (enumerate_contains log k event at)
+    (adding (length dump.roots + k) event.what id does)))
     (rw (there, parts.0) refl) parts.1
 
-stands-added : (dump : Dump) (log : List Event) (k : ℕ) (x : RootEntry) (at : Option Event) → slice_get log k ≡ at → root_by_event dump log k at ≡ Some x → Contains (standing dump log).roots x
+stands-added : (dump : Dump) (log : List Event) (k : ℕ) (x : RootEntry) (at : Option Event) → slice_get log k ≡ at → root_by_event dump log k at ≡ Some x
+    → Contains (standing dump log).roots x
 stands-added dump log k x None at is = absurd cc
 stands-added dump log k x (Some event) at is = stands-by dump log k x event (live_edit log (k, event)) at refl is
 
@@ -435,16 +482,20 @@ both-parts true true h = absurd cc
 both-parts false b h = absurd cc
 
 -- each entry that stands is that of a root
-pub root_has_number : (dump : Dump) (log : List Event) (x : RootEntry) → Contains (standing dump log).roots x → (r : ℕ) × (r < root_count dump log) × (root_at dump log r ≡ Some x)
+pub root_has_number : (dump : Dump) (log : List Event) (x : RootEntry) → Contains (standing dump log).roots x → (r : ℕ) × (r < root_count dump log)
+    × (root_at dump log r ≡ Some x)
 root_has_number dump log x c =
     let n_roots = length dump.roots in
     let stands : RootOn → Bool = λ r. root_stands n_roots log r.number in
-    let found : (root : RootOn) × Contains (filter stands (root_entries dump log)) root × (held_by dump root ≡ Some x) = filter_map_only (held_by dump) (filter stands (root_entries dump log)) x c in
+    let found : (root : RootOn) × Contains (filter stands (root_entries dump log)) root × (held_by dump root ≡ Some x) =
+    filter_map_only (held_by dump) (filter stands (root_entries dump log)) x c in
     let root = found.0 in
     let passes = both-parts (is_root n_roots log root.number) (is_dropped log root.number) (filter_passes stands (root_entries dump log) root found.1) in
-    elim (Contains-append_cases (map dump_root (enumerate_from 0 dump.roots)) (filter_map (added_root n_roots) (enumerate_from 0 log)) root (filter_only stands (root_entries dump log) root found.1)) [
+    elim (Contains-append_cases (map dump_root (enumerate_from 0 dump.roots)) (filter_map (added_root n_roots) (enumerate_from 0 log)) root
+    (filter_only stands (root_entries dump log) root found.1)) [
       | inl first ↦
-          let made : (n : ℕ × Root) × Contains (enumerate_from 0 dump.roots) n × (dump_root n ≡ root) = map_only dump_root (enumerate_from 0 dump.roots) root first in
+          let made : (n : ℕ × Root) × Contains (enumerate_from 0 dump.roots) n × (dump_root n ≡ root) =
+          map_only dump_root (enumerate_from 0 dump.roots) root first in
           let n = made.0 in
           let entry : slice_get dump.roots n.0 ≡ Some n.1 = enumerate_only dump.roots n made.1 in
           let lt : n.0 < length dump.roots = slice_get_within dump.roots n.0 n.1 entry in
@@ -452,7 +503,8 @@ root_has_number dump log x c =
           let holds : held_by dump (dump_root n) ≡ Some x = ap (held_by dump) made.2 ∙ found.2 in
           (n.0, omega arith, root_of_dump dump log n.0 n.1 entry ∙ ap (λ (b : Bool). cond b None (held_by dump (dump_root n))) stays ∙ holds)
       | inr later ↦
-          let made : (n : ℕ × Event) × Contains (enumerate_from 0 log) n × (added_root n_roots n ≡ Some root) = filter_map_only (added_root n_roots) (enumerate_from 0 log) root later in
+          let made : (n : ℕ × Event) × Contains (enumerate_from 0 log) n × (added_root n_roots n ≡ Some root) =
+          filter_map_only (added_root n_roots) (enumerate_from 0 log) root later in
           let n = made.0 in
           let entry : slice_get log n.0 ≡ Some n.1 = enumerate_only log n made.1 in
           let lt : n.0 < length log = slice_get_within log n.0 n.1 entry in
@@ -464,6 +516,7 @@ root_has_number dump log x c =
           let holds : entry_of (length dump.roots + n.0) ≡ Some x = ap entry_of adds.0 ∙ found.2 in (
             length dump.roots + n.0,
             omega arith,
-            root_of_event dump log n.0 n.1 entry ∙ ap (added_by dump log n.0) live ∙ ap (λ (b : Bool). cond b None (entry_of (length dump.roots + n.0))) undropped ∙ holds,
+            root_of_event dump log n.0 n.1 entry ∙ ap (added_by dump log n.0) live
+                ∙ ap (λ (b : Bool). cond b None (entry_of (length dump.roots + n.0))) undropped ∙ holds,
           )
     ]

@@ -1,4 +1,5 @@
-use Rattle.std.proofs.Common.{◌≡◌, ◌≢◌, ◌∙◌, ℕ, zero, suc, ◌+◌, ◌<◌, ◌≤◌, ◌⊎◌, inl, inr, List, [], ◌∷◌, ◌++◌, length, set, get_or, Some, slice_get, refl, sym, ap, subst, arith}
+use Rattle.std.proofs.Common.{◌≡◌, ◌≢◌, ◌∙◌, ℕ, zero, suc, ◌+◌, ◌<◌, ◌≤◌, ◌⊎◌, inl, inr, List, [], ◌∷◌, ◌++◌, length, set, get_or, Some, slice_get, refl, sym}
+use Rattle.std.proofs.Common.{ap, subst, arith}
 use Rattle.std.proofs.lemmas.Bool.{cases_eq, cases_lt}
 use Rattle.std.proofs.lemmas.Option.{get_or_from_slice_get}
 use Rattle.hd_strength.specs.declared.part.Part.{Part}
@@ -24,9 +25,11 @@ module _ {X : Type 0} where
   set-there (z ∷ zs) (suc k) x h = ap (λ (ws : List X). z ∷ ws) (set-there zs k x h)
 
   -- what stands there is the new one or stood there
-  pub slice_get-set_cases : (xs : List X) (k j : ℕ) (x y z : X) → slice_get xs k ≡ Some x → slice_get (set xs k y) j ≡ Some z → ((j ≡ k) × (z ≡ y)) ⊎ ((j ≢ k) × (slice_get xs j ≡ Some z))
+  pub slice_get-set_cases : (xs : List X) (k j : ℕ) (x y z : X) → slice_get xs k ≡ Some x → slice_get (set xs k y) j ≡ Some z → ((j ≡ k) × (z ≡ y))
+      ⊎ ((j ≢ k) × (slice_get xs j ≡ Some z))
   slice_get-set_cases xs k j x y z h there = elim (cases_eq j k) [
-    | inl same ↦ let both : Some z ≡ Some y = sym (subst (λ (j : ℕ). slice_get (set xs k y) j ≡ Some z) same there) ∙ slice_get-set_same xs k x y h in inl (same, cc)
+    | inl same ↦ let both : Some z ≡ Some y = sym (subst (λ (j : ℕ). slice_get (set xs k y) j ≡ Some z) same there) ∙ slice_get-set_same xs k x y h in
+        inl (same, cc)
     | inr other ↦ inr (other, sym (slice_get-set_other xs k j y other) ∙ there)
   ]
 
@@ -35,7 +38,8 @@ module _ {X : Type 0} where
   one_there xs k x y h i = let both : Some x ≡ Some y = sym h ∙ i in cc
 
   -- a fact of what stood at a place and what stands there, by reads with a default
-  pub at_place : (P : X → X → Type 0) (old new : List X) (k : ℕ) (x y a b : X) → slice_get old k ≡ Some x → slice_get new k ≡ Some y → a ≡ get_or old k x → b ≡ get_or new k x → P a b → P x y
+  pub at_place : (P : X → X → Type 0) (old new : List X) (k : ℕ) (x y a b : X) → slice_get old k ≡ Some x → slice_get new k ≡ Some y → a ≡ get_or old k x
+      → b ≡ get_or new k x → P a b → P x y
   at_place P old new k x y a b there here was is fact =
       subst (λ (x : X). P x y) (was ∙ get_or_from_slice_get old k x x there) (subst (P a) (is ∙ get_or_from_slice_get new k y x here) fact)
 
@@ -49,7 +53,8 @@ module _ {X : Type 0} where
   set_behind (z ∷ zs) ys x y = ap (λ (ws : List X). z ∷ ws) (set_behind zs ys x y)
 
 -- a part takes the place of another with as many objects
-pub row-set : (ps : List Part) (first end k : ℕ) (p new : Part) → AreInRow first ps end → slice_get ps k ≡ Some p → new.first ≡ p.first → length new.found.list ≡ length p.found.list → AreInRow first (set ps k new) end
+pub row-set : (ps : List Part) (first end k : ℕ) (p new : Part) → AreInRow first ps end → slice_get ps k ≡ Some p → new.first ≡ p.first
+    → length new.found.list ≡ length p.found.list → AreInRow first (set ps k new) end
 row-set [] first end k p new row h same len = absurd (cc)
 row-set (q ∷ qs) first end zero p new row h same len =
     let is : q ≡ p = let both : Some q ≡ Some p = h in cc in
@@ -58,7 +63,8 @@ row-set (q ∷ qs) first end zero p new row h same len =
 row-set (q ∷ qs) first end (suc k) p new row h same len = (row.0, row-set qs (first + length q.found.list) end k p new row.1 h same len)
 
 -- parts that begin where others do, with as many objects, stand in a row as those do
-pub row-alike : (ps qs : List Part) (first end : ℕ) → length qs ≡ length ps → ((k : ℕ) (p q : Part) → slice_get ps k ≡ Some p → slice_get qs k ≡ Some q → (q.first ≡ p.first) × (length q.found.list ≡ length p.found.list))
+pub row-alike : (ps qs : List Part) (first end : ℕ) → length qs ≡ length ps
+    → ((k : ℕ) (p q : Part) → slice_get ps k ≡ Some p → slice_get qs k ≡ Some q → (q.first ≡ p.first) × (length q.found.list ≡ length p.found.list))
     → AreInRow first ps end → AreInRow first qs end
 row-alike [] [] first end count alike row = row
 row-alike [] (q ∷ qs) first end count alike row = absurd (omega (arith, count))
@@ -74,7 +80,8 @@ row-le [] first end row = omega (arith, row)
 row-le (p ∷ ps) first end row = omega (arith, row-le ps (first + length p.found.list) end row.1)
 
 -- a part of the row begins no earlier and ends no later
-pub row-bounds : (ps : List Part) (first end k : ℕ) (p : Part) → AreInRow first ps end → slice_get ps k ≡ Some p → (first ≤ p.first) × (p.first + length p.found.list ≤ end)
+pub row-bounds : (ps : List Part) (first end k : ℕ) (p : Part) → AreInRow first ps end → slice_get ps k ≡ Some p → (first ≤ p.first)
+    × (p.first + length p.found.list ≤ end)
 row-bounds [] first end k p row h = absurd (cc)
 row-bounds (q ∷ qs) first end zero p row h =
     let is : q ≡ p = let both : Some q ≡ Some p = h in cc in
@@ -96,7 +103,8 @@ row-holder (p ∷ ps) first end o row le lt = elim (cases_lt o (first + length p
 ]
 
 -- and no other's
-pub row-one : (ps : List Part) (first end j k o : ℕ) (p q : Part) → AreInRow first ps end → slice_get ps j ≡ Some p → slice_get ps k ≡ Some q → IsOwn p o → IsOwn q o → j ≡ k
+pub row-one : (ps : List Part) (first end j k o : ℕ) (p q : Part) → AreInRow first ps end → slice_get ps j ≡ Some p → slice_get ps k ≡ Some q → IsOwn p o
+    → IsOwn q o → j ≡ k
 row-one [] first end j k o p q row there here own other = absurd (cc)
 row-one (x ∷ xs) first end zero zero o p q row there here own other = refl
 row-one (x ∷ xs) first end zero (suc k) o p q row there here own other =
@@ -111,4 +119,5 @@ row-one (x ∷ xs) first end (suc j) zero o p q row there here own other =
     let len : length q.found.list ≡ length x.found.list = ap (λ (p : Part). length p.found.list) (sym is) in
     let at : q.first ≡ first = ap (λ (p : Part). p.first) (sym is) ∙ row.0 in
     absurd (omega (arith, later.0, other.last, own.first))
-row-one (x ∷ xs) first end (suc j) (suc k) o p q row there here own other = ap suc (row-one xs (first + length x.found.list) end j k o p q row.1 there here own other)
+row-one (x ∷ xs) first end (suc j) (suc k) o p q row there here own other =
+    ap suc (row-one xs (first + length x.found.list) end j k o p q row.1 there here own other)

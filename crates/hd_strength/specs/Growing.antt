@@ -28,7 +28,8 @@ offer_at o i = record { source = o; index = i }
 
 -- an object is held by a root, or nothing is known to reach it
 abbrev pub IsHeldOrNot : Dump → List Event → List Reached → ℕ → Type 0
-IsHeldOrNot dump log ks o = (reached_at ks o ≡ unreached) ⊎ ((r : ℕ) × (root_at dump log r ≡ Some (record { number = r; target = o })) × (reached_at ks o ≡ reached_by_root r))
+IsHeldOrNot dump log ks o = (reached_at ks o ≡ unreached)
+    ⊎ ((r : ℕ) × (root_at dump log r ≡ Some (record { number = r; target = o })) × (reached_at ks o ≡ reached_by_root r))
 
 -- objects that one of the first n roots holds are held, and nothing else is reached
 pub record AreHeld (dump : Dump) (log : List Event) (ks : List Reached) (n : ℕ) : Type 0 where
@@ -58,10 +59,12 @@ IsHadOrPromised at ks offers given o = (given ≤ rank_at ks o) ⊎ IsPromised a
 
 -- what is reached is supported and has at least the strength that is being spread; the objects of roots are strong; what a
 -- slot gives that is done, its target has or is offered; each offer is backed and below the limit
-pub record IsGrowing (g : Standing) (at : ℕ → ℕ → Option Edge) (ks : List Reached) (offers : Strength → Offer → Type 0) (s : Strength) (limit : ℕ) (IsDone : ℕ → ℕ → Type 0) : Type 0 where
+pub record IsGrowing (g : Standing) (at : ℕ → ℕ → Option Edge) (ks : List Reached) (offers : Strength → Offer → Type 0) (s : Strength) (limit : ℕ)
+    (IsDone : ℕ → ℕ → Type 0) : Type 0 where
   pub supported : (o : ℕ) → IsSupported g ks o (reached_at ks o).support
   pub by_roots : (r : RootEntry) → Contains g.roots r → (reached_at ks r.target).strength ≡ strengths.Strong
-  pub by_edges : (o i : ℕ) (e : Edge) → IsDone o i → at o i ≡ Some e → PassesOn g.mode (reached_at ks o) → IsHadOrPromised at ks offers (rank (offered_strength ks e)) e.target
+  pub by_edges : (o i : ℕ) (e : Edge) → IsDone o i → at o i ≡ Some e → PassesOn g.mode (reached_at ks o)
+      → IsHadOrPromised at ks offers (rank (offered_strength ks e)) e.target
   pub backed : (t : Strength) (x : Offer) → offers t x → IsBacked g.mode at ks t x
   pub floor : (o : ℕ) → 1 ≤ rank_at ks o → rank s ≤ rank_at ks o
   pub ceiling : (t : Strength) (x : Offer) → offers t x → rank t < limit

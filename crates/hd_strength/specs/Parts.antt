@@ -1,6 +1,7 @@
 -- Parts of the objects, by their numbers, and how far a search among them has come.
 -- Source: this project.
-use Rattle.std.specs.Prelude.{◌≡◌, ℕ, ◌+◌, ◌-◌, ◌%◌, ◌^◌, ◌≤◌, ◌<◌, ◌==◌, ◌⊎◌, min, Bool, true, false, List, [], ◌∷◌, ◌++◌, length, set, map, replicate, Contains, sum_by, slice_get, slice_index_or, Option, Some}
+use Rattle.std.specs.Prelude.{◌≡◌, ℕ, ◌+◌, ◌-◌, ◌%◌, ◌^◌, ◌≤◌, ◌<◌, ◌==◌, ◌⊎◌, min, Bool, true, false, List, [], ◌∷◌, ◌++◌, length, set, map, replicate}
+use Rattle.std.specs.Prelude.{Contains, sum_by, slice_get, slice_index_or, Option, Some}
 use Rattle.std.specs.List.{flat_map}
 use Rattle.hd_terms.specs.declared.Event.{Event}
 use Rattle.hd_terms.specs.declared.Mode.{Mode}
@@ -62,11 +63,21 @@ pub record AreBlank (len n : ℕ) (whole : Bool) (parts : List Part) (end : ℕ)
 
 -- each part has got its objects, if memory didn't run out
 abbrev pub AreFilled : ℕ → ℕ → Bool → List Part → List Part → Type 0
-AreFilled len n whole old new = (k : ℕ) (p q : Part) → slice_get old k ≡ Some p → slice_get new k ≡ Some q → q.failed ≡ false → IsNew p.first (min len (n - p.first)) whole q
+AreFilled len n whole old new = (k : ℕ) (p q : Part) → slice_get old k ≡ Some p → slice_get new k ≡ Some q → q.failed ≡ false
+    → IsNew p.first (min len (n - p.first)) whole q
 
 -- the part with other findings
 abbrev pub with_found : Part → Findings → Part
-with_found p found = record { first = p.first; found = found; buckets = p.buckets; queue = p.queue; handed = p.handed; count = p.count; passed = p.passed; failed = p.failed }
+with_found p found = record {
+  first = p.first;
+  found = found;
+  buckets = p.buckets;
+  queue = p.queue;
+  handed = p.handed;
+  count = p.count;
+  passed = p.passed;
+  failed = p.failed;
+}
 
 -- how many of its own nothing reaches yet
 abbrev pub unreached_of : Part → ℕ
@@ -120,7 +131,8 @@ pub record IsFit (dump : Dump) (s : Strength) (p : Part) : Type 0 where
 
 -- a part among others, of which `unreached` objects are unreached: it finds what is kept of its own, or the strengths alone; it
 -- gave no lesser stamps; what it handed over is reached or offered the strength that is being spread
-pub record IsPartOf (dump : Dump) (at : ℕ → ℕ → Option Edge) (ks : List Reached) (whole : Bool) (s : Strength) (unreached : ℕ) (offers : Strength → Offer → Type 0) (p : Part) : Type 0 where
+pub record IsPartOf (dump : Dump) (at : ℕ → ℕ → Option Edge) (ks : List Reached) (whole : Bool) (s : Strength) (unreached : ℕ)
+    (offers : Strength → Offer → Type 0) (p : Part) : Type 0 where
   pub fit : IsFit dump s p
   pub alike : p.found.whole ≡ whole
   pub own : (o : ℕ) → IsOwn p o → found_at p o ≡ seen whole (reached_at ks o)
@@ -130,7 +142,8 @@ pub record IsPartOf (dump : Dump) (at : ℕ → ℕ → Option Edge) (ks : List 
 
 -- a search by parts on its way. What is kept of the objects grows; slots are done of those objects that no part has still
 -- to pass on, as far as something more holds of them
-pub record IsSearching (dump : Dump) (log : List Event) (parts : List Part) (ks : List Reached) (whole : Bool) (s : Strength) (limit : ℕ) (IsDone : ℕ → ℕ → Type 0) : Type 0 where
+pub record IsSearching (dump : Dump) (log : List Event) (parts : List Part) (ks : List Reached) (whole : Bool) (s : Strength) (limit : ℕ)
+    (IsDone : ℕ → ℕ → Type 0) : Type 0 where
   pub growing : IsGrowing (standing dump log) (edge_at dump log) ks (IsOfferedIn parts) s limit (λ o i. IsDoneIn parts o × IsDone o i)
   pub each : (k : ℕ) (p : Part) → slice_get parts k ≡ Some p → IsPartOf dump (edge_at dump log) ks whole s (unreached_in parts) (IsOfferedIn parts) p
   pub row : AreInRow 0 parts (length dump.objects)
@@ -195,7 +208,11 @@ pub record IsGain (at : ℕ → ℕ → Option Edge) (p : Part) (o i : ℕ) (s :
 -- one of a part's own is reached by an edge from a slot of another object. Its stamp is the one after the given one, and what
 -- is shown of it is kept. Nothing is said of the queue
 pub record Keeps (show : Reached → Reached) (old new : Part) (s : Strength) (source : ℕ) (slot : Slot) (target stamp : ℕ) : Type 0 where
-  pub kept : new.found ≡ record { whole = old.found.whole; list = set old.found.list (target - old.first) (show (record { strength = s; support = supports.Edge source slot; stamp = stamp + 1 })) }
+  pub kept : new.found ≡ record {
+    whole = old.found.whole;
+    list =
+        set old.found.list (target - old.first) (show (record { strength = s; support = supports.Edge source slot; stamp = stamp + 1 }));
+  }
   pub same_first : new.first ≡ old.first
   pub same_buckets : new.buckets ≡ old.buckets
   pub same_handed : new.handed ≡ old.handed
@@ -236,7 +253,8 @@ pub record IsOffered (at : ℕ → ℕ → Option Edge) (old new : Part) (s : St
 
 -- a slot is relaxed: it is passed over, its target takes what the edge gives, or that is offered
 abbrev pub IsSlotRelaxed : Mode → (ℕ → ℕ → Option Edge) → Part → Part → Strength → ℕ → ℕ → Type 0
-IsSlotRelaxed mode at old new s o i = IsPassedOver at old new o i ⊎ IsAccepted (seen old.found.whole) mode at old new s o i old.count ⊎ IsOffered at old new s o i
+IsSlotRelaxed mode at old new s o i = IsPassedOver at old new o i ⊎ IsAccepted (seen old.found.whole) mode at old new s o i old.count
+    ⊎ IsOffered at old new s o i
 
 -- no more objects are noted as handed over than were and this one
 pub record IsNoted (old new : Part) (o : ℕ) : Type 0 where
@@ -286,7 +304,8 @@ pub record IsReachedIn (parts : List Part) (o : ℕ) : Type 0 where
 -- an object was reached, or is reached now
 abbrev pub IsReachedOrNot : (Reached → Reached) → Mode → Part → Part → Strength → ℕ → Slot → ℕ → ℕ → Type 0
 IsReachedOrNot show mode old new s source slot target stamp =
-    ((1 ≤ rank (found_at old target).strength) × (new ≡ old)) ⊎ ((rank (found_at old target).strength ≡ 0) × Reaches show mode old new s source slot target stamp)
+    ((1 ≤ rank (found_at old target).strength) × (new ≡ old))
+    ⊎ ((rank (found_at old target).strength ≡ 0) × Reaches show mode old new s source slot target stamp)
 
 -- one of the parts has an offer of a strength, and this is that part's last stamp
 pub record IsMade (parts : List Part) (s : Strength) (x : Offer) (stamp : ℕ) : Type 0 where
@@ -376,7 +395,12 @@ AreWhole parts = (k : ℕ) (p : Part) → slice_get parts k ≡ Some p → p.fou
 pub record IsHeldBy (old new : List Part) (o root : ℕ) : Type 0 where
   pub index : ℕ
   pub holder : IsHolder old o index
-  pub is : new ≡ set old index (with_found holder.part (record { whole = holder.part.found.whole; list = set holder.part.found.list (o - holder.part.first) (seen holder.part.found.whole (reached_by_root root)) }))
+  pub is : new ≡ set old index
+      (with_found holder.part (record {
+        whole = holder.part.found.whole;
+        list = set holder.part.found.list (o - holder.part.first)
+            (seen holder.part.found.whole (reached_by_root root));
+      }))
 
 -- a part is ready to queue objects: their numbers have 32 bits, and none is queued yet
 pub record IsReady (p : Part) : Type 0 where

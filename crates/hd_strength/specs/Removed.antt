@@ -1,7 +1,8 @@
 -- What the live edits of a log take away: references, by the indexes of their slots or all of a kind, and roots of the
 -- dump and added ones, by their numbers.
 -- Source: this project.
-use Rattle.std.specs.Prelude.{◌≡◌, ℕ, ◌+◌, ◌*◌, ◌<◌, ◌==◌, Bool, true, false, ◌&&◌, ◌||◌, not, if◌then◌else◌, nat_eq, nat_lt, List, length, count_by, Option, Some, slice_get}
+use Rattle.std.specs.Prelude.{◌≡◌, ℕ, ◌+◌, ◌*◌, ◌<◌, ◌==◌, Bool, true, false, ◌&&◌, ◌||◌, not, if◌then◌else◌, nat_eq, nat_lt, List, length, count_by, Option}
+use Rattle.std.specs.Prelude.{Some, slice_get}
 use Rattle.std.specs.List.{list_any}
 use Rattle.hd_terms.specs.declared.Slot.{Slot}
 use Rattle.hd_terms.specs.declared.EdgeKind.{EdgeKind}
@@ -56,7 +57,8 @@ takes_slot x s (edits.ClearAll references) = false
 
 -- each slot has its key as often as some edits take its reference one by one
 abbrev pub AreSlots : Dump → List Edit → List ℕ → Type 0
-AreSlots dump es keys = (o i : ℕ) (s : SlotEntry) → o < length dump.objects → slice_get (object_at dump o).slots i ≡ Some s → slot_count keys o i ≡ count_by (takes_slot (object_at dump o) s) es
+AreSlots dump es keys = (o i : ℕ) (s : SlotEntry) → o < length dump.objects → slice_get (object_at dump o).slots i ≡ Some s
+    → slot_count keys o i ≡ count_by (takes_slot (object_at dump o) s) es
 
 -- each kind of references is counted as often as some edits clear it
 abbrev pub AreKinds : List Edit → Cleared → Type 0
@@ -68,7 +70,8 @@ AreRoots es numbers = (r : ℕ) → multiplicity r numbers ≡ count_by (drops r
 
 -- what is taken away is what the live edits of a log take away, each as often as they do
 pub record IsRemovedBy (dump : Dump) (log : List Event) (t : Removals) : Type 0 where
-  pub slots : (o i : ℕ) (s : SlotEntry) → o < length dump.objects → slice_get (object_at dump o).slots i ≡ Some s → is_removed t o i s.kind ≡ not (is_untouched log (object_at dump o) s)
+  pub slots : (o i : ℕ) (s : SlotEntry) → o < length dump.objects → slice_get (object_at dump o).slots i ≡ Some s
+      → is_removed t o i s.kind ≡ not (is_untouched log (object_at dump o) s)
   pub roots : (r : ℕ) → is_root_removed t r ≡ is_dropped log r
   pub slot_counts : AreSlots dump (live_edits log) t.slots
   pub kind_counts : AreKinds (live_edits log) t.cleared
@@ -77,11 +80,13 @@ pub record IsRemovedBy (dump : Dump) (log : List Event) (t : Removals) : Type 0 
 -- the one slot of a dump that passes a test with its object, if there is one: the object, and the index of the slot
 pub record IsOnlySlot (dump : Dump) (test : Object → SlotEntry → Bool) (p : Option (ℕ × ℕ)) : Type 0 where
   pub passes : (o i : ℕ) (s : SlotEntry) → p ≡ Some (o, i) → slice_get (object_at dump o).slots i ≡ Some s → test (object_at dump o) s ≡ true
-  pub only : (o i : ℕ) (s : SlotEntry) → o < length dump.objects → slice_get (object_at dump o).slots i ≡ Some s → test (object_at dump o) s ≡ true → p ≡ Some (o, i)
+  pub only : (o i : ℕ) (s : SlotEntry) → o < length dump.objects → slice_get (object_at dump o).slots i ≡ Some s → test (object_at dump o) s ≡ true
+      → p ≡ Some (o, i)
 
 -- the key of the one slot from which an edit takes the reference, if there is one
 abbrev pub IsEditedKey : Dump → Edit → Option ℕ → Type 0
-IsEditedKey dump edit key = (o i : ℕ) (s : SlotEntry) → o < length dump.objects → slice_get (object_at dump o).slots i ≡ Some s → takes_slot (object_at dump o) s edit ≡ (nat_lt i 4294967296 && is_number key (slot_key o i))
+IsEditedKey dump edit key = (o i : ℕ) (s : SlotEntry) → o < length dump.objects → slice_get (object_at dump o).slots i ≡ Some s
+    → takes_slot (object_at dump o) s edit ≡ (nat_lt i 4294967296 && is_number key (slot_key o i))
 
 -- the one slot of an object that has a name, if there is one: the object, and the index of the slot
 pub record IsNamedSlot (slots : List SlotEntry) (name : Option Slot) (o : ℕ) (p : Option (ℕ × ℕ)) : Type 0 where

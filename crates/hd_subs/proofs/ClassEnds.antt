@@ -1,6 +1,7 @@
 -- Where the classes among sub-records end.
 use Rattle.std.specs.Prelude.{is_some}
-use Rattle.std.proofs.Common.{◌≡◌, ◌∙◌, ℕ, zero, suc, ◌+◌, ◌-◌, ◌<◌, ◌≤◌, ◌==◌, nat_lt, if◌then◌else◌, arith, get_or, List, [], ◌∷◌, ◌++◌, length, map, take, drop, Option, Some, None, Bool, true, false, refl, sym, ap, All, slice_get, length-append, drop-cons}
+use Rattle.std.proofs.Common.{◌≡◌, ◌∙◌, ℕ, zero, suc, ◌+◌, ◌-◌, ◌<◌, ◌≤◌, ◌==◌, nat_lt, if◌then◌else◌, arith, get_or, List, [], ◌∷◌, ◌++◌, length, map, take}
+use Rattle.std.proofs.Common.{drop, Option, Some, None, Bool, true, false, refl, sym, ap, All, slice_get, length-append, drop-cons}
 use Rattle.std.specs.List.{filter_map, cons_option, slice_index_or}
 use Rattle.std.proofs.lemmas.Bool.{true≢false}
 use Rattle.std.proofs.lemmas.List.{take-append-drop, drop-append-le}
@@ -31,7 +32,8 @@ none-whole : {A : Type 0} (o : Option A) (xs : List A) → o ≡ None → xs ≡
 none-whole o xs front rest = ap (λ p. cons_option p xs) front ∙ rest
 
 -- a row is a class only where there is one to which it leads
-item-none : (n : ℕ) (cs : List ClassDump) (k : Kind) (offset id class count : ℕ) → n ≡ 0 → HasClass n k class → class_of_item (item_of cs k offset id class count) ≡ None
+item-none : (n : ℕ) (cs : List ClassDump) (k : Kind) (offset id class count : ℕ) → n ≡ 0 → HasClass n k class
+    → class_of_item (item_of cs k offset id class count) ≡ None
 item-none n cs (kinds.Root kind) offset id class count none has = refl
 item-none n cs kinds.Class offset id class count none has = absurd (omega (arith, none, has))
 item-none n cs kinds.InstanceOfFour offset id class count none has = refl
@@ -55,7 +57,8 @@ looked-none (s ∷ rows) zero none = (none-parts (class_of_sub s) (filter_map cl
 looked-none (s ∷ rows) (suc i) none = looked-none rows i (none-parts (class_of_sub s) (filter_map class_of_sub rows) none).1
 
 -- nothing that is read again from the bytes is a class
-chosen-none : (a b : Bool) (x y z : Item) → class_of_item x ≡ None → class_of_item y ≡ None → class_of_item z ≡ None → class_of_item (if a then x else if b then y else z) ≡ None
+chosen-none : (a b : Bool) (x y z : Item) → class_of_item x ≡ None → class_of_item y ≡ None → class_of_item z ≡ None
+    → class_of_item (if a then x else if b then y else z) ≡ None
 chosen-none true b x y z first second third = first
 chosen-none false true x y z first second third = second
 chosen-none false false x y z first second third = third
@@ -64,7 +67,8 @@ module _ (size : IdSize) (bytes : List ℕ) where
   -- what is read at an offset
   packed-none : (at : ℕ) → class_of_item (packed_item size bytes at) ≡ None
   packed-none at =
-      chosen-none (get_or bytes at 0 == 0x21) (get_or bytes at 0 == 0x22) (packed_instance size bytes at) (packed_array size bytes at) (packed_primitive_array size bytes at) refl refl refl
+      chosen-none (get_or bytes at 0 == 0x21) (get_or bytes at 0 == 0x22) (packed_instance size bytes at) (packed_array size bytes at)
+      (packed_primitive_array size bytes at) refl refl refl
 
   -- one of two that are none
   chosen-sub-none : (a : Bool) (x y : Sub) → class_of_sub x ≡ None → class_of_sub y ≡ None → class_of_sub (if a then x else y) ≡ None
@@ -72,11 +76,13 @@ module _ (size : IdSize) (bytes : List ℕ) where
   chosen-sub-none false x y first second = second
 
   -- so where no row is a class, no sub-record is one
-  pub entries-none : (rows : List Sub) → filter_map class_of_sub rows ≡ [] → (entries : List ℕ) → filter_map class_of_sub (map (sub_of_entry size bytes rows) entries) ≡ []
+  pub entries-none : (rows : List Sub) → filter_map class_of_sub rows ≡ [] → (entries : List ℕ)
+      → filter_map class_of_sub (map (sub_of_entry size bytes rows) entries) ≡ []
   entries-none rows none [] = refl
   entries-none rows none (e ∷ es) =
       none-whole (class_of_sub (sub_of_entry size bytes rows e)) (filter_map class_of_sub (map (sub_of_entry size bytes rows) es))
-      (chosen-sub-none (nat_lt e first_row) (record { offset = e; item = packed_item size bytes e }) (slice_index_or rows (e - first_row) no_sub) (packed-none e) (looked-none rows (e - first_row) none))
+      (chosen-sub-none (nat_lt e first_row) (record { offset = e; item = packed_item size bytes e }) (slice_index_or rows (e - first_row) no_sub)
+      (packed-none e) (looked-none rows (e - first_row) none))
       (entries-none rows none es)
 
 -- what isn't told as a class is none
@@ -126,7 +132,8 @@ module _ (parts : List (List Sub)) (k : ℕ) where
         ∙ ap (slice_get (joined (drop k parts))) rest
 
 -- the last part in front of those from `left` on, which begin at `start`
-module _ (parts : List (List Sub)) (left start : ℕ) (some : 0 < left) (within : left ≤ length parts) (place : start + length (joined (drop left parts)) ≡ length (joined parts)) (part : List Sub) (is : part ≡ get_or parts (left - 1) part) where
+module _ (parts : List (List Sub)) (left start : ℕ) (some : 0 < left) (within : left ≤ length parts)
+    (place : start + length (joined (drop left parts)) ≡ length (joined parts)) (part : List Sub) (is : part ≡ get_or parts (left - 1) part) where
   part-first : joined (drop (left - 1) parts) ≡ part ++ joined (drop left parts)
   part-first =
       let next : left - 1 + 1 ≡ left = omega arith in
@@ -146,7 +153,8 @@ module _ (parts : List (List Sub)) (left start : ℕ) (some : 0 < left) (within 
 
   module _ (end : ℕ) (fits : end ≤ length part) where
     -- no class behind a place in the part
-    none-behind : filter_map class_of_sub (joined (drop left parts)) ≡ [] → filter_map class_of_sub (drop end part) ≡ [] → filter_map class_of_sub (drop end (joined (drop (left - 1) parts))) ≡ []
+    none-behind : filter_map class_of_sub (joined (drop left parts)) ≡ [] → filter_map class_of_sub (drop end part) ≡ []
+        → filter_map class_of_sub (drop end (joined (drop (left - 1) parts))) ≡ []
     none-behind none here =
         ap (λ (xs : List Sub). filter_map class_of_sub (drop end xs)) part-first
         ∙ ap (filter_map class_of_sub) (drop-append-le end part (joined (drop left parts)) fits)
@@ -155,14 +163,16 @@ module _ (parts : List (List Sub)) (left start : ℕ) (some : 0 < left) (within 
         ∙ none
 
     -- a part without any class
-    pub none-in-part : filter_map class_of_sub (joined (drop left parts)) ≡ [] → filter_map class_of_sub (drop end part) ≡ [] → end ≡ 0 → filter_map class_of_sub (joined (drop (left - 1) parts)) ≡ []
+    pub none-in-part : filter_map class_of_sub (joined (drop left parts)) ≡ [] → filter_map class_of_sub (drop end part) ≡ [] → end ≡ 0
+        → filter_map class_of_sub (joined (drop (left - 1) parts)) ≡ []
     none-in-part none here zero-end = ap (λ (n : ℕ). filter_map class_of_sub (drop n (joined (drop (left - 1) parts)))) (sym zero-end) ∙ none-behind none here
 
     -- where the classes of the part end, those of the dump do
     pub end-within : start - length part + end ≤ length (joined parts)
     end-within = omega (arith, fits, part-place, part-lengths)
 
-    pub none-after : filter_map class_of_sub (joined (drop left parts)) ≡ [] → filter_map class_of_sub (drop end part) ≡ [] → filter_map class_of_sub (drop (start - length part + end) (joined parts)) ≡ []
+    pub none-after : filter_map class_of_sub (joined (drop left parts)) ≡ [] → filter_map class_of_sub (drop end part) ≡ []
+        → filter_map class_of_sub (drop (start - length part + end) (joined parts)) ≡ []
     none-after none here = ap (filter_map class_of_sub) (from-start parts (left - 1) (start - length part) part-place end) ∙ none-behind none here
 
     -- and the class before it is the dump's last too

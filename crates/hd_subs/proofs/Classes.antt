@@ -22,7 +22,8 @@ pub class_at-new : (cs : List ClassDump) (c : ClassDump) → class_at (cs ++ c �
 class_at-new [] c = refl
 class_at-new (x ∷ cs) c = class_at-new cs c
 
-item-kept : (cs : List ClassDump) (c : ClassDump) (k : Kind) (offset id class count : ℕ) → HasClass (length cs) k class → item_of (cs ++ c ∷ []) k offset id class count ≡ item_of cs k offset id class count
+item-kept : (cs : List ClassDump) (c : ClassDump) (k : Kind) (offset id class count : ℕ) → HasClass (length cs) k class
+    → item_of (cs ++ c ∷ []) k offset id class count ≡ item_of cs k offset id class count
 item-kept cs c (kinds.Root kind) offset id class count has = refl
 item-kept cs c kinds.Class offset id class count has = ap (λ (x : ClassItem). subs.Class x) (class_at-kept cs c class has)
 item-kept cs c kinds.InstanceOfFour offset id class count has = refl
@@ -48,4 +49,5 @@ class-push cs c rs r all kind place =
     map-append (row_view (cs ++ c ∷ [])) rs (r ∷ [])
     ∙ ap (λ (ss : List Sub). ss ++ row_view (cs ++ c ∷ []) r ∷ []) (rows-kept cs c rs all)
     ∙ ap (λ (i : Item). map (row_view cs) rs ++ (record { offset = r.offset; item = i }) ∷ [])
-    (ap (λ (k : Kind). item_of (cs ++ c ∷ []) k r.offset r.id r.class r.count) kind ∙ ap (λ (x : ClassItem). subs.Class x) (ap (class_at (cs ++ c ∷ [])) place ∙ class_at-new cs c))
+    (ap (λ (k : Kind). item_of (cs ++ c ∷ []) k r.offset r.id r.class r.count) kind
+    ∙ ap (λ (x : ClassItem). subs.Class x) (ap (class_at (cs ++ c ∷ [])) place ∙ class_at-new cs c))

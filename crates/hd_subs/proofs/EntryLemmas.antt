@@ -23,7 +23,8 @@ module _ (size : IdSize) (bytes : List ℕ) where
         ∙ get_or_append_left rows (x ∷ []) no_sub (entry - first_row) (omega (arith, row.0, row.1))
         ∙ sym (row-is rows entry row.0)
 
-    entries-kept : (entries : List ℕ) → All (IsEntry (length bytes) (length rows)) entries → map (sub_of_entry size bytes (rows ++ x ∷ [])) entries ≡ map (sub_of_entry size bytes rows) entries
+    entries-kept : (entries : List ℕ) → All (IsEntry (length bytes) (length rows)) entries → map (sub_of_entry size bytes (rows ++ x ∷ [])) entries ≡ map
+        (sub_of_entry size bytes rows) entries
     entries-kept [] all = refl
     entries-kept (e ∷ es) all =
         ap (λ (s : Sub). s ∷ map (sub_of_entry size bytes (rows ++ x ∷ [])) es) (entry-kept e (All-head (IsEntry (length bytes) (length rows)) e es all))

@@ -76,7 +76,8 @@ pub begins_head : (size : IdSize) (at : ℕ) (fields : List ℕ) (id super loade
     → loader ≡ big_number (id_len size) (drop (2 * id_len size + 4) fields)
     → signers ≡ big_number (id_len size) (drop (3 * id_len size + 4) fields)
     → domain ≡ big_number (id_len size) (drop (4 * id_len size + 4) fields)
-    → BeginsWith (IsClassHead size) class_head_text (head_item size) at fields (record { id = id; super_id = super; loader = loader; signers = signers; domain = domain })
+    → BeginsWith (IsClassHead size) class_head_text (head_item size) at fields
+    (record { id = id; super_id = super; loader = loader; signers = signers; domain = domain })
     (drop (7 * id_len size + 8) fields) (at + (7 * id_len size + 8))
 unfolding head_in
 begins_head size at fields id super loader signers domain long id_is super_is loader_is signers_is domain_is =

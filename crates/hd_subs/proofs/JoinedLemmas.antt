@@ -24,7 +24,8 @@ module _ (parts : List (List Sub)) (k : ℕ) (d : List Sub) (lt : k < length par
   found-here place here = ap (λ (xs : List Sub). slice_get xs place) more ∙ in-front (get_or parts k d) (joined (drop (k + 1) parts)) place here
 
   -- or of one behind it
-  pub found-behind : (place : ℕ) → length (get_or parts k d) ≤ place → slice_get (joined (drop k parts)) place ≡ slice_get (joined (drop (k + 1) parts)) (place - length (get_or parts k d))
+  pub found-behind : (place : ℕ) → length (get_or parts k d) ≤ place → slice_get (joined (drop k parts)) place ≡ slice_get (joined (drop (k + 1) parts))
+      (place - length (get_or parts k d))
   found-behind place past = ap (λ (xs : List Sub). slice_get xs place) more ∙ behind (get_or parts k d) (joined (drop (k + 1) parts)) place past
 
   pub length-behind : length (joined (drop k parts)) ≡ length (get_or parts k d) + length (joined (drop (k + 1) parts))

@@ -1,5 +1,6 @@
 -- Sub-records that are read again where they lie.
-use Rattle.std.proofs.Common.{Option, Some, None, Result, Ok, Err, IfOk, IfErr, MatchOption, ◌≡◌, ◌∙◌, ℕ, suc, ◌+◌, ◌*◌, ◌<◌, ◌≤◌, true, List, [], ◌∷◌, length, get_or, take, drop, refl, sym, ap, subst, add-zero, arith}
+use Rattle.std.proofs.Common.{Option, Some, None, Result, Ok, Err, IfOk, IfErr, MatchOption, ◌≡◌, ◌∙◌, ℕ, suc, ◌+◌, ◌*◌, ◌<◌, ◌≤◌, true, List, [], ◌∷◌, length}
+use Rattle.std.proofs.Common.{get_or, take, drop, refl, sym, ap, subst, add-zero, arith}
 use Rattle.std.specs.Result.{result_ok}
 use Rattle.std.proofs.lemmas.List.{drop-drop, get_or-take, get_or-drop}
 use Rattle.byteorder.specs.Endian.{big_number}
@@ -20,7 +21,8 @@ pub of-some : {X : Type 0} (o : Option X) (N M : Type 0) (P Q : X → Type 0) �
 of-some None N M P Q h none some = none h
 of-some (Some x) N M P Q h none some = some x h
 
-pub of-ok : {X E : Type 0} (r : Result X E) (P Q : X → Type 0) (F : E → Type 0) (M : Type 0) → IfOk r P → IfErr r F → ((e : E) → F e → M) → ((x : X) → P x → Q x) → MatchOption (result_ok r) M Q
+pub of-ok : {X E : Type 0} (r : Result X E) (P Q : X → Type 0) (F : E → Type 0) (M : Type 0) → IfOk r P → IfErr r F → ((e : E) → F e → M)
+    → ((x : X) → P x → Q x) → MatchOption (result_ok r) M Q
 of-ok (Ok x) P Q F M h f err ok = ok x h
 of-ok (Err e) P Q F M h f err ok = err e f
 
@@ -66,7 +68,8 @@ array-same sizes.Four at id class count id' class' count' a b c = rw (a, b, c) r
 array-same sizes.Eight at id class count id' class' count' a b c = rw (a, b, c) refl
 
 -- what bytes begin with is what is read where they lie
-packed-from : (size : IdSize) (at : ℕ) (text after : List ℕ) (bytes behind : List ℕ) (item : Item) → BeginsWithSub size at text (record { offset = at; item = item }) behind
+packed-from : (size : IdSize) (at : ℕ) (text after : List ℕ) (bytes behind : List ℕ) (item : Item)
+    → BeginsWithSub size at text (record { offset = at; item = item }) behind
     → after ≡ behind → item ≡ packed_item size bytes at → BeginsWithSub size at text (packed_sub size bytes at) after
 packed-from size at text after bytes behind item h after_is item_is =
     subst (λ (xs : List ℕ). BeginsWithSub size at text (packed_sub size bytes at) xs) (sym after_is)
@@ -80,7 +83,8 @@ packed-instance size fields after h bytes at here =
     let count = number-at bytes at 0x21 fields here 4 (2 * n + 4) (at + 5 + n + n) (omega (arith, h.within)) (omega arith) in
     packed-from size at (0x21 ∷ fields) after bytes (drop (instance_len size fields) fields) _
     (begins_instance size at fields (big_number n fields) (big_number n (drop (n + 4) fields)) (values_in n fields) h.within refl refl refl) h.after_is
-    (instance-same size at (big_number n fields) (big_number n (drop (n + 4) fields)) (values_in n fields) _ _ _ id class count ∙ rw (tag-is bytes at 0x21 fields here) refl)
+    (instance-same size at (big_number n fields) (big_number n (drop (n + 4) fields)) (values_in n fields) _ _ _ id class count
+    ∙ rw (tag-is bytes at 0x21 fields here) refl)
 
 pub packed-array : (size : IdSize) (fields after : List ℕ) → IsBehind (array_len size fields) fields after → IsPackedFrom size (0x22 ∷ fields) after
 packed-array size fields after h bytes at here =
@@ -90,9 +94,11 @@ packed-array size fields after h bytes at here =
     let count = number-at bytes at 0x22 fields here 4 (n + 4) (at + 5 + n) (omega (arith, h.within)) (omega arith) in
     packed-from size at (0x22 ∷ fields) after bytes (drop (array_len size fields) fields) _
     (begins_array size at fields (big_number n fields) (big_number n (drop (n + 8) fields)) (count_in n fields) h.within refl refl refl) h.after_is
-    (array-same size at (big_number n fields) (big_number n (drop (n + 8) fields)) (count_in n fields) _ _ _ id class count ∙ rw (tag-is bytes at 0x22 fields here) refl)
+    (array-same size at (big_number n fields) (big_number n (drop (n + 8) fields)) (count_in n fields) _ _ _ id class count
+    ∙ rw (tag-is bytes at 0x22 fields here) refl)
 
-pub packed-primitive-array : (size : IdSize) (fields after : List ℕ) → IsBehind (primitive_array_len size fields) fields after → is_element_type (get_or fields (id_len size + 8) 0) ≡ true
+pub packed-primitive-array : (size : IdSize) (fields after : List ℕ) → IsBehind (primitive_array_len size fields) fields after
+    → is_element_type (get_or fields (id_len size + 8) 0) ≡ true
     → IsPackedFrom size (0x23 ∷ fields) after
 packed-primitive-array size fields after h known bytes at here =
     let n : ℕ = id_len size in

@@ -32,13 +32,15 @@ big_from-same (suc n) i xs ys same = rw (same i, big_from-same n (suc i) xs ys s
 -- zeros past the end change no number
 pub big_number-padded : (n at k : ℕ) (xs : List ℕ) → big_number n (drop at (xs ++ zero_bytes k)) ≡ big_number n (drop at xs)
 big_number-padded n at k xs =
-    big_from-same n 0 (drop at (xs ++ zero_bytes k)) (drop at xs) (λ j. get_or-drop at (xs ++ zero_bytes k) j 0 ∙ get_or-padded xs k (at + j) ∙ sym (get_or-drop at xs j 0))
+    big_from-same n 0 (drop at (xs ++ zero_bytes k)) (drop at xs) (λ j. get_or-drop at (xs ++ zero_bytes k) j 0 ∙ get_or-padded xs k (at + j)
+    ∙ sym (get_or-drop at xs j 0))
 
 -- nor do bytes that are cut off behind it
 pub big_number-take : (n at m : ℕ) (xs : List ℕ) → at + n ≤ m → big_number n (drop at (take m xs)) ≡ big_number n (drop at xs)
 big_number-take n at m xs le =
     let split : m ≡ at + (m - at) = omega arith in
-    ap (λ (k : ℕ). big_number n (drop at (take k xs))) split ∙ ap (λ (ys : List ℕ). big_number n ys) (drop-take at (m - at) xs) ∙ big_from-take 0 n (m - at) (drop at xs) (omega arith)
+    ap (λ (k : ℕ). big_number n (drop at (take k xs))) split ∙ ap (λ (ys : List ℕ). big_number n ys) (drop-take at (m - at) xs)
+    ∙ big_from-take 0 n (m - at) (drop at xs) (omega arith)
 
 -- a part and the next are one
 pub take-more : (m n : ℕ) (xs : List ℕ) → take m xs ++ take n (drop m xs) ≡ take (m + n) xs
@@ -47,7 +49,8 @@ take-more (suc m) n [] = take-nil n ∙ sym (take-nil (suc m + n))
 take-more (suc m) n (x ∷ xs) = let e : suc m + n ≡ suc (m + n) = omega arith in rw e (ap (λ (ys : List ℕ). x ∷ ys) (take-more m n xs))
 
 -- the fields of an instance, where IDs have n bytes
-pub instance_parts : (n : ℕ) (xs : List ℕ) → (((take n xs ++ take 4 (drop n xs)) ++ take n (drop (n + 4) xs)) ++ take 4 (drop (2 * n + 4) xs)) ++ drop (2 * n + 8) xs ≡ xs
+pub instance_parts : (n : ℕ) (xs : List ℕ) → (((take n xs ++ take 4 (drop n xs)) ++ take n (drop (n + 4) xs)) ++ take 4 (drop (2 * n + 4) xs))
+    ++ drop (2 * n + 8) xs ≡ xs
 instance_parts n xs =
     let third : n + 4 + n ≡ 2 * n + 4 = omega arith in
     let fourth : 2 * n + 4 + 4 ≡ 2 * n + 8 = omega arith in
@@ -59,7 +62,8 @@ instance_parts n xs =
     ap (λ (ys : List ℕ). ys ++ drop (2 * n + 8) xs) front ∙ take-append-drop (2 * n + 8) xs
 
 -- the fields of an object array, whose IDs have n bytes
-pub five_parts : (n : ℕ) (xs : List ℕ) → (((take n xs ++ take 4 (drop n xs)) ++ take 4 (drop (n + 4) xs)) ++ take n (drop (n + 8) xs)) ++ drop (2 * n + 8) xs ≡ xs
+pub five_parts : (n : ℕ) (xs : List ℕ) → (((take n xs ++ take 4 (drop n xs)) ++ take 4 (drop (n + 4) xs)) ++ take n (drop (n + 8) xs))
+    ++ drop (2 * n + 8) xs ≡ xs
 five_parts n xs =
     let third : n + 4 + 4 ≡ n + 8 = omega arith in
     let fourth : n + 8 + n ≡ 2 * n + 8 = omega arith in

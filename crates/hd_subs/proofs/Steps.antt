@@ -5,7 +5,8 @@ use Rattle.std.proofs.lemmas.List.{append-nil, length-append, drop_at, drop-take
 use Rattle.std.proofs.lemmas.List.Concat.{flat_map-append}
 use Rattle.hd_terms.specs.declared.IdSize.{IdSize}
 use Rattle.hd_terms.specs.declared.errors.Cause.{Cause}
-use Rattle.hd_terms.specs.SubRecords.{SubRecord, RootOf, ClassDump, InstanceDump, ObjectArray, PrimitiveArray, IsSubRecord, sub_record_text, Sub, item_at, subs_at}
+use Rattle.hd_terms.specs.SubRecords.{SubRecord, RootOf, ClassDump, InstanceDump, ObjectArray, PrimitiveArray, IsSubRecord, sub_record_text, Sub, item_at}
+use Rattle.hd_terms.specs.SubRecords.{subs_at}
 use Rattle.hd_terms.specs.ReadFaults.{fault, IsStuck, IsSegmentFault}
 use Rattle.hd_subs.specs.ParsedSubs.{BeginsWithSub, LiesAt}
 use Rattle.hd_subs.specs.Reading.{Reader, AppendsSub, AppendsSegment, HasGrown}
@@ -30,7 +31,8 @@ place : (size : IdSize) (base : ℕ) (body rest : List ℕ) (old list : List Sub
 place size base body rest old list h =
     omega (arith, ap length h.whole, length-append (flat_map sub_record_text h.front) rest)
 
-all_more : (size : IdSize) (ss : List SubRecord) (s : SubRecord) → AllByRecursion (IsSubRecord size) ss → IsSubRecord size s → AllByRecursion (IsSubRecord size) (ss ++ s ∷ [])
+all_more : (size : IdSize) (ss : List SubRecord) (s : SubRecord) → AllByRecursion (IsSubRecord size) ss → IsSubRecord size s
+    → AllByRecursion (IsSubRecord size) (ss ++ s ∷ [])
 all_more size [] s all is = (is, tt)
 all_more size (x ∷ ss) s all is = (all.0, all_more size ss s all.1 is)
 
@@ -47,16 +49,19 @@ subs_at-push size at (x ∷ ss) s =
     omega (arith, length-append (sub_record_text x) (flat_map sub_record_text ss)) in
     ap (λ (xs : List Sub). sub_at size at x ∷ xs) (subs_at-push size after ss s ∙ ap (λ (k : ℕ). subs_at size after ss ++ sub_at size k s ∷ []) here)
 
-flat_map-push : (ss : List SubRecord) (s : SubRecord) (after : List ℕ) → flat_map sub_record_text (ss ++ s ∷ []) ++ after ≡ flat_map sub_record_text ss ++ (sub_record_text s ++ after)
+flat_map-push : (ss : List SubRecord) (s : SubRecord) (after : List ℕ) → flat_map sub_record_text (ss ++ s ∷ []) ++ after ≡ flat_map sub_record_text ss
+    ++ (sub_record_text s ++ after)
 flat_map-push ss s after =
-    ap (λ (xs : List ℕ). xs ++ after) (flat_map-append sub_record_text ss (s ∷ []) ∙ ap (λ (xs : List ℕ). flat_map sub_record_text ss ++ xs) (append-nil (sub_record_text s)))
+    ap (λ (xs : List ℕ). xs ++ after) (flat_map-append sub_record_text ss (s ∷ []) ∙ ap (λ (xs : List ℕ). flat_map sub_record_text ss ++ xs)
+    (append-nil (sub_record_text s)))
     ∙ append_assoc (flat_map sub_record_text ss) (sub_record_text s) after
 
 -- one sub-record more was read
 pub step : (size : IdSize) (base : ℕ) (body rest text after : List ℕ) (old list : List Sub) (sub : Sub) → IsReadSoFar size base body rest old list → rest ≡ text
     → BeginsWithSub size (base + (length body - length rest)) text sub after → IsReadSoFar size base body after old (list ++ sub ∷ [])
 step size base body rest text after old list sub h is f =
-    let here : sub ≡ sub_at size (base + length (flat_map sub_record_text h.front)) f.s = f.sub_is ∙ ap (λ (k : ℕ). sub_at size k f.s) (place size base body rest old list h) in
+    let here : sub ≡ sub_at size (base + length (flat_map sub_record_text h.front)) f.s = f.sub_is
+    ∙ ap (λ (k : ℕ). sub_at size k f.s) (place size base body rest old list h) in
     record {
       front = h.front ++ f.s ∷ [];
       whole = h.whole ∙ ap (λ (xs : List ℕ). flat_map sub_record_text h.front ++ xs) (is ∙ f.whole) ∙ sym (flat_map-push h.front f.s after);
@@ -92,10 +97,15 @@ is_fault size base body rest old list cause h stuck = record {
 }
 
 -- nothing is left
-pub is_whole : (size : IdSize) (base : ℕ) (body rest : List ℕ) (old list : List Sub) → IsReadSoFar size base body rest old list → rest ≡ [] → AppendsSegment size base body old list
+pub is_whole : (size : IdSize) (base : ℕ) (body rest : List ℕ) (old list : List Sub) → IsReadSoFar size base body rest old list → rest ≡ []
+    → AppendsSegment size base body old list
 is_whole size base body rest old list h none = record {
   subs = h.front;
-  whole = record { whole = h.whole ∙ ap (λ (xs : List ℕ). flat_map sub_record_text h.front ++ xs) none ∙ append-nil (flat_map sub_record_text h.front); each = h.each };
+  whole = record {
+    whole = h.whole ∙ ap (λ (xs : List ℕ). flat_map sub_record_text h.front ++ xs) none ∙ append-nil (flat_map sub_record_text h.front);
+    each =
+        h.each;
+  };
   list_is = h.list_is;
 }
 
@@ -126,11 +136,13 @@ pub read-next : (base : ℕ) (body rest text after : List ℕ) (old now new : Re
 read-next base body rest text after old now new h is a =
     let size : now.size ≡ old.size = ap (λ (r : Reader). r.size) h.same in
     let begins = subst (λ (s : IdSize). BeginsWithSub s (base + (length body - length rest)) text a.sub after) size a.begins in
-    let s : IsReadSoFar old.size base body after old.subs (now.subs ++ a.sub ∷ []) = step old.size base body rest text after old.subs now.subs a.sub h.read is begins in
+    let s : IsReadSoFar old.size base body after old.subs (now.subs ++ a.sub ∷ []) =
+    step old.size base body rest text after old.subs now.subs a.sub h.read is begins in
     let subs : new.subs ≡ now.subs ++ a.sub ∷ [] = ap (λ (r : Reader). r.subs) a.is in
     record {
       read = subst (λ (xs : List Sub). IsReadSoFar old.size base body after old.subs xs) (sym subs) s;
-      same = a.is ∙ ap (λ (r : Reader). let x : Reader = record r { subs = now.subs ++ a.sub ∷ [] } in x) h.same ∙ ap (λ (xs : List Sub). let x : Reader = record old { subs = xs } in x) (sym subs);
+      same = a.is ∙ ap (λ (r : Reader). let x : Reader = record r { subs = now.subs ++ a.sub ∷ [] } in x) h.same
+          ∙ ap (λ (xs : List Sub). let x : Reader = record old { subs = xs } in x) (sym subs);
     }
 
 pub grown : (base : ℕ) (body rest : List ℕ) (old new : Reader) → IsReadByNow base body rest old new → HasGrown old new

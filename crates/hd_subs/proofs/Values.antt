@@ -60,7 +60,8 @@ typed_stop size n rest stops.Short lacks =
 typed_stop size n rest stops.UnknownType other = other
 typed_stop size n rest stops.NoMemory none = tt
 
-pub short_typed : (size : IdSize) (n at : ℕ) (rest : List ℕ) (code bytes : ℕ) (behind : List ℕ) (place : ℕ) → BeginsWithType size n at rest code bytes behind place → length behind < bytes
+pub short_typed : (size : IdSize) (n at : ℕ) (rest : List ℕ) (code bytes : ℕ) (behind : List ℕ) (place : ℕ)
+    → BeginsWithType size n at rest code bytes behind place → length behind < bytes
     → EndsInside (IsClassValue size n) value_text rest
 short_typed size n at rest code bytes behind place t lacks =
     let zeros : List ℕ = zero_bytes (bytes - length behind) in
@@ -72,8 +73,10 @@ short_typed size n at rest code bytes behind place t lacks =
       whole = ap (λ (xs : List ℕ). xs ++ zeros) t.whole ∙ append_assoc t.key (code ∷ behind) zeros;
     }
 
-pub begins_typed : (size : IdSize) (n at : ℕ) (rest : List ℕ) (code bytes : ℕ) (behind : List ℕ) (place : ℕ) → BeginsWithType size n at rest code bytes behind place → bytes ≤ length behind
-    → BeginsWith (IsClassValue size n) value_text (typed_item size n) at rest (record { code = code; value = record { start = place; len = bytes } }) (drop bytes behind) (place + bytes)
+pub begins_typed : (size : IdSize) (n at : ℕ) (rest : List ℕ) (code bytes : ℕ) (behind : List ℕ) (place : ℕ)
+    → BeginsWithType size n at rest code bytes behind place → bytes ≤ length behind
+    → BeginsWith (IsClassValue size n) value_text (typed_item size n) at rest (record { code = code; value = record { start = place; len = bytes } })
+    (drop bytes behind) (place + bytes)
 begins_typed size n at rest code bytes behind place t long =
     let value : List ℕ = take bytes behind in
     let len : length value ≡ bytes = length-take-le bytes behind long in
@@ -81,7 +84,8 @@ begins_typed size n at rest code bytes behind place t long =
     record {
       a = record { key = t.key; code = code; value = value };
       is = record { key = t.long; known = t.known; value = len ∙ t.bytes_is };
-      whole = t.whole ∙ ap (λ (xs : List ℕ). t.key ++ code ∷ xs) (sym (take-append-drop bytes behind)) ∙ sym (append_assoc t.key (code ∷ value) (drop bytes behind));
+      whole = t.whole ∙ ap (λ (xs : List ℕ). t.key ++ code ∷ xs) (sym (take-append-drop bytes behind))
+          ∙ sym (append_assoc t.key (code ∷ value) (drop bytes behind));
       item_is = ap (λ (k : ℕ). let c : ConstantItem = record { code = code; value = record { start = k; len = bytes } } in c) start
           ∙ ap (λ (k : ℕ). let c : ConstantItem = record { code = code; value = record { start = at + n + 1; len = k } } in c) t.bytes_is;
       end_is = omega (arith, t.end_is, t.long, len, length-append t.key (code ∷ value));
@@ -90,24 +94,28 @@ begins_typed size n at rest code bytes behind place t long =
 -- a static has an ID as its key
 pub begins_static : (size : IdSize) (at : ℕ) (rest : List ℕ) (typed : ConstantItem) (after : List ℕ) (end name : ℕ)
     → BeginsWith (IsClassValue size (id_len size)) value_text (typed_item size (id_len size)) at rest typed after end → name ≡ big_number (id_len size) rest
-    → BeginsWith (IsClassValue size (id_len size)) value_text (static_item size) at rest (record { name = name; code = typed.code; value = typed.value }) after end
+    → BeginsWith (IsClassValue size (id_len size)) value_text (static_item size) at rest
+    (record { name = name; code = typed.code; value = typed.value }) after end
 begins_static size at rest typed after end name t name_is =
     let n : ℕ = id_len size in
     let v : ClassValue = t.a in
     let long : n ≤ length v.key = omega (arith, t.is.key) in
-    let key : name ≡ big_number n v.key = name_is ∙ ap (λ (xs : List ℕ). big_number n xs) (t.whole ∙ append_assoc v.key (v.code ∷ v.value) after) ∙ big_from-append n v.key ((v.code ∷ v.value) ++ after) long in
+    let key : name ≡ big_number n v.key = name_is ∙ ap (λ (xs : List ℕ). big_number n xs) (t.whole ∙ append_assoc v.key (v.code ∷ v.value) after)
+    ∙ big_from-append n v.key ((v.code ∷ v.value) ++ after) long in
     record {
       a = v;
       is = t.is;
       whole = t.whole;
       item_is = ap (λ (c : ConstantItem). let s : StaticItem = record { name = name; code = c.code; value = c.value } in s) t.item_is
-          ∙ ap (λ (k : ℕ). let s : StaticItem = record { name = k; code = v.code; value = record { start = at + n + 1; len = value_len size v.code } } in s) key;
+          ∙ ap (λ (k : ℕ). let s : StaticItem = record { name = k; code = v.code; value = record { start = at + n + 1; len = value_len size v.code } } in
+          s) key;
       end_is = t.end_is;
     }
 
 -- ---- fields
 
-pub field_stop : (size : IdSize) (rest : List ℕ) (stop : Stop) → IsTypeStop (id_len size) rest stop → IsItemStop (IsClassField size) field_text (id_len size) rest stop
+pub field_stop : (size : IdSize) (rest : List ℕ) (stop : Stop) → IsTypeStop (id_len size) rest stop
+    → IsItemStop (IsClassField size) field_text (id_len size) rest stop
 field_stop size rest stops.Short lacks =
     let zeros : List ℕ = zero_bytes (id_len size - length rest) in
     record {
@@ -120,8 +128,10 @@ field_stop size rest stops.Short lacks =
 field_stop size rest stops.UnknownType other = other
 field_stop size rest stops.NoMemory none = tt
 
-pub begins_field : (size : IdSize) (at : ℕ) (rest : List ℕ) (code bytes : ℕ) (behind : List ℕ) (place name : ℕ) → BeginsWithType size (id_len size) at rest code bytes behind place
-    → name ≡ big_number (id_len size) rest → BeginsWith (IsClassField size) field_text (field_at size) at rest (record { name = name; code = code }) behind place
+pub begins_field : (size : IdSize) (at : ℕ) (rest : List ℕ) (code bytes : ℕ) (behind : List ℕ) (place name : ℕ)
+    → BeginsWithType size (id_len size) at rest code bytes behind place
+    → name ≡ big_number (id_len size) rest → BeginsWith (IsClassField size) field_text (field_at size) at rest
+    (record { name = name; code = code }) behind place
 begins_field size at rest code bytes behind place name t name_is =
     let n : ℕ = id_len size in
     let long : n ≤ length t.key = omega (arith, t.long) in

@@ -21,12 +21,14 @@ count_at bytes at = big_number 4 (drop at bytes)
 -- the instance whose tag lies at an offset
 abbrev pub packed_instance : IdSize → List ℕ → ℕ → Item
 packed_instance size bytes at =
-    Instance (id_at size bytes (at + 1)) (id_at size bytes (class_offset size at)) (record { start = elements_offset size at; len = count_at bytes (class_offset size at + id_len size) })
+    Instance (id_at size bytes (at + 1)) (id_at size bytes (class_offset size at))
+    (record { start = elements_offset size at; len = count_at bytes (class_offset size at + id_len size) })
 
 -- the object array whose tag lies at an offset
 abbrev pub packed_array : IdSize → List ℕ → ℕ → Item
 packed_array size bytes at =
-    ObjArray (id_at size bytes (at + 1)) (id_at size bytes (array_class_offset size at)) (record { start = elements_offset size at; len = id_len size * count_at bytes (class_offset size at) })
+    ObjArray (id_at size bytes (at + 1)) (id_at size bytes (array_class_offset size at))
+    (record { start = elements_offset size at; len = id_len size * count_at bytes (class_offset size at) })
 
 -- the primitive array whose tag lies at an offset
 abbrev pub packed_primitive_array : IdSize → List ℕ → ℕ → Item

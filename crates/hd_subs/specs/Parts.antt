@@ -4,7 +4,8 @@ use Rattle.byteorder.specs.Endian.{big_number}
 use Rattle.hd_terms.specs.declared.IdSize.{IdSize}
 use Rattle.hd_terms.specs.declared.errors.Cause.TheVariants.{ShortSub, UnknownType}
 use Rattle.hd_terms.specs.Records.{id_len}
-use Rattle.hd_terms.specs.SubRecords.{ClassHead, ClassValue, ClassField, Counted, IsCounted, IsBegun, counted_text, ConstantItem, StaticItem, FieldItem, field_item}
+use Rattle.hd_terms.specs.SubRecords.{ClassHead, ClassValue, ClassField, Counted, IsCounted, IsBegun, counted_text, ConstantItem, StaticItem, FieldItem}
+use Rattle.hd_terms.specs.SubRecords.{field_item}
 use Rattle.hd_terms.specs.Types.{is_type, value_len}
 use Rattle.hd_terms.specs.ReadFaults.{IsStuck}
 use Rattle.hd_subs.specs.declared.class_reading.Head.{Head}
@@ -12,7 +13,8 @@ use Rattle.hd_subs.specs.declared.class_reading.Stop.{Stop}
 use Rattle.hd_subs.specs.declared.class_reading.Stop.TheVariants as stops
 
 -- the bytes at an offset begin with the text of something valid, which holds b; these bytes come after it, and lie at `end`
-pub record BeginsWith {A B : Type 0} (Is : A → Type 0) (text : A → List ℕ) (item : ℕ → A → B) (at : ℕ) (rest : List ℕ) (b : B) (after : List ℕ) (end : ℕ) : Type 0 where
+pub record BeginsWith {A B : Type 0} (Is : A → Type 0) (text : A → List ℕ) (item : ℕ → A → B) (at : ℕ) (rest : List ℕ) (b : B) (after : List ℕ)
+    (end : ℕ) : Type 0 where
   pub a : A
   pub is : Is a
   pub whole : rest ≡ text a ++ after
@@ -99,7 +101,12 @@ abbrev pub typed_item : IdSize → ℕ → ℕ → ClassValue → ConstantItem
 typed_item size n at v = record { code = v.code; value = record { start = at + n + 1; len = value_len size v.code } }
 
 abbrev pub static_item : IdSize → ℕ → ClassValue → StaticItem
-static_item size at v = record { name = big_number (id_len size) v.key; code = v.code; value = record { start = at + id_len size + 1; len = value_len size v.code } }
+static_item size at v = record {
+  name = big_number (id_len size) v.key;
+  code = v.code;
+  value =
+      record { start = at + id_len size + 1; len = value_len size v.code };
+}
 
 -- a field holds no offset
 abbrev pub field_at : IdSize → ℕ → ClassField → FieldItem

@@ -16,9 +16,31 @@ reached_of h = record { strength = h.strength; support = support_by h.how h.high
 
 -- the form in which it is stored. A field that says nothing is 0
 abbrev pub packed_by : Strength → Support → (stamp : ℕ) → Inside
-packed_by strength supports.Nothing stamp = record { stamp_low = stamp % 2 ^ 32; stamp_high = stamp / 2 ^ 32; how = hows.Nothing; strength = strength; low = 0; high = 0 }
-packed_by strength (supports.Root n) stamp = record { stamp_low = stamp % 2 ^ 32; stamp_high = stamp / 2 ^ 32; how = hows.Root; strength = strength; low = n % 2 ^ 32; high = n / 2 ^ 32 }
-packed_by strength (supports.Edge source slot) stamp = record { stamp_low = stamp % 2 ^ 32; stamp_high = stamp / 2 ^ 32; how = edge_from (slot_parts slot).0; strength = strength; low = (slot_parts slot).1; high = source }
+packed_by strength supports.Nothing stamp = record {
+  stamp_low = stamp % 2 ^ 32;
+  stamp_high = stamp / 2 ^ 32;
+  how = hows.Nothing;
+  strength = strength;
+  low = 0;
+  high = 0;
+}
+packed_by strength (supports.Root n) stamp = record {
+  stamp_low = stamp % 2 ^ 32;
+  stamp_high = stamp / 2 ^ 32;
+  how = hows.Root;
+  strength = strength;
+  low =
+      n % 2 ^ 32;
+  high = n / 2 ^ 32;
+}
+packed_by strength (supports.Edge source slot) stamp = record {
+  stamp_low = stamp % 2 ^ 32;
+  stamp_high = stamp / 2 ^ 32;
+  how = edge_from (slot_parts slot).0;
+  strength = strength;
+  low = (slot_parts slot).1;
+  high = source;
+}
 
 abbrev pub packed_of : Reached → Inside
 packed_of k = packed_by k.strength k.support k.stamp

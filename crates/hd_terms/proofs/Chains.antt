@@ -1,5 +1,6 @@
 -- `chain_of` finds the chain of a class, and `never_ends` tells of those that never end.
-use Rattle.std.proofs.Common.{◌≡◌, ◌∙◌, ℕ, zero, suc, ◌+◌, ◌≤◌, ◌==◌, true, false, if◌then◌else◌, ◌⊎◌, inl, inr, List, [], ◌∷◌, ◌++◌, length, Option, Some, None, is_some, subst, sym, ap, refl, eq-eqb, arith}
+use Rattle.std.proofs.Common.{◌≡◌, ◌∙◌, ℕ, zero, suc, ◌+◌, ◌≤◌, ◌==◌, true, false, if◌then◌else◌, ◌⊎◌, inl, inr, List, [], ◌∷◌, ◌++◌, length, Option, Some}
+use Rattle.std.proofs.Common.{None, is_some, subst, sym, ap, refl, eq-eqb, arith}
 use Rattle.std.proofs.lemmas.Bool.{cases_eq, cases_lt, ne_eqb}
 use Rattle.std.proofs.lemmas.List.{length-append}
 use Rattle.hd_terms.specs.SubRecords.{ClassItem}
@@ -72,7 +73,8 @@ module _ (classes : List ClassItem) where
   abbrev IsFull : ℕ → ChainPrefix → Type 0
   IsFull n t = (length t.classes ≡ n) ⊎ (class_at classes t.end ≡ None)
 
-  full_on : (n id : ℕ) (more : Next) (o : Option ClassItem) → class_at classes id ≡ o → ((c : ClassItem) → IsFull n (more c)) → IsFull (suc n) (prefix_on id o more)
+  full_on : (n id : ℕ) (more : Next) (o : Option ClassItem) → class_at classes id ≡ o → ((c : ClassItem) → IsFull n (more c))
+      → IsFull (suc n) (prefix_on id o more)
   full_on n id more None e h = inr e
   full_on n id more (Some c) e h = elim (h c) [ inl long ↦ inl (ap suc long) | inr none ↦ inr none ]
 
@@ -81,7 +83,8 @@ module _ (classes : List ClassItem) where
   prefix_full (suc n) id = full_on n id (λ (c : ClassItem). chain_prefix n classes c.super) (class_at classes id) refl (λ c. prefix_full n c.super)
 
   -- the chain_prefix of a way that ends where no class is and isn't longer is that way
-  prefix_whole : (n : ℕ) (up : List ClassItem) (id end : ℕ) → LeadUp classes id up end → class_at classes end ≡ None → length up ≤ n → chain_prefix n classes id ≡ record { classes = up; end = end }
+  prefix_whole : (n : ℕ) (up : List ClassItem) (id end : ℕ) → LeadUp classes id up end → class_at classes end ≡ None → length up ≤ n
+      → chain_prefix n classes id ≡ record { classes = up; end = end }
   prefix_whole zero [] id end h none le = ap (λ (x : ℕ). let t : ChainPrefix = record { classes = []; end = x } in t) h
   prefix_whole zero (u ∷ us) id end h none le = absurd (omega arith)
   prefix_whole (suc n) [] id end h none le =
@@ -89,7 +92,8 @@ module _ (classes : List ClassItem) where
       ∙ ap (λ (x : ℕ). let t : ChainPrefix = record { classes = []; end = x } in t) h
   prefix_whole (suc n) (u ∷ us) id end h none le =
       ap (λ (o : Option ClassItem). prefix_on id o (λ (c : ClassItem). chain_prefix n classes c.super)) h.0
-      ∙ ap (λ (t : ChainPrefix). let v : ChainPrefix = record { classes = u ∷ t.classes; end = t.end } in v) (prefix_whole n us u.super end h.1 none (omega arith))
+      ∙ ap (λ (t : ChainPrefix). let v : ChainPrefix = record { classes = u ∷ t.classes; end = t.end } in v)
+      (prefix_whole n us u.super end h.1 none (omega arith))
 
   -- the classes of a chain_prefix that ends at ID 0
   abbrev whole_chain : ChainPrefix → Option (List ClassItem)
@@ -99,7 +103,8 @@ module _ (classes : List ClassItem) where
   pub chain_found : (id : ℕ) (chain : List ClassItem) → IsClassChain classes id chain → chain_of classes id ≡ Some chain
   chain_found id chain is =
       let some : (id == 0) ≡ false = ne_eqb id 0 is.some in
-      let same : longest_prefix classes id ≡ record { classes = chain; end = 0 } = prefix_whole (length classes) chain id 0 is.whole refl (no_more chain id 0 is.whole refl) in
+      let same : longest_prefix classes id ≡ record { classes = chain; end = 0 } = prefix_whole (length classes) chain id 0 is.whole refl
+      (no_more chain id 0 is.whole refl) in
       rw some (ap whole_chain same)
 
   -- what is found at ID 0
@@ -152,7 +157,8 @@ module _ (classes : List ClassItem) where
       let t : ChainPrefix = longest_prefix classes id in
       let next = the_some (class_at classes t.end) h in
       let way : List ClassItem = t.classes ++ next.0 ∷ [] in
-      let leads : LeadUp classes id way next.0.super = Lead-append classes t.classes (next.0 ∷ []) id t.end next.0.super (prefix_leads (length classes) id) (next.1, refl) in
+      let leads : LeadUp classes id way next.0.super = Lead-append classes t.classes (next.0 ∷ []) id t.end next.0.super (prefix_leads (length classes) id)
+      (next.1, refl) in
       elim (prefix_full (length classes) id) [
         | inl full ↦
             let long : length way ≡ length t.classes + 1 = length-append t.classes (next.0 ∷ []) in

@@ -40,13 +40,16 @@ contrary false h k = cc
 
 module _ (dump : Dump) (log : List Event) (ks : List Reached) (h : is_settled (standing dump log) ks ≡ true) (o : ℕ) where
   says : is_out ks o ≡ true → IsUnreachable dump log o
-  says out = subst (HasStrength (standing dump log) o) (same_rank (reached_at ks o).strength strengths.Unreachable (eqb-true (rank (reached_at ks o).strength) 0 out)) (strengths_of (standing dump log) ks h o)
+  says out = subst (HasStrength (standing dump log) o)
+      (same_rank (reached_at ks o).strength strengths.Unreachable (eqb-true (rank (reached_at ks o).strength) 0 out)) (strengths_of (standing dump log) ks h o)
 
   said : IsUnreachable dump log o → is_out ks o ≡ true
-  said out = eq-eqb (rank (reached_at ks o).strength) 0 (ap rank (one_strength (standing dump log) o (reached_at ks o).strength strengths.Unreachable (strengths_of (standing dump log) ks h o) out))
+  said out = eq-eqb (rank (reached_at ks o).strength) 0
+      (ap rank (one_strength (standing dump log) o (reached_at ks o).strength strengths.Unreachable (strengths_of (standing dump log) ks h o) out))
 
 -- the test decides what falls
-pub decided : (dump : Dump) (before after : List Event) (ks ls : List Reached) → is_settled (standing dump before) ks ≡ true → is_settled (standing dump after) ls ≡ true
+pub decided : (dump : Dump) (before after : List Event) (ks ls : List Reached) → is_settled (standing dump before) ks ≡ true
+    → is_settled (standing dump after) ls ≡ true
     → Decides dump (Falls dump before after) (falls_by ks ls)
 decided dump before after ks ls h k o within = (
   (λ is. let p = parts (is_out ls o) (is_out ks o) is in (says dump after ls k o p.0, λ was. contrary (is_out ks o) (said dump before ks h o was) p.1)),
@@ -54,6 +57,7 @@ decided dump before after ks ls h k o within = (
 )
 
 -- what passes the tests is counted
-pub fell : (dump : Dump) (before after : List Event) (ks ls : List Reached) → is_settled (standing dump before) ks ≡ true → is_settled (standing dump after) ls ≡ true
+pub fell : (dump : Dump) (before after : List Event) (ks ls : List Reached) → is_settled (standing dump before) ks ≡ true
+    → is_settled (standing dump after) ls ≡ true
     → FellCount dump before after (count_by (falls_by ks ls) (range_with_len 0 (length dump.objects)))
 fell dump before after ks ls h k = record { falls = falls_by ks ls; decides = decided dump before after ks ls h k; count = refl }

@@ -1,5 +1,6 @@
 -- A test that computes whether a log is lawful, for examples.
-use Rattle.std.proofs.Common.{◌≡◌, ◌∙◌, ℕ, zero, suc, ◌+◌, ◌<◌, ◌==◌, Bool, true, false, ◌&&◌, not, nat_lt, nat_le, List, [], ◌∷◌, length, slice_get, Option, Some, None, subst, sym, ap, refl, eq-eqb, arith}
+use Rattle.std.proofs.Common.{◌≡◌, ◌∙◌, ℕ, zero, suc, ◌+◌, ◌<◌, ◌==◌, Bool, true, false, ◌&&◌, not, nat_lt, nat_le, List, [], ◌∷◌, length, slice_get, Option}
+use Rattle.std.proofs.Common.{Some, None, subst, sym, ap, refl, eq-eqb, arith}
 use Rattle.std.proofs.lemmas.Bool.{and_parts, eqb-true, leb-true, ltb-true}
 use Rattle.hd_terms.specs.declared.Edit.{Edit}
 use Rattle.hd_terms.specs.declared.Event.{Event}
@@ -71,7 +72,8 @@ is_lawful_at-true log i who k h =
     let own = is_do_by-true who (slice_get log k) b.0 in
     record { earlier = ltb-true k i a.0; edit = own.0; own = own.1; first = none_before-true log i k b.1 }
 
-are_lawful-true : (log : List Event) (n : ℕ) (es : List Event) → are_lawful log n es ≡ true → (i k who : ℕ) → slice_get es i ≡ Some (event who (whats.Undo k)) → IsLawfulUndo log (n + i) k who
+are_lawful-true : (log : List Event) (n : ℕ) (es : List Event) → are_lawful log n es ≡ true → (i k who : ℕ) → slice_get es i ≡ Some (event who (whats.Undo k))
+    → IsLawfulUndo log (n + i) k who
 are_lawful-true log n [] h i k who is = absurd cc
 are_lawful-true log n (e ∷ es) h zero k who is =
     let parts = and_parts (is_lawful_at log n e.who e.what) (are_lawful log (n + 1) es) h in

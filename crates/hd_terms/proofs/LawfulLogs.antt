@@ -1,5 +1,6 @@
 -- A lawful log takes exactly the events that leave it lawful.
-use Rattle.std.proofs.Common.{◌≡◌, ◌∙◌, ℕ, zero, suc, ◌<◌, ◌≤◌, ◌==◌, ◌⊎◌, inl, inr, Bool, true, false, ◌||◌, not, cond, nat_le, List, [], ◌∷◌, ◌++◌, length, length-append, slice_get, Option, Some, None, subst, sym, ap, refl, arith}
+use Rattle.std.proofs.Common.{◌≡◌, ◌∙◌, ℕ, zero, suc, ◌<◌, ◌≤◌, ◌==◌, ◌⊎◌, inl, inr, Bool, true, false, ◌||◌, not, cond, nat_le, List, [], ◌∷◌, ◌++◌, length}
+use Rattle.std.proofs.Common.{length-append, slice_get, Option, Some, None, subst, sym, ap, refl, arith}
 use Rattle.std.specs.Option.{option_or}
 use Rattle.std.specs.List.{list_any}
 use Rattle.std.proofs.lemmas.Bool.{eqb-true, leb-true, leb-false, or_cases, eq-eqb, cases_lt}
@@ -40,13 +41,15 @@ fault-true true f g h = refl
 fault-true false f g h = absurd cc
 
 -- the event is the analyst's own and live where there is no fault
-own-parts : (own live : Bool) → cond {A = Option LogFault} own (cond live None (Some faults.NotLive)) (Some faults.NotYours) ≡ None → (own ≡ true) × (live ≡ true)
+own-parts : (own live : Bool) → cond {A = Option LogFault} own (cond live None (Some faults.NotLive)) (Some faults.NotYours) ≡ None → (own ≡ true)
+    × (live ≡ true)
 own-parts true true h = (refl, refl)
 own-parts true false h = absurd cc
 own-parts false live h = absurd cc
 
 -- one's own event that gives a fault isn't live
-live-part : (own live : Bool) (f : LogFault) → own ≡ true → cond {A = Option LogFault} own (cond live None (Some faults.NotLive)) (Some faults.NotYours) ≡ Some f → live ≡ false
+live-part : (own live : Bool) (f : LogFault) → own ≡ true → cond {A = Option LogFault} own (cond live None (Some faults.NotLive))
+    (Some faults.NotYours) ≡ Some f → live ≡ false
 live-part true true f e h = absurd cc
 live-part true false f e h = refl
 live-part false live f e h = absurd cc
@@ -81,22 +84,26 @@ undoes-it : (k : ℕ) → undoes_what k (whats.Undo k) ≡ true
 undoes-it k = eq-eqb k k refl
 
 -- some event of a log takes back event k
-pub taken_back : (log : List Event) (k : ℕ) → list_any (λ (e : Event). undoes_what k e.what) log ≡ true → (j : ℕ) × (w : ℕ) × (j < length log) × IsEvent log j (event_by w (whats.Undo k))
+pub taken_back : (log : List Event) (k : ℕ) → list_any (λ (e : Event). undoes_what k e.what) log ≡ true → (j : ℕ) × (w : ℕ) × (j < length log)
+    × IsEvent log j (event_by w (whats.Undo k))
 taken_back [] k h = absurd cc
 taken_back (x ∷ log) k h = elim (or_cases (undoes_what k x.what) (list_any (λ (e : Event). undoes_what k e.what) log) h) [
   | inl here ↦ (0, x.who, omega arith, ap (λ (what : What). Some (event_by x.who what)) (undo-of k x.what here))
-  | inr later ↦ let r : (j : ℕ) × (w : ℕ) × (j < length log) × IsEvent log j (event_by w (whats.Undo k)) = taken_back log k later in (suc r.0, r.1, omega (arith, r.2), r.3)
+  | inr later ↦ let r : (j : ℕ) × (w : ℕ) × (j < length log) × IsEvent log j (event_by w (whats.Undo k)) = taken_back log k later in
+      (suc r.0, r.1, omega (arith, r.2), r.3)
 ]
 
 -- an event that takes back event k is one of the log
-pub none_takes_back : (log : List Event) (k j w : ℕ) → list_any (λ (e : Event). undoes_what k e.what) log ≡ false → IsEvent log j (event_by w (whats.Undo k)) → ⊥
+pub none_takes_back : (log : List Event) (k j w : ℕ) → list_any (λ (e : Event). undoes_what k e.what) log ≡ false → IsEvent log j (event_by w (whats.Undo k))
+    → ⊥
 none_takes_back [] k j w h is = cc
 none_takes_back (x ∷ log) k zero w h is =
     let same : x ≡ event_by w (whats.Undo k) = cc in
     let takes : undoes_what k x.what ≡ true = ap (λ (e : Event). undoes_what k e.what) same ∙ undoes-it k in
     let both : true ≡ false = ap (λ (b : Bool). b || list_any (λ (e : Event). undoes_what k e.what) log) (sym takes) ∙ h in
     cc
-none_takes_back (x ∷ log) k (suc j) w h is = none_takes_back log k j w (or_false_right (undoes_what k x.what) (list_any (λ (e : Event). undoes_what k e.what) log) h) is
+none_takes_back (x ∷ log) k (suc j) w h is =
+    none_takes_back log k j w (or_false_right (undoes_what k x.what) (list_any (λ (e : Event). undoes_what k e.what) log) h) is
 
 -- a log that takes one more has room
 room : (log : List Event) → full_fault log ≡ None → length log < largest_log
@@ -112,7 +119,8 @@ pub record IsOwnLive (log : List Event) (k who : ℕ) : Type 0 where
   pub own : IsEvent log k (event_by who (whats.Do edit))
   pub untouched : list_any (λ (e : Event). undoes_what k e.what) log ≡ false
 
-own_live_of : (log : List Event) (k who owner : ℕ) (what : What) → slice_get log k ≡ Some (event_by owner what) → undo_fault_of log k who owner what ≡ None → IsOwnLive log k who
+own_live_of : (log : List Event) (k who owner : ℕ) (what : What) → slice_get log k ≡ Some (event_by owner what) → undo_fault_of log k who owner what ≡ None
+    → IsOwnLive log k who
 own_live_of log k who owner (whats.Undo j) is h = absurd cc
 own_live_of log k who owner (whats.Do edit) is h =
     let parts = own-parts (owner == who) (stays log k) h in
@@ -178,12 +186,15 @@ takes log event h none =
     }
 
 -- why an analyst may not take back event k: it is no `Do` of theirs, or it is taken back already
-refused_undo : (log : List Event) (k who owner : ℕ) (what : What) (f : LogFault) (edit : Edit) → undo_fault_of log k who owner what ≡ Some f → event_by owner what ≡ event_by who (whats.Do edit) → list_any (λ (e : Event). undoes_what k e.what) log ≡ true
+refused_undo : (log : List Event) (k who owner : ℕ) (what : What) (f : LogFault) (edit : Edit) → undo_fault_of log k who owner what ≡ Some f
+    → event_by owner what ≡ event_by who (whats.Do edit) → list_any (λ (e : Event). undoes_what k e.what) log ≡ true
 refused_undo log k who owner (whats.Undo j) f edit h same = let no : whats.Undo j ≡ whats.Do edit = ap (λ (e : Event). e.what) same in absurd cc
 refused_undo log k who owner (whats.Do done) f edit h same =
-    not-false (list_any (λ (e : Event). undoes_what k e.what) log) (live-part (owner == who) (stays log k) f (eq-eqb owner who (ap (λ (e : Event). e.who) same)) h)
+    not-false (list_any (λ (e : Event). undoes_what k e.what) log)
+    (live-part (owner == who) (stays log k) f (eq-eqb owner who (ap (λ (e : Event). e.who) same)) h)
 
-refused_undo_at : (log : List Event) (k who : ℕ) (at : Option Event) (f : LogFault) (edit : Edit) → undo_fault log k who at ≡ Some f → at ≡ Some (event_by who (whats.Do edit)) → list_any (λ (e : Event). undoes_what k e.what) log ≡ true
+refused_undo_at : (log : List Event) (k who : ℕ) (at : Option Event) (f : LogFault) (edit : Edit) → undo_fault log k who at ≡ Some f
+    → at ≡ Some (event_by who (whats.Do edit)) → list_any (λ (e : Event). undoes_what k e.what) log ≡ true
 refused_undo_at log k who None f edit h same = absurd cc
 refused_undo_at log k who (Some e) f edit h same = let is : e ≡ event_by who (whats.Do edit) = cc in refused_undo log k who e.who e.what f edit h is
 
@@ -198,7 +209,8 @@ refuses_by log who (whats.Undo k) f h law = elim (or_some (undo_fault log k who 
       let e : Event = event_by who (whats.Undo k) in
       let u : IsLawfulUndo (log ++ e ∷ []) (length log) k who = law.undos (length log) k who (get-last log e) in
       let own : slice_get log k ≡ Some (event_by who (whats.Do u.edit)) = sym (get-before log e k u.earlier) ∙ u.own in
-      let taken : (j : ℕ) × (w : ℕ) × (j < length log) × IsEvent log j (event_by w (whats.Undo k)) = taken_back log k (refused_undo_at log k who (slice_get log k) f u.edit undo own) in
+      let taken : (j : ℕ) × (w : ℕ) × (j < length log) × IsEvent log j (event_by w (whats.Undo k)) =
+      taken_back log k (refused_undo_at log k who (slice_get log k) f u.edit undo own) in
       u.first taken.0 taken.1 taken.2 (get-before log e taken.0 taken.2 ∙ taken.3)
   | inr more ↦ omega (arith, full log f more, one_more log (event_by who (whats.Undo k)) law)
 ]

@@ -14,6 +14,7 @@ module _ (dump : Dump) (IsMeant : ℕ → Type 0) (o : ℕ) (within : o < length
     ascending = λ k more. absurd (omega (arith, more));
     meant = λ x. (
       (λ (c : Contains (id ∷ []) x). (o, within, meant, All-contains (λ y. id ≡ y) (id ∷ []) x (All-cons (λ y. id ≡ y) id [] refl (All-nil (λ y. id ≡ y))) c)),
-      (λ (i : IsIdOf dump IsMeant x). subst (Contains (id ∷ [])) (ap (λ (p : ℕ). (object_at dump p).id) (sym (others i.0 i.1 i.2)) ∙ i.3) (Contains-push [] id)),
+      (λ (i : IsIdOf dump IsMeant x). subst (Contains (id ∷ [])) (ap (λ (p : ℕ). (object_at dump p).id) (sym (others i.0 i.1 i.2)) ∙ i.3)
+          (Contains-push [] id)),
     );
   }

@@ -30,7 +30,8 @@ PassOn-push mode e (f ∷ f' ∷ es) h = (
 
 path_strength-push : (e : Edge) (es : List Edge) → path_strength (es ++ e ∷ []) ≡ weaker_of (path_strength es) (given_by e.kind)
 path_strength-push e [] = weaker_comm (given_by e.kind) strengths.Strong
-path_strength-push e (f ∷ es) = ap (weaker_of (given_by f.kind)) (path_strength-push e es) ∙ sym (weaker_assoc (given_by f.kind) (path_strength es) (given_by e.kind))
+path_strength-push e (f ∷ es) = ap (weaker_of (given_by f.kind)) (path_strength-push e es)
+    ∙ sym (weaker_assoc (given_by f.kind) (path_strength es) (given_by e.kind))
 
 pub Contains-later : (x o : ℕ) (xs : List ℕ) → Contains xs o → Contains (x ∷ xs) o
 Contains-later x o xs (k, lt, is) = (suc k, omega arith, is)
@@ -65,7 +66,8 @@ not_before_itself a (inr h) = omega arith
 abbrev pub AreSupports : List Reached → List Edge → Type 0
 AreSupports ks es = AllByRecursion (λ e. (reached_at ks e.target).support ≡ supports.Edge e.source e.slot) es
 
-AreSupports-push : (ks : List Reached) (e : Edge) (es : List Edge) → AreSupports ks es → (reached_at ks e.target).support ≡ supports.Edge e.source e.slot → AreSupports ks (es ++ e ∷ [])
+AreSupports-push : (ks : List Reached) (e : Edge) (es : List Edge) → AreSupports ks es → (reached_at ks e.target).support ≡ supports.Edge e.source e.slot
+    → AreSupports ks (es ++ e ∷ [])
 AreSupports-push ks e [] h is = (is, tt)
 AreSupports-push ks e (f ∷ es) h is = (h.0, AreSupports-push ks e es h.1 is)
 
@@ -90,13 +92,15 @@ module _ (g : Standing) (ks : List Reached) where
         | inr earlier ↦ not_before_itself (reached_at ks o) (before_trans (reached_at ks o) (reached_at ks b) (reached_at ks o) earlier s.earlier)
       ] in
       let objects : objects_on f.root (f.edges ++ e ∷ []) ≡ objects_on f.root f.edges ++ o ∷ [] =
-      ap (λ (xs : List ℕ). f.root.target ∷ xs) (map-append (λ (e : Edge). e.target) f.edges (e ∷ []) ∙ ap (λ (x : ℕ). map (λ (e : Edge). e.target) f.edges ++ x ∷ []) s.to_object) in
+      ap (λ (xs : List ℕ). f.root.target ∷ xs) (map-append (λ (e : Edge). e.target) f.edges (e ∷ [])
+      ∙ ap (λ (x : ℕ). map (λ (e : Edge). e.target) f.edges ++ x ∷ []) s.to_object) in
       record {
         root = f.root;
         edges = f.edges ++ e ∷ [];
         path = record {
           root = f.path.root;
-          edges = subst (λ (x : ℕ). Lead g f.root.target (f.edges ++ e ∷ []) x) s.to_object (Lead-push g e f.edges f.root.target b f.path.edges s.stands s.from_source);
+          edges = subst (λ (x : ℕ). Lead g f.root.target (f.edges ++ e ∷ []) x) s.to_object
+              (Lead-push g e f.edges f.root.target b f.path.edges s.stands s.from_source);
           passed_on = PassOn-push g.mode e f.edges (rw f.strength s.passes_on);
         };
         strength = path_strength-push e f.edges ∙ ap (λ (x : Strength). weaker_of x (given_by e.kind)) f.strength ∙ sym s.strength;
@@ -114,7 +118,8 @@ module _ (g : Standing) (ks : List Reached) where
       }
 
   -- a root alone
-  at_root : (o n : ℕ) → Contains g.roots (record { number = n; target = o }) → (reached_at ks o).strength ≡ strengths.Strong → (reached_at ks o).support ≡ supports.Root n → Found g ks o
+  at_root : (o n : ℕ) → Contains g.roots (record { number = n; target = o }) → (reached_at ks o).strength ≡ strengths.Strong
+      → (reached_at ks o).support ≡ supports.Root n → Found g ks o
   at_root o n stands strong is = record {
     root = record { number = n; target = o };
     edges = [];
@@ -135,13 +140,15 @@ stamp_at ks o = (reached_at ks o).stamp
 
 module _ (g : Standing) (ks : List Reached) (settled : Settled g ks) where
   -- where each object that comes before o and passes on has a chain, o has one
-  one_more : (o : ℕ) (s : Support) → (reached_at ks o).support ≡ s → IsSupported g ks o s → 1 ≤ rank_at ks o → ((b : ℕ) → IsBefore (reached_at ks b) (reached_at ks o) → PassesOn g.mode (reached_at ks b) → Found g ks b) → Found g ks o
+  one_more : (o : ℕ) (s : Support) → (reached_at ks o).support ≡ s → IsSupported g ks o s → 1 ≤ rank_at ks o
+      → ((b : ℕ) → IsBefore (reached_at ks b) (reached_at ks o) → PassesOn g.mode (reached_at ks b) → Found g ks b) → Found g ks o
   one_more o supports.Nothing is h reached earlier = let none : rank_at ks o ≡ 0 = ap rank h in absurd (omega arith)
   one_more o (supports.Root n) is h reached earlier = at_root g ks o n h.0 h.1 is
   one_more o (supports.Edge source slot) is (e, h) reached earlier = extend g ks source o slot e (earlier source h.earlier h.passes_on) is h
 
   -- by the stamps, where the objects of higher rank have chains
-  by_stamp : (d : ℕ) → ((o : ℕ) → 5 < rank_at ks o + d → 1 ≤ rank_at ks o → Found g ks o) → (t : ℕ) (o : ℕ) → 5 < rank_at ks o + suc d → stamp_at ks o < t → 1 ≤ rank_at ks o → Found g ks o
+  by_stamp : (d : ℕ) → ((o : ℕ) → 5 < rank_at ks o + d → 1 ≤ rank_at ks o → Found g ks o) → (t : ℕ) (o : ℕ) → 5 < rank_at ks o + suc d → stamp_at ks o < t
+      → 1 ≤ rank_at ks o → Found g ks o
   by_stamp d higher zero o near lt reached = absurd (omega arith)
   by_stamp d higher (suc t) o near lt reached =
       one_more o (reached_at ks o).support refl (settled.supported o) reached (λ b earlier passes.
@@ -156,7 +163,9 @@ module _ (g : Standing) (ks : List Reached) (settled : Settled g ks) where
   by_rank (suc d) o near reached = by_stamp d (by_rank d) (suc (stamp_at ks o)) o near (omega arith) reached
 
   -- each object that is reached has a chain
-  pub found : (o : ℕ) → (reached_at ks o).strength ≢ strengths.Unreachable → (r : RootEntry) × (es : List Edge) × IsChain g r es o (reached_at ks o).strength × IsStoredChain g ks r es o
+  pub found : (o : ℕ) → (reached_at ks o).strength ≢ strengths.Unreachable → (r : RootEntry) × (es : List Edge) × IsChain g r es o (reached_at ks o).strength
+      × IsStoredChain g ks r es o
   found o reached =
-      let f : Found g ks o = by_rank 6 o (let low : 1 ≤ rank_at ks o = reached_rank (reached_at ks o).strength reached in omega arith) (reached_rank (reached_at ks o).strength reached) in
+      let f : Found g ks o = by_rank 6 o (let low : 1 ≤ rank_at ks o = reached_rank (reached_at ks o).strength reached in omega arith)
+      (reached_rank (reached_at ks o).strength reached) in
       (f.root, f.edges, record { path = f.path; strength = f.strength; simple = f.simple }, record { root = f.by_root; edges = f.stored; leads = f.path.edges })

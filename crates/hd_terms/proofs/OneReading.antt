@@ -1,5 +1,6 @@
 -- A file has one reading: one list of records, one list of sub-records of each segment, one dump.
-use Rattle.std.proofs.Common.{◌≡◌, ◌∙◌, ℕ, ◌*◌, Bool, true, false, ◌==◌, ◌||◌, if◌then◌else◌, List, [], ◌∷◌, ◌++◌, length, subst, sym, ap, refl, append_assoc, arith}
+use Rattle.std.proofs.Common.{◌≡◌, ◌∙◌, ℕ, ◌*◌, Bool, true, false, ◌==◌, ◌||◌, if◌then◌else◌, List, [], ◌∷◌, ◌++◌, length, subst, sym, ap, refl, append_assoc}
+use Rattle.std.proofs.Common.{arith}
 use Rattle.std.specs.List.{concat, filter, AllByRecursion, AllZip}
 use Rattle.byteorder.specs.Endian.{big_number}
 use Rattle.hd_terms.specs.declared.Mode.{Mode}
@@ -8,7 +9,8 @@ use Rattle.hd_terms.specs.declared.IdSize.TheVariants as sizes
 use Rattle.hd_terms.specs.Records.{id_len, Record, IsFramed, IsRecord, record_text, HasHeader, AreRecords, is_segment}
 use Rattle.hd_terms.specs.declared.RootKind.{RootKind}
 use Rattle.hd_terms.specs.declared.RootKind.TheVariants as roots
-use Rattle.hd_terms.specs.SubRecords.{SubRecord, RootOf, ClassDump, InstanceDump, ObjectArray, PrimitiveArray, root_tag, root_more, sub_record_text, AreElements, IsSubRecord, AreSubRecords, AreDumpSubRecords}
+use Rattle.hd_terms.specs.SubRecords.{SubRecord, RootOf, ClassDump, InstanceDump, ObjectArray, PrimitiveArray, root_tag, root_more, sub_record_text}
+use Rattle.hd_terms.specs.SubRecords.{AreElements, IsSubRecord, AreSubRecords, AreDumpSubRecords}
 use Rattle.hd_terms.specs.Types.{element_len}
 use Rattle.hd_terms.specs.Objects.{dump_of, IsDumpOf}
 use Rattle.hd_terms.specs.Dump.{Dump}
@@ -32,14 +34,16 @@ pub framed_apart : (r s : Record) (x y : List ℕ) → record_text r ++ x ≡ re
 framed_apart r s x y e ir is =
     let tag : r.tag ≡ s.tag = cc in
     let rest : (r.time ++ r.size ++ r.body) ++ x ≡ (s.time ++ s.size ++ s.body) ++ y = cc in
-    let grouped : r.time ++ (r.size ++ (r.body ++ x)) ≡ s.time ++ (s.size ++ (s.body ++ y)) = sym (three r.time r.size r.body x) ∙ rest ∙ three s.time s.size s.body y in
+    let grouped : r.time ++ (r.size ++ (r.body ++ x)) ≡ s.time ++ (s.size ++ (s.body ++ y)) = sym (three r.time r.size r.body x) ∙ rest
+    ∙ three s.time s.size s.body y in
     let time = same_front r.time s.time (r.size ++ (r.body ++ x)) (s.size ++ (s.body ++ y)) (ir.time ∙ sym is.time) grouped in
     let size = same_front r.size s.size (r.body ++ x) (s.body ++ y) (ir.size ∙ sym is.size) time.1 in
     let body = same_front r.body s.body x y (ir.body ∙ ap (big_number 4) size.0 ∙ sym is.body) size.1 in
     (same_record r s tag time.0 size.0 body.0, body.1)
 
 -- nor does the text of one that can be read
-pub records_apart : (size : IdSize) (r s : Record) (x y : List ℕ) → record_text r ++ x ≡ record_text s ++ y → IsRecord size r → IsRecord size s → (r ≡ s) × (x ≡ y)
+pub records_apart : (size : IdSize) (r s : Record) (x y : List ℕ) → record_text r ++ x ≡ record_text s ++ y → IsRecord size r → IsRecord size s → (r ≡ s)
+    × (x ≡ y)
 records_apart size r s x y e ir is = framed_apart r s x y e ir.framed is.framed
 
 -- no record has an empty text
@@ -47,7 +51,8 @@ pub no_record : (size : IdSize) → IsEnd Record record_text (IsRecord size) (re
 no_record size r z ir e = cc
 
 -- the elements of two arrays of one length are one
-same_elements : (n : ℕ) (es fs : List (List ℕ)) (x y : List ℕ) → length es ≡ length fs → AllByRecursion (λ (e : List ℕ). length e ≡ n) es → AllByRecursion (λ (e : List ℕ). length e ≡ n) fs → concat es ++ x ≡ concat fs ++ y → (es ≡ fs) × (x ≡ y)
+same_elements : (n : ℕ) (es fs : List (List ℕ)) (x y : List ℕ) → length es ≡ length fs → AllByRecursion (λ (e : List ℕ). length e ≡ n) es
+    → AllByRecursion (λ (e : List ℕ). length e ≡ n) fs → concat es ++ x ≡ concat fs ++ y → (es ≡ fs) × (x ≡ y)
 same_elements n [] [] x y many he hf same = (refl, same)
 same_elements n [] (f ∷ fs) x y many he hf same = absurd (omega arith)
 same_elements n (e ∷ es) [] x y many he hf same = absurd (omega arith)
@@ -123,8 +128,10 @@ same_root : (kind kind' : RootKind) (id id' more more' : List ℕ) → kind ≡ 
 same_root kind kind' id id' more more' a b c = cc
 
 -- ROOTs
-roots_apart : (size : IdSize) (kind kind' : RootKind) (id id' more more' x y : List ℕ) → root_tag kind ≡ root_tag kind' → (id ++ more) ++ x ≡ (id' ++ more') ++ y
-    → length id ≡ length id' → length more ≡ root_more size kind → length more' ≡ root_more size kind' → (RootOf kind id more ≡ RootOf kind' id' more') × (x ≡ y)
+roots_apart : (size : IdSize) (kind kind' : RootKind) (id id' more more' x y : List ℕ) → root_tag kind ≡ root_tag kind' → (id ++ more) ++ x ≡ (id' ++ more')
+    ++ y
+    → length id ≡ length id' → length more ≡ root_more size kind → length more' ≡ root_more size kind' → (RootOf kind id more ≡ RootOf kind' id' more')
+    × (x ≡ y)
 roots_apart size kind kind' id id' more more' x y tag e li lm lm' =
     let kinds : kind ≡ kind' = same_kind kind kind' tag in
     let a = same_front id id' (more ++ x) (more' ++ y) li (sym (append_assoc id more x) ∙ e ∙ append_assoc id' more' y) in
@@ -132,11 +139,15 @@ roots_apart size kind kind' id id' more more' x y tag e li lm lm' =
     (same_root kind kind' id id' more more' kinds a.0 b.0, b.1)
 
 -- INSTANCE DUMPs of the same fields are one
-same_instance : (id id' serial serial' class class' count count' values values' : List ℕ) → id ≡ id' → serial ≡ serial' → class ≡ class' → count ≡ count' → values ≡ values' → InstanceDump id serial class count values ≡ InstanceDump id' serial' class' count' values'
+same_instance : (id id' serial serial' class class' count count' values values' : List ℕ) → id ≡ id' → serial ≡ serial' → class ≡ class' → count ≡ count'
+    → values ≡ values' → InstanceDump id serial class count values ≡ InstanceDump id' serial' class' count' values'
 same_instance id id' serial serial' class class' count count' values values' a b c d e = cc
 
 -- INSTANCE DUMPs
-instances_apart : (id id' serial serial' class class' count count' values values' x y : List ℕ) → (id ++ serial ++ class ++ count ++ values) ++ x ≡ (id' ++ serial' ++ class' ++ count' ++ values') ++ y → length id ≡ length id' → length serial ≡ length serial' → length class ≡ length class' → length count ≡ length count' → length values ≡ big_number 4 count → length values' ≡ big_number 4 count' → (InstanceDump id serial class count values ≡ InstanceDump id' serial' class' count' values') × (x ≡ y)
+instances_apart : (id id' serial serial' class class' count count' values values' x y : List ℕ) → (id ++ serial ++ class ++ count ++ values)
+    ++ x ≡ (id' ++ serial' ++ class' ++ count' ++ values') ++ y → length id ≡ length id' → length serial ≡ length serial' → length class ≡ length class'
+    → length count ≡ length count' → length values ≡ big_number 4 count → length values' ≡ big_number 4 count'
+    → (InstanceDump id serial class count values ≡ InstanceDump id' serial' class' count' values') × (x ≡ y)
 instances_apart id id' serial serial' class class' count count' values values' x y e li ls lk lc lv lv' =
     let a = same_front id id' (serial ++ (class ++ (count ++ (values ++ x)))) (serial' ++ (class' ++ (count' ++ (values' ++ y)))) li
     (sym (five id serial class count values x) ∙ e ∙ five id' serial' class' count' values' y) in
@@ -147,11 +158,15 @@ instances_apart id id' serial serial' class class' count count' values values' x
     (same_instance id id' serial serial' class class' count count' values values' a.0 b.0 c.0 d.0 f.0, f.1)
 
 -- OBJECT ARRAY DUMPs of the same fields are one
-same_array : (id id' serial serial' count count' class class' : List ℕ) (elements elements' : List (List ℕ)) → id ≡ id' → serial ≡ serial' → count ≡ count' → class ≡ class' → elements ≡ elements' → ObjectArray id serial count class elements ≡ ObjectArray id' serial' count' class' elements'
+same_array : (id id' serial serial' count count' class class' : List ℕ) (elements elements' : List (List ℕ)) → id ≡ id' → serial ≡ serial' → count ≡ count'
+    → class ≡ class' → elements ≡ elements' → ObjectArray id serial count class elements ≡ ObjectArray id' serial' count' class' elements'
 same_array id id' serial serial' count count' class class' elements elements' a b c d e = cc
 
 -- OBJECT ARRAY DUMPs
-arrays_apart : (n : ℕ) (id id' serial serial' count count' class class' : List ℕ) (elements elements' : List (List ℕ)) (x y : List ℕ) → (id ++ serial ++ count ++ class ++ concat elements) ++ x ≡ (id' ++ serial' ++ count' ++ class' ++ concat elements') ++ y → length id ≡ length id' → length serial ≡ length serial' → length count ≡ length count' → length class ≡ length class' → AreElements n count elements → AreElements n count' elements' → (ObjectArray id serial count class elements ≡ ObjectArray id' serial' count' class' elements') × (x ≡ y)
+arrays_apart : (n : ℕ) (id id' serial serial' count count' class class' : List ℕ) (elements elements' : List (List ℕ)) (x y : List ℕ)
+    → (id ++ serial ++ count ++ class ++ concat elements) ++ x ≡ (id' ++ serial' ++ count' ++ class' ++ concat elements') ++ y → length id ≡ length id'
+    → length serial ≡ length serial' → length count ≡ length count' → length class ≡ length class' → AreElements n count elements
+    → AreElements n count' elements' → (ObjectArray id serial count class elements ≡ ObjectArray id' serial' count' class' elements') × (x ≡ y)
 arrays_apart n id id' serial serial' count count' class class' elements elements' x y e li ls lc lk he hf =
     let a = same_front id id' (serial ++ (count ++ (class ++ (concat elements ++ x)))) (serial' ++ (count' ++ (class' ++ (concat elements' ++ y)))) li
     (sym (five id serial count class (concat elements) x) ∙ e ∙ five id' serial' count' class' (concat elements') y) in
@@ -177,11 +192,17 @@ primitive_fronts id id' serial serial' count count' element element' x y e li ls
     (a.0, b.0, c.0, same_tag element element' x y c.1, behind_tag element element' x y c.1)
 
 -- PRIMITIVE ARRAY DUMPs of the same fields are one
-same_primitive : (id id' serial serial' count count' : List ℕ) (element element' : ℕ) (elements elements' : List ℕ) → id ≡ id' → serial ≡ serial' → count ≡ count' → element ≡ element' → elements ≡ elements' → PrimitiveArray id serial count element elements ≡ PrimitiveArray id' serial' count' element' elements'
+same_primitive : (id id' serial serial' count count' : List ℕ) (element element' : ℕ) (elements elements' : List ℕ) → id ≡ id' → serial ≡ serial'
+    → count ≡ count' → element ≡ element' → elements ≡ elements'
+    → PrimitiveArray id serial count element elements ≡ PrimitiveArray id' serial' count' element' elements'
 same_primitive id id' serial serial' count count' element element' elements elements' a b c d e = cc
 
 -- PRIMITIVE ARRAY DUMPs
-primitives_apart : (id id' serial serial' count count' : List ℕ) (element element' : ℕ) (elements elements' : List ℕ) (x y : List ℕ) → (id ++ serial ++ count ++ element ∷ elements) ++ x ≡ (id' ++ serial' ++ count' ++ element' ∷ elements') ++ y → length id ≡ length id' → length serial ≡ length serial' → length count ≡ length count' → length elements ≡ element_len element * big_number 4 count → length elements' ≡ element_len element' * big_number 4 count' → (PrimitiveArray id serial count element elements ≡ PrimitiveArray id' serial' count' element' elements') × (x ≡ y)
+primitives_apart : (id id' serial serial' count count' : List ℕ) (element element' : ℕ) (elements elements' : List ℕ) (x y : List ℕ)
+    → (id ++ serial ++ count ++ element ∷ elements) ++ x ≡ (id' ++ serial' ++ count' ++ element' ∷ elements') ++ y → length id ≡ length id'
+    → length serial ≡ length serial' → length count ≡ length count' → length elements ≡ element_len element * big_number 4 count
+    → length elements' ≡ element_len element' * big_number 4 count'
+    → (PrimitiveArray id serial count element elements ≡ PrimitiveArray id' serial' count' element' elements') × (x ≡ y)
 primitives_apart id id' serial serial' count count' element element' elements elements' x y e li ls lc le le' =
     let front = primitive_fronts id id' serial serial' count count' element element' (elements ++ x) (elements' ++ y)
     (sym (primitive_fields id serial count element elements x) ∙ e ∙ primitive_fields id' serial' count' element' elements' y) li ls lc in
@@ -210,37 +231,50 @@ instance_or_primitive : (xs ys : List ℕ) → 0x21 ∷ xs ≡ 0x23 ∷ ys → �
 instance_or_primitive xs ys e = cc
 
 -- no sub-record's text begins another's
-pub sub_records_apart : (size : IdSize) (s t : SubRecord) (x y : List ℕ) → sub_record_text s ++ x ≡ sub_record_text t ++ y → IsSubRecord size s → IsSubRecord size t → (s ≡ t) × (x ≡ y)
+pub sub_records_apart : (size : IdSize) (s t : SubRecord) (x y : List ℕ) → sub_record_text s ++ x ≡ sub_record_text t ++ y → IsSubRecord size s
+    → IsSubRecord size t → (s ≡ t) × (x ≡ y)
 sub_records_apart size (RootOf kind id more) (RootOf kind' id' more') x y e is it =
     roots_apart size kind kind' id id' more more' x y (same_tag _ _ _ _ e) (behind_tag _ _ _ _ e) (is.0 ∙ sym it.0) is.1 it.1
 sub_records_apart size (RootOf kind id more) (ClassDump head constants statics fields) x y e is it = absurd (root_or_class kind (same_tag _ _ _ _ e))
 sub_records_apart size (RootOf kind id more) (InstanceDump id' serial class count values) x y e is it = absurd (root_or_instance kind (same_tag _ _ _ _ e))
 sub_records_apart size (RootOf kind id more) (ObjectArray id' serial count class elements) x y e is it = absurd (root_or_array kind (same_tag _ _ _ _ e))
-sub_records_apart size (RootOf kind id more) (PrimitiveArray id' serial count element elements) x y e is it = absurd (root_or_primitive kind (same_tag _ _ _ _ e))
+sub_records_apart size (RootOf kind id more) (PrimitiveArray id' serial count element elements) x y e is it =
+    absurd (root_or_primitive kind (same_tag _ _ _ _ e))
 sub_records_apart size (ClassDump head constants statics fields) (RootOf kind id more) x y e is it = absurd (root_or_class kind (sym (same_tag _ _ _ _ e)))
 sub_records_apart size (ClassDump head constants statics fields) (ClassDump head' constants' statics' fields') x y e is it =
     classes_apart size head head' constants constants' statics statics' fields fields' x y (behind_tag _ _ _ _ e) is.0 it.0 is.1 it.1 is.2 it.2 is.3 it.3
 sub_records_apart size (ClassDump head constants statics fields) (InstanceDump id serial class count values) x y e is it = absurd (class_or_instance _ _ e)
 sub_records_apart size (ClassDump head constants statics fields) (ObjectArray id serial count class elements) x y e is it = absurd (class_or_array _ _ e)
-sub_records_apart size (ClassDump head constants statics fields) (PrimitiveArray id serial count element elements) x y e is it = absurd (class_or_primitive _ _ e)
-sub_records_apart size (InstanceDump id serial class count values) (RootOf kind id' more) x y e is it = absurd (root_or_instance kind (sym (same_tag _ _ _ _ e)))
-sub_records_apart size (InstanceDump id serial class count values) (ClassDump head constants statics fields) x y e is it = absurd (class_or_instance _ _ (sym e))
+sub_records_apart size (ClassDump head constants statics fields) (PrimitiveArray id serial count element elements) x y e is it =
+    absurd (class_or_primitive _ _ e)
+sub_records_apart size (InstanceDump id serial class count values) (RootOf kind id' more) x y e is it =
+    absurd (root_or_instance kind (sym (same_tag _ _ _ _ e)))
+sub_records_apart size (InstanceDump id serial class count values) (ClassDump head constants statics fields) x y e is it =
+    absurd (class_or_instance _ _ (sym e))
 sub_records_apart size (InstanceDump id serial class count values) (InstanceDump id' serial' class' count' values') x y e is it =
     instances_apart id id' serial serial' class class' count count' values values' x y (behind_tag _ _ _ _ e)
     (is.0 ∙ sym it.0) (is.1 ∙ sym it.1) (is.2 ∙ sym it.2) (is.3 ∙ sym it.3) is.4 it.4
-sub_records_apart size (InstanceDump id serial class count values) (ObjectArray id' serial' count' class' elements) x y e is it = absurd (instance_or_array _ _ e)
-sub_records_apart size (InstanceDump id serial class count values) (PrimitiveArray id' serial' count' element elements) x y e is it = absurd (instance_or_primitive _ _ e)
+sub_records_apart size (InstanceDump id serial class count values) (ObjectArray id' serial' count' class' elements) x y e is it =
+    absurd (instance_or_array _ _ e)
+sub_records_apart size (InstanceDump id serial class count values) (PrimitiveArray id' serial' count' element elements) x y e is it =
+    absurd (instance_or_primitive _ _ e)
 sub_records_apart size (ObjectArray id serial count class elements) (RootOf kind id' more) x y e is it = absurd (root_or_array kind (sym (same_tag _ _ _ _ e)))
 sub_records_apart size (ObjectArray id serial count class elements) (ClassDump head constants statics fields) x y e is it = absurd (class_or_array _ _ (sym e))
-sub_records_apart size (ObjectArray id serial count class elements) (InstanceDump id' serial' class' count' values) x y e is it = absurd (instance_or_array _ _ (sym e))
+sub_records_apart size (ObjectArray id serial count class elements) (InstanceDump id' serial' class' count' values) x y e is it =
+    absurd (instance_or_array _ _ (sym e))
 sub_records_apart size (ObjectArray id serial count class elements) (ObjectArray id' serial' count' class' elements') x y e is it =
     arrays_apart (id_len size) id id' serial serial' count count' class class' elements elements' x y (behind_tag _ _ _ _ e)
     (is.0 ∙ sym it.0) (is.1 ∙ sym it.1) (is.2 ∙ sym it.2) (is.3 ∙ sym it.3) is.4 it.4
-sub_records_apart size (ObjectArray id serial count class elements) (PrimitiveArray id' serial' count' element elements') x y e is it = absurd (tags_differ _ _ e)
-sub_records_apart size (PrimitiveArray id serial count element elements) (RootOf kind id' more) x y e is it = absurd (root_or_primitive kind (sym (same_tag _ _ _ _ e)))
-sub_records_apart size (PrimitiveArray id serial count element elements) (ClassDump head constants statics fields) x y e is it = absurd (class_or_primitive _ _ (sym e))
-sub_records_apart size (PrimitiveArray id serial count element elements) (InstanceDump id' serial' class count' values) x y e is it = absurd (instance_or_primitive _ _ (sym e))
-sub_records_apart size (PrimitiveArray id serial count element elements) (ObjectArray id' serial' count' class elements') x y e is it = absurd (tags_differ _ _ (sym e))
+sub_records_apart size (ObjectArray id serial count class elements) (PrimitiveArray id' serial' count' element elements') x y e is it =
+    absurd (tags_differ _ _ e)
+sub_records_apart size (PrimitiveArray id serial count element elements) (RootOf kind id' more) x y e is it =
+    absurd (root_or_primitive kind (sym (same_tag _ _ _ _ e)))
+sub_records_apart size (PrimitiveArray id serial count element elements) (ClassDump head constants statics fields) x y e is it =
+    absurd (class_or_primitive _ _ (sym e))
+sub_records_apart size (PrimitiveArray id serial count element elements) (InstanceDump id' serial' class count' values) x y e is it =
+    absurd (instance_or_primitive _ _ (sym e))
+sub_records_apart size (PrimitiveArray id serial count element elements) (ObjectArray id' serial' count' class elements') x y e is it =
+    absurd (tags_differ _ _ (sym e))
 sub_records_apart size (PrimitiveArray id serial count element elements) (PrimitiveArray id' serial' count' element' elements') x y e is it =
     primitives_apart id id' serial serial' count count' element element' elements elements' x y (behind_tag _ _ _ _ e)
     (is.0 ∙ sym it.0) (is.1 ∙ sym it.1) (is.2 ∙ sym it.2) is.4 it.4
@@ -255,7 +289,8 @@ no_sub_record size (PrimitiveArray id serial count element elements) z is e = cc
 
 -- a file has one list of records
 pub same_records : (size : IdSize) (bytes : List ℕ) (rs ss : List Record) → AreRecords size bytes rs → AreRecords size bytes ss → rs ≡ ss
-same_records size bytes rs ss hr hs = same_whole Record record_text (IsRecord size) (records_apart size) (no_record size) rs ss (sym hr.whole ∙ hs.whole) hr.each hs.each
+same_records size bytes rs ss hr hs = same_whole Record record_text (IsRecord size) (records_apart size) (no_record size) rs ss
+    (sym hr.whole ∙ hs.whole) hr.each hs.each
 
 -- also where its identifier size was read twice
 pub same_file : (a b : IdSize) (bytes : List ℕ) (rs ss : List Record) → a ≡ b → AreRecords a bytes rs → AreRecords b bytes ss → rs ≡ ss
@@ -267,7 +302,9 @@ same_sub_records size body ss ts hs ht =
     same_whole SubRecord sub_record_text (IsSubRecord size) (sub_records_apart size) (no_sub_record size) ss ts (sym hs.whole ∙ ht.whole) hs.each ht.each
 
 -- so segments have one list of such lists
-pub same_segments : (size : IdSize) (rs : List Record) (ss ts : List (List SubRecord)) → AllZip (λ (r : Record) (subs : List SubRecord). AreSubRecords size r.body subs) rs ss → AllZip (λ (r : Record) (subs : List SubRecord). AreSubRecords size r.body subs) rs ts → ss ≡ ts
+pub same_segments : (size : IdSize) (rs : List Record) (ss ts : List (List SubRecord))
+    → AllZip (λ (r : Record) (subs : List SubRecord). AreSubRecords size r.body subs) rs ss
+    → AllZip (λ (r : Record) (subs : List SubRecord). AreSubRecords size r.body subs) rs ts → ss ≡ ts
 same_segments size [] [] [] hs ht = refl
 same_segments size [] [] (t ∷ ts) hs ht = absurd ht
 same_segments size [] (s ∷ ss) ts hs ht = absurd hs
@@ -289,14 +326,16 @@ pub same_size : (a b : IdSize) (bytes : List ℕ) → HasHeader a bytes → HasH
 same_size a b bytes ha hb = same_len a b (sym ha.id_size ∙ hb.id_size)
 
 -- segments of one file, read twice, are one
-pub same_bodies : (a b : IdSize) (rs ss : List Record) (us vs : List (List SubRecord)) → a ≡ b → rs ≡ ss → AreDumpSubRecords a rs us → AreDumpSubRecords b ss vs → us ≡ vs
+pub same_bodies : (a b : IdSize) (rs ss : List Record) (us vs : List (List SubRecord)) → a ≡ b → rs ≡ ss → AreDumpSubRecords a rs us → AreDumpSubRecords b ss vs
+    → us ≡ vs
 same_bodies a b rs ss us vs size records hu hv =
     let at_size : AreDumpSubRecords a ss vs = subst (λ (x : IdSize). AreDumpSubRecords x ss vs) (sym size) hv in
     let at_records : AreDumpSubRecords a rs vs = subst (λ (xs : List Record). AreDumpSubRecords a xs vs) (sym records) at_size in
     same_segments a (filter is_segment rs) us vs hu at_records
 
 -- whatever is made of what a file is read as, two readings make one of it
-pub same_reading : {X : Type 0} (made : IdSize → List Record → List (List SubRecord) → X) (bytes : List ℕ) (a b : IdSize) (rs ss : List Record) (us vs : List (List SubRecord)) → HasHeader a bytes → HasHeader b bytes
+pub same_reading : {X : Type 0} (made : IdSize → List Record → List (List SubRecord) → X) (bytes : List ℕ) (a b : IdSize) (rs ss : List Record)
+    (us vs : List (List SubRecord)) → HasHeader a bytes → HasHeader b bytes
     → AreRecords a bytes rs → AreRecords b bytes ss → AreDumpSubRecords a rs us → AreDumpSubRecords b ss vs → made a rs us ≡ made b ss vs
 same_reading made bytes a b rs ss us vs ha hb hr hs hu hv =
     let size : a ≡ b = same_size a b bytes ha hb in
@@ -308,5 +347,6 @@ same_reading made bytes a b rs ss us vs ha hb hr hs hu hv =
 pub same_dump : (mode : Mode) (bytes : List ℕ) (a b : Dump) → IsDumpOf mode bytes a → IsDumpOf mode bytes b → a ≡ b
 same_dump mode bytes a b ha hb =
     ha.is
-    ∙ same_reading (dump_of mode bytes) bytes ha.size hb.size ha.records hb.records ha.segments hb.segments ha.reads.header hb.reads.header ha.reads.whole hb.reads.whole ha.reads.bodies hb.reads.bodies
+    ∙ same_reading (dump_of mode bytes) bytes ha.size hb.size ha.records hb.records ha.segments hb.segments ha.reads.header hb.reads.header ha.reads.whole
+    hb.reads.whole ha.reads.bodies hb.reads.bodies
     ∙ sym hb.is

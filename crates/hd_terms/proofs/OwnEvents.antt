@@ -13,7 +13,8 @@ pub own-other : (who : ℕ) (log : List Event) (e : Event) → (e.who == who) �
 own-other who log e other = own-append who log (e ∷ []) ∙ (ap (λ (b : Bool). own who log ++ cond b (e ∷ []) []) other ∙ append-nil (own who log))
 
 -- an analyst who has no event in the last part of a log has none in its beginning
-pub own-between : (who : ℕ) (log middle front : List Event) → begins_with log middle → begins_with middle front → own who log ≡ own who front → own who middle ≡ own who front
+pub own-between : (who : ℕ) (log middle front : List Event) → begins_with log middle → begins_with middle front → own who log ≡ own who front
+    → own who middle ≡ own who front
 own-between who log middle front q p same =
     let first : own who middle ≡ own who front ++ own who p.0 = ap (own who) p.1 ∙ own-append who front p.0 in
     let second : own who log ≡ own who middle ++ own who q.0 = ap (own who) q.1 ∙ own-append who middle q.0 in

@@ -44,7 +44,8 @@ pub weaker-le_right : (s t : Strength) → rank (weaker_of s t) ≤ rank t
 weaker-le_right s t = cond_both (leb (rank s) (rank t)) s t (λ x. rank x ≤ rank t) (λ e. omega (arith, leb-true (rank s) (rank t) e)) (λ e. omega arith)
 
 pub rank-weaker : (s t : Strength) → rank (weaker_of s t) ≡ min (rank s) (rank t)
-rank-weaker s t = cond_both (leb (rank s) (rank t)) s t (λ x. rank x ≡ min (rank s) (rank t)) (λ e. omega (arith, leb-true (rank s) (rank t) e)) (λ e. omega (arith, leb-false (rank s) (rank t) e))
+rank-weaker s t = cond_both (leb (rank s) (rank t)) s t (λ x. rank x ≡ min (rank s) (rank t)) (λ e. omega (arith, leb-true (rank s) (rank t) e))
+    (λ e. omega (arith, leb-false (rank s) (rank t) e))
 
 pub weaker_comm : (s t : Strength) → weaker_of s t ≡ weaker_of t s
 weaker_comm s t = same_rank _ _ (omega (arith, rank-weaker s t, rank-weaker t s))

@@ -1,5 +1,6 @@
 -- Each step keeps what holds of the desks.
-use Rattle.std.proofs.Common.{◌≡◌, ◌∙◌, ℕ, zero, suc, ◌<◌, ◌==◌, inl, inr, Bool, true, false, if◌then◌else◌, List, [], ◌∷◌, ◌++◌, length, map, Option, Some, None, subst, refl, ap, sym, arith, append_assoc}
+use Rattle.std.proofs.Common.{◌≡◌, ◌∙◌, ℕ, zero, suc, ◌<◌, ◌==◌, inl, inr, Bool, true, false, if◌then◌else◌, List, [], ◌∷◌, ◌++◌, length, map, Option, Some}
+use Rattle.std.proofs.Common.{None, subst, refl, ap, sym, arith, append_assoc}
 use Rattle.std.specs.Option.{option_and_then, option_or}
 use Rattle.std.specs.List.{All, Contains, slice_index_or}
 use Rattle.std.proofs.lemmas.Bool.{eqb-true, eqb-false, ne_eqb, cases_lt}
@@ -11,7 +12,8 @@ use Rattle.hd_terms.specs.declared.errors.Refusal.{Refusal}
 use Rattle.hd_terms.specs.Log.{IsLawful, begins_with, edit_of, log_fault, own}
 use Rattle.hd_terms.specs.Appending.{append_refusal, by_log, root_refusal}
 use Rattle.hd_terms.specs.Desks.{Continues, Differs, IsForeign, IsApart}
-use Rattle.hd_terms.specs.Schedule.{Board, Desk, Desks, Step, append, look, learn, catch_up, start, with_desk, with_seen, with_log, Leads, Runs, Reaches, fork, IsOneHistory, Closes, all_desks}
+use Rattle.hd_terms.specs.Schedule.{Board, Desk, Desks, Step, append, look, learn, catch_up, start, with_desk, with_seen, with_log, Leads, Runs, Reaches, fork}
+use Rattle.hd_terms.specs.Schedule.{IsOneHistory, Closes, all_desks}
 use Rattle.hd_terms.proofs.LawfulLogs.{takes}
 use Rattle.hd_terms.proofs.Beginnings.{begins_itself, begins_before, begins_trans, begins_shorter, begins_next, rest_after, lawful_beginning}
 use Rattle.hd_terms.proofs.OwnEvents.{own-other, own-between}
@@ -44,7 +46,8 @@ pub record Kept (board : Board) (s : Desks) : Type 0 where
   pub desks : (a : ℕ) → DeskKept s.log a (s.desk a)
 
 -- one desk, or the others
-chosen : (log : List Event) (who a : ℕ) (desk other : Desk) (b : Bool) → (a == who) ≡ b → DeskKept log who desk → DeskKept log a other → DeskKept log a (if b then desk else other)
+chosen : (log : List Event) (who a : ℕ) (desk other : Desk) (b : Bool) → (a == who) ≡ b → DeskKept log who desk → DeskKept log a other
+    → DeskKept log a (if b then desk else other)
 chosen log who a desk other true is k l = subst (λ (n : ℕ). DeskKept log n desk) (sym (eqb-true a who is)) k
 chosen log who a desk other false is k l = l
 
@@ -73,7 +76,8 @@ start_kept board = record {
 }
 
 -- each desk after an event was appended: the desk of its analyst, or another
-after_append : (log : List Event) (e : Event) (a : ℕ) (desk : Desk) (b : Bool) → (a == e.who) ≡ b → DeskKept log e.who (record { seen = log; front = desk.front }) → (other : Desk) → DeskKept log a other
+after_append : (log : List Event) (e : Event) (a : ℕ) (desk : Desk) (b : Bool) → (a == e.who) ≡ b
+    → DeskKept log e.who (record { seen = log; front = desk.front }) → (other : Desk) → DeskKept log a other
     → DeskKept (log ++ e ∷ []) a (if b then record { seen = log ++ e ∷ []; front = desk.front } else other)
 after_append log e a desk true is k other l = record {
   front = begins_trans (log ++ e ∷ []) log desk.front (begins_before log e) k.front;
@@ -103,11 +107,13 @@ appended_kept board s e kept member none = record {
 step_kept : (board : Board) (s : Desks) (step : Step) (t : Desks) → Kept board s → Leads board s step t → Kept board t
 step_kept board s (append e) t kept leads = subst (Kept board) (sym leads.2) (appended_kept board s e kept leads.0 leads.1)
 step_kept board s (look who) t kept leads =
-    subst (Kept board) (sym leads.1) (with_desk_kept board s who (record { seen = s.log; front = (s.desk who).front }) kept (all_seen s.log who (s.desk who) (kept.desks who)))
+    subst (Kept board) (sym leads.1)
+    (with_desk_kept board s who (record { seen = s.log; front = (s.desk who).front }) kept (all_seen s.log who (s.desk who) (kept.desks who)))
 step_kept board s (learn who other) t kept leads =
     let mine = kept.desks who in
     let theirs = kept.desks other in
-    let longer : begins_with (s.desk other).seen (s.desk who).seen = begins_shorter s.log (s.desk other).seen (s.desk who).seen theirs.seen mine.seen (omega (arith, leads.2)) in
+    let longer : begins_with (s.desk other).seen (s.desk who).seen = begins_shorter s.log (s.desk other).seen (s.desk who).seen theirs.seen mine.seen
+    (omega (arith, leads.2)) in
     subst (Kept board) (sym leads.3) (with_desk_kept board s who (record { seen = (s.desk other).seen; front = (s.desk who).front }) kept (record {
       front = begins_trans (s.desk other).seen (s.desk who).seen (s.desk who).front longer mine.front;
       seen = theirs.seen;
@@ -159,7 +165,8 @@ pub never_foreign : (board : Board) (s : Desks) → Kept board s → (a : ℕ) �
 never_foreign board s kept a member = never-foreign board.numbers a (s.desk a).seen s.log member ((one_history board s kept).seen a member)
 
 -- of what begins the log, the longer continues the shorter
-not_apart : (log told : List Event) (who : ℕ) (desk : Desk) → DeskKept log who desk → begins_with log told → Differs who desk.seen told → (begins_with desk.seen told → ⊥) → ⊥
+not_apart : (log told : List Event) (who : ℕ) (desk : Desk) → DeskKept log who desk → begins_with log told → Differs who desk.seen told
+    → (begins_with desk.seen told → ⊥) → ⊥
 not_apart log told who desk k begins differs never = elim (cases_lt (length told) (length desk.seen)) [
   | inl lt ↦ never (begins_shorter log desk.seen told k.seen begins (omega arith))
   | inr le ↦
@@ -178,7 +185,8 @@ pair_of f n = (n, f n)
 abbrev pairs : (ℕ → List Event) → List ℕ → List (ℕ × List Event)
 pairs f numbers = map (pair_of f) numbers
 
-pair_at : (f : ℕ → List Event) (numbers : List ℕ) (k a : ℕ) (d : ℕ × List Event) → k < length numbers → slice_index_or (pairs f numbers) k d ≡ (slice_index_or numbers k a, f (slice_index_or numbers k a))
+pair_at : (f : ℕ → List Event) (numbers : List ℕ) (k a : ℕ) (d : ℕ × List Event) → k < length numbers
+    → slice_index_or (pairs f numbers) k d ≡ (slice_index_or numbers k a, f (slice_index_or numbers k a))
 pair_at f numbers k a d lt = get_or-map (pair_of f) numbers k a d lt
 
 in_pairs : (f : ℕ → List Event) (numbers : List ℕ) (a : ℕ) (seen : List Event) → Contains (pairs f numbers) (a, seen) → Contains numbers a × (seen ≡ f a)
@@ -201,6 +209,7 @@ closes board s kept =
     record {
       complete = λ a member. (seen a, to_pairs seen board.numbers a member);
       ours = λ a front found. (in_pairs seen board.numbers a front found).0;
-      continues = λ a front found. subst (λ f. Continues a f s.log) (sym (in_pairs seen board.numbers a front found).1) (record { begins = (kept.desks a).seen; same_own = (kept.desks a).same_own });
+      continues = λ a front found. subst (λ f. Continues a f s.log) (sym (in_pairs seen board.numbers a front found).1)
+          (record { begins = (kept.desks a).seen; same_own = (kept.desks a).same_own });
       members = (one_history board s kept).members;
     }

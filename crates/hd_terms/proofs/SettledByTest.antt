@@ -1,5 +1,6 @@
 -- A test that computes on whole lists whether what is kept is settled, for examples.
-use Rattle.std.proofs.Common.{◌≡◌, ◌∙◌, ℕ, zero, suc, ◌+◌, ◌<◌, ◌==◌, ◌⊎◌, inl, inr, Bool, true, false, ◌&&◌, ◌||◌, nat_lt, nat_le, List, [], ◌∷◌, length, slice_index_or, Contains, subst, sym, ap, refl, arith}
+use Rattle.std.proofs.Common.{◌≡◌, ◌∙◌, ℕ, zero, suc, ◌+◌, ◌<◌, ◌==◌, ◌⊎◌, inl, inr, Bool, true, false, ◌&&◌, ◌||◌, nat_lt, nat_le, List, [], ◌∷◌, length}
+use Rattle.std.proofs.Common.{slice_index_or, Contains, subst, sym, ap, refl, arith}
 use Rattle.std.specs.List.{list_any, list_all}
 use Rattle.std.proofs.lemmas.Bool.{cases_lt, and_parts, eqb-true, leb-true, ltb-true}
 use Rattle.std.proofs.lemmas.List.{get_or_past}
@@ -74,7 +75,8 @@ abbrev is_the_edge : ℕ → ℕ → Slot → Edge → Bool
 is_the_edge o source slot e = (e.source == source) && (same_slot e.slot slot && (e.target == o))
 
 abbrev gives_enough : Mode → List Reached → Edge → Bool
-gives_enough mode ks e = nat_le (least mode) (rank_at ks e.source) && ((rank_at ks e.target == rank (gives ks e)) && is_before (reached_at ks e.source) (reached_at ks e.target))
+gives_enough mode ks e =
+    nat_le (least mode) (rank_at ks e.source) && ((rank_at ks e.target == rank (gives ks e)) && is_before (reached_at ks e.source) (reached_at ks e.target))
 
 -- `IsSupported` as a test
 abbrev is_supported : Standing → List Reached → ℕ → Support → Bool
@@ -117,9 +119,11 @@ is_before-true a b h =
     ]
 
 -- an edge that gives its target enough supports it
-supports_its_target : (g : Standing) (ks : List Reached) (e : Edge) → Contains g.edges e → gives_enough g.mode ks e ≡ true → SupportedBy g ks e.target e.source e.slot e
+supports_its_target : (g : Standing) (ks : List Reached) (e : Edge) → Contains g.edges e → gives_enough g.mode ks e ≡ true
+    → SupportedBy g ks e.target e.source e.slot e
 supports_its_target g ks e stands h =
-    let a = and_parts (nat_le (least g.mode) (rank_at ks e.source)) ((rank_at ks e.target == rank (gives ks e)) && is_before (reached_at ks e.source) (reached_at ks e.target)) h in
+    let a = and_parts (nat_le (least g.mode) (rank_at ks e.source))
+    ((rank_at ks e.target == rank (gives ks e)) && is_before (reached_at ks e.source) (reached_at ks e.target)) h in
     let b = and_parts (rank_at ks e.target == rank (gives ks e)) (is_before (reached_at ks e.source) (reached_at ks e.target)) a.1 in
     record {
       stands = stands;
@@ -140,8 +144,11 @@ is_supported-true g ks o (supports.Root n) h =
     let same = and_parts (r.number == n) (r.target == o) any.4 in
     let is : r ≡ record { number = n; target = o } =
     ap (λ (m : ℕ). let entry : RootEntry = record { number = m; target = r.target } in entry) (eqb-true r.number n same.0)
-    ∙ ap (λ (m : ℕ). let entry : RootEntry = record { number = n; target = m } in entry) (eqb-true r.target o same.1) in
-    (subst (λ (x : RootEntry). Contains g.roots x) is (any.0, any.2, any.3), same_rank (reached_at ks o).strength strengths.Strong (eqb-true (rank_at ks o) 5 parts.1))
+    ∙ ap (λ (m : ℕ). let entry : RootEntry = record { number = n; target = m } in entry) (eqb-true r.target o same.1) in (
+      subst (λ (x : RootEntry). Contains g.roots x) is (any.0, any.2, any.3),
+      same_rank (reached_at ks o).strength strengths.Strong
+          (eqb-true (rank_at ks o) 5 parts.1),
+    )
 is_supported-true g ks o (supports.Edge source slot) h =
     let any = Any-from_list_any (λ (e : Edge). is_the_edge o source slot e && gives_enough g.mode ks e) g.edges h in
     let e : Edge = any.1 in
@@ -150,11 +157,13 @@ is_supported-true g ks o (supports.Edge source slot) h =
     let b = and_parts (same_slot e.slot slot) (e.target == o) a.1 in
     let own : SupportedBy g ks e.target e.source e.slot e = supports_its_target g ks e (any.0, any.2, any.3) parts.1 in
     let at_source : SupportedBy g ks e.target source e.slot e = subst (λ (x : ℕ). SupportedBy g ks e.target x e.slot e) (eqb-true e.source source a.0) own in
-    let at_slot : SupportedBy g ks e.target source slot e = subst (λ (x : Slot). SupportedBy g ks e.target source x e) (same_slot-true e.slot slot b.0) at_source in
+    let at_slot : SupportedBy g ks e.target source slot e = subst (λ (x : Slot). SupportedBy g ks e.target source x e)
+    (same_slot-true e.slot slot b.0) at_source in
     (e, subst (λ (x : ℕ). SupportedBy g ks x source slot e) (eqb-true e.target o b.1) at_slot)
 
 -- the objects from a number on, and beyond the list
-are_supported-true : (g : Standing) (ks : List Reached) (o : ℕ) (rest : List Reached) → are_supported g ks o rest ≡ true → (i : ℕ) → i < length rest → IsSupported g ks (o + i) (slice_index_or rest i unreached).support
+are_supported-true : (g : Standing) (ks : List Reached) (o : ℕ) (rest : List Reached) → are_supported g ks o rest ≡ true → (i : ℕ) → i < length rest
+    → IsSupported g ks (o + i) (slice_index_or rest i unreached).support
 are_supported-true g ks o [] h i lt = absurd (omega arith)
 are_supported-true g ks o (k ∷ rest) h zero lt =
     let parts = and_parts (is_supported g ks o k.support) (are_supported g ks (o + 1) rest) h in
@@ -176,14 +185,17 @@ settled g ks h =
     let b = and_parts (list_all (is_strong ks) g.roots) (list_all (is_enough g.mode ks) g.edges) a.1 in
     record {
       supported = λ o. elim (cases_lt o (length ks)) [
-        | inl within ↦ (let same : 0 + o ≡ o = omega arith in subst (λ (x : ℕ). IsSupported g ks x (reached_at ks o).support) same (are_supported-true g ks 0 ks a.0 o within))
+        | inl within ↦ (let same : 0 + o ≡ o = omega arith in subst (λ (x : ℕ). IsSupported g ks x (reached_at ks o).support) same
+            (are_supported-true g ks 0 ks a.0 o within))
         | inr past ↦ (let is : reached_at ks o ≡ unreached = get_or_past ks o unreached past in beyond g ks o (reached_at ks o) is is)
       ];
-      by_roots = λ r c. same_rank (reached_at ks r.target).strength strengths.Strong (eqb-true (rank_at ks r.target) 5 (all_contains (is_strong ks) g.roots r b.0 c));
-      by_edges = λ e c passes. elim (or_parts (nat_lt (rank_at ks e.source) (least g.mode)) (nat_le (rank (gives ks e)) (rank_at ks e.target)) (all_contains (is_enough g.mode ks) g.edges e b.1 c)) [
-        | inl low ↦ absurd (omega (arith, ltb-true (rank_at ks e.source) (least g.mode) low))
-        | inr enough ↦ leb-true (rank (gives ks e)) (rank_at ks e.target) enough
-      ];
+      by_roots = λ r c. same_rank (reached_at ks r.target).strength strengths.Strong
+          (eqb-true (rank_at ks r.target) 5 (all_contains (is_strong ks) g.roots r b.0 c));
+      by_edges = λ e c passes. elim (or_parts (nat_lt (rank_at ks e.source) (least g.mode)) (nat_le (rank (gives ks e)) (rank_at ks e.target))
+          (all_contains (is_enough g.mode ks) g.edges e b.1 c)) [
+            | inl low ↦ absurd (omega (arith, ltb-true (rank_at ks e.source) (least g.mode) low))
+            | inr enough ↦ leb-true (rank (gives ks e)) (rank_at ks e.target) enough
+          ];
     }
 
 -- so each object has the strength that is kept of it

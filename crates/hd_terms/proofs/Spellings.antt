@@ -29,18 +29,21 @@ nothing_behind : (x y : List ℕ) → x ++ y ≡ [] → y ≡ []
 nothing_behind [] y e = e
 nothing_behind (a ∷ x) y e = absurd cc
 
-module _ (X : Type 0) (text : X → List ℕ) (Is : X → Type 0) (apart : (r s : X) (x y : List ℕ) → text r ++ x ≡ text s ++ y → Is r → Is s → (r ≡ s) × (x ≡ y)) where
+module _ (X : Type 0) (text : X → List ℕ) (Is : X → Type 0) (apart : (r s : X) (x y : List ℕ) → text r ++ x ≡ text s ++ y → Is r → Is s → (r ≡ s)
+    × (x ≡ y)) where
   -- no text begins these bytes
   abbrev pub IsEnd : List ℕ → Type 0
   IsEnd x = (r : X) (z : List ℕ) → Is r → x ≡ text r ++ z → ⊥
 
   -- texts and an end have one reading
-  pub same_texts : (rs ss : List X) (x y : List ℕ) → flat_map text rs ++ x ≡ flat_map text ss ++ y → AllByRecursion Is rs → AllByRecursion Is ss → IsEnd x → IsEnd y → (rs ≡ ss) × (x ≡ y)
+  pub same_texts : (rs ss : List X) (x y : List ℕ) → flat_map text rs ++ x ≡ flat_map text ss ++ y → AllByRecursion Is rs → AllByRecursion Is ss → IsEnd x
+      → IsEnd y → (rs ≡ ss) × (x ≡ y)
   same_texts [] [] x y e hr hs ex ey = (refl, e)
   same_texts [] (s ∷ ss) x y e hr hs ex ey = absurd (ex s (flat_map text ss ++ y) hs.0 (e ∙ append_assoc (text s) (flat_map text ss) y))
   same_texts (r ∷ rs) [] x y e hr hs ex ey = absurd (ey r (flat_map text rs ++ x) hr.0 (sym e ∙ append_assoc (text r) (flat_map text rs) x))
   same_texts (r ∷ rs) (s ∷ ss) x y e hr hs ex ey =
-      let first = apart r s (flat_map text rs ++ x) (flat_map text ss ++ y) (sym (append_assoc (text r) (flat_map text rs) x) ∙ e ∙ append_assoc (text s) (flat_map text ss) y) hr.0 hs.0 in
+      let first = apart r s (flat_map text rs ++ x) (flat_map text ss ++ y) (sym (append_assoc (text r) (flat_map text rs) x) ∙ e
+      ∙ append_assoc (text s) (flat_map text ss) y) hr.0 hs.0 in
       let more = same_texts rs ss x y first.1 hr.1 hs.1 ex ey in
       (ap (λ (t : X). t ∷ rs) first.0 ∙ ap (λ (ts : List X). s ∷ ts) more.0, more.1)
 
@@ -50,7 +53,8 @@ module _ (X : Type 0) (text : X → List ℕ) (Is : X → Type 0) (apart : (r s 
       (same_texts rs ss [] [] (append-nil (flat_map text rs) ∙ e ∙ sym (append-nil (flat_map text ss))) hr hs none none).0
 
   -- texts alone aren't texts and an end that isn't empty
-  pub whole_has_no_end : IsEnd [] → (rs ss : List X) (y : List ℕ) → flat_map text rs ≡ flat_map text ss ++ y → AllByRecursion Is rs → AllByRecursion Is ss → IsEnd y → y ≡ []
+  pub whole_has_no_end : IsEnd [] → (rs ss : List X) (y : List ℕ) → flat_map text rs ≡ flat_map text ss ++ y → AllByRecursion Is rs → AllByRecursion Is ss
+      → IsEnd y → y ≡ []
   whole_has_no_end none rs ss y e hr hs ey = sym (same_texts rs ss [] y (append-nil (flat_map text rs) ∙ e) hr hs none ey).1
 
   -- no text begins a text that is cut off

@@ -59,22 +59,27 @@ both false b h k = absurd cc
 
 module _ (dump : Dump) (log : List Event) (ks : List Reached) (h : is_settled (standing dump log) ks ≡ true) (s : Strength) where
   says : (o : ℕ) → has ks s o ≡ true → HasStrength (standing dump log) o s
-  says o is = subst (HasStrength (standing dump log) o) (same_rank (reached_at ks o).strength s (eqb-true (rank (reached_at ks o).strength) (rank s) is)) (strengths_of (standing dump log) ks h o)
+  says o is = subst (HasStrength (standing dump log) o) (same_rank (reached_at ks o).strength s (eqb-true (rank (reached_at ks o).strength) (rank s) is))
+      (strengths_of (standing dump log) ks h o)
 
   said : (o : ℕ) → HasStrength (standing dump log) o s → has ks s o ≡ true
-  said o is = eq-eqb (rank (reached_at ks o).strength) (rank s) (ap rank (one_strength (standing dump log) o (reached_at ks o).strength s (strengths_of (standing dump log) ks h o) is))
+  said o is = eq-eqb (rank (reached_at ks o).strength) (rank s)
+      (ap rank (one_strength (standing dump log) o (reached_at ks o).strength s (strengths_of (standing dump log) ks h o) is))
 
   -- all objects that pass the test
-  pub total : IsTotal dump log s (count_by (has ks s) (range_with_len 0 (length dump.objects))) (sum_by (λ o. if has ks s o then (object_at dump o).bytes else 0) (range_with_len 0 (length dump.objects)))
+  pub total : IsTotal dump log s (count_by (has ks s) (range_with_len 0 (length dump.objects)))
+      (sum_by (λ o. if has ks s o then (object_at dump o).bytes else 0) (range_with_len 0 (length dump.objects)))
   total = record { has = has ks s; decides = λ o within. (says o, said o); count_is = refl; bytes_is = refl }
 
   -- those of a group
-  pub group_total : (group : Group) → IsGroupTotal dump log group s (count_by (is_of dump ks group s) (range_with_len 0 (length dump.objects))) (sum_by (λ o. if is_of dump ks group s o then (object_at dump o).bytes else 0) (range_with_len 0 (length dump.objects)))
+  pub group_total : (group : Group) → IsGroupTotal dump log group s (count_by (is_of dump ks group s) (range_with_len 0 (length dump.objects)))
+      (sum_by (λ o. if is_of dump ks group s o then (object_at dump o).bytes else 0) (range_with_len 0 (length dump.objects)))
   group_total group = record {
     has = is_of dump ks group s;
     decides = λ o within. (
       (λ is. let p = and_parts (same_group (object_at dump o).group group) (has ks s o) is in (same_group-true (object_at dump o).group group p.0, says o p.1)),
-      (λ p. both (same_group (object_at dump o).group group) (has ks s o) (ap (λ (g : Group). same_group (object_at dump o).group g) (sym p.0) ∙ same_group-same (object_at dump o).group) (said o p.1)),
+      (λ p. both (same_group (object_at dump o).group group) (has ks s o) (ap (λ (g : Group). same_group (object_at dump o).group g) (sym p.0)
+          ∙ same_group-same (object_at dump o).group) (said o p.1)),
     );
     count_is = refl;
     bytes_is = refl;

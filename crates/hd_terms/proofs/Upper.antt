@@ -37,4 +37,5 @@ module _ (g : Standing) (ks : List Reached) (settled : Settled g ks) where
   pub greatest : (o : ℕ) (r : RootEntry) (es : List Edge) → IsPath g r es o → rank (path_strength es) ≤ at o
   greatest o r es path =
       let strong : 5 ≤ at r.target = rw (settled.by_roots r path.root) (omega arith) in
-      carried es r.target o (rank (path_strength es)) path.edges path.passed_on (omega (arith, rank-le (least_passed_on g.mode))) (omega (arith, rank-le (path_strength es))) (omega arith)
+      carried es r.target o (rank (path_strength es)) path.edges path.passed_on (omega (arith, rank-le (least_passed_on g.mode)))
+      (omega (arith, rank-le (path_strength es))) (omega arith)

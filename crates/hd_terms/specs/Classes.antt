@@ -2,7 +2,8 @@
 -- Source: HPROF binary format, UTF8, LOAD CLASS, CLASS DUMP and INSTANCE DUMP; java.lang.ref package specification (Java SE
 -- 17) for soft, weak and phantom references. That FinalReference is one more kind, and that all four are told by their names,
 -- is this project's choice.
-use Rattle.std.specs.Prelude.{◌≡◌, ◌≢◌, ℕ, zero, suc, ◌==◌, Bool, false, ◌&&◌, if◌then◌else◌, List, [], ◌∷◌, length, take, drop, map, position, slice_get, sum_by, unwrap_or, is_some, codes, Option, Some, None}
+use Rattle.std.specs.Prelude.{◌≡◌, ◌≢◌, ℕ, zero, suc, ◌==◌, Bool, false, ◌&&◌, if◌then◌else◌, List, [], ◌∷◌, length, take, drop, map, position, slice_get}
+use Rattle.std.specs.Prelude.{sum_by, unwrap_or, is_some, codes, Option, Some, None}
 use Rattle.std.specs.Option.{option_map, option_map_or, option_and_then}
 use Rattle.std.specs.List.{flat_map, filter_map, find}
 use Rattle.std.specs.Str.{bytes_eq}

@@ -257,7 +257,8 @@ size_mismatch_before_unknown_file = head_of 4 ++ segment_of (instance_of narrow 
 
 -- an instance of the wrong size that repeats the ID of an instance that fits its class
 abbrev pub repeated_size_mismatch_file : List ℕ
-repeated_size_mismatch_file = head_of 4 ++ segment_of (class_of narrow 0x11 0 ((0x107, 2) ∷ []) ++ instance_of narrow 2 0x11 (four 5) ++ instance_of narrow 2 0x11 (0x00 ∷ []))
+repeated_size_mismatch_file = head_of 4
+    ++ segment_of (class_of narrow 0x11 0 ((0x107, 2) ∷ []) ++ instance_of narrow 2 0x11 (four 5) ++ instance_of narrow 2 0x11 (0x00 ∷ []))
 
 -- behind an instance and its root, with identifiers of eight bytes: its super class, its class, and two arrays
 abbrev pub behind_instance : List ℕ
@@ -316,7 +317,8 @@ other_name_first_file =
 abbrev pub two_referents_file : List ℕ
 two_referents_file =
     head_of 4 ++ reference_names (codes "java/lang/ref/Reference") (codes "java/lang/ref/WeakReference")
-    ++ segment_of (reference_classes ++ class_of narrow 0x14 0x13 ((0x107, 2) ∷ []) ++ instance_of narrow 0x22 0x14 (four 6 ++ four 5) ++ array_of narrow 5 0 [] ++ array_of narrow 6 0 [])
+    ++ segment_of (reference_classes ++ class_of narrow 0x14 0x13 ((0x107, 2) ∷ []) ++ instance_of narrow 0x22 0x14 (four 6 ++ four 5) ++ array_of narrow 5 0 []
+    ++ array_of narrow 6 0 [])
 
 -- dumps
 
@@ -410,7 +412,15 @@ empty_closure = record empty_dump { mode = modes.Closure }
 
 -- nothing, but a text and a load are repeated
 abbrev pub repeated_strings_and_loads : Dump
-repeated_strings_and_loads = record { mode = modes.Direct; objects = []; roots = []; repeated = record { objects = 0; strings = 1; loads = 1 }; opaque = 0; names = (0x11, 0x41 ∷ []) ∷ []; classes = [] }
+repeated_strings_and_loads = record {
+  mode = modes.Direct;
+  objects = [];
+  roots = [];
+  repeated = record { objects = 0; strings = 1; loads = 1 };
+  opaque = 0;
+  names = (0x11, 0x41 ∷ []) ∷ [];
+  classes = [];
+}
 
 -- nothing but names: that of a class is the first text of the ID under which it is loaded first
 abbrev pub first_names : Dump
@@ -514,11 +524,27 @@ two_arrays = record {
 
 -- [1: 2]  [2:]
 abbrev pub repeated_id : Dump
-repeated_id = record { mode = modes.Direct; objects = array 1 (2 ∷ []) ∷ array 2 [] ∷ []; roots = []; repeated = record { objects = 1; strings = 0; loads = 0 }; opaque = 0; names = []; classes = [] }
+repeated_id = record {
+  mode = modes.Direct;
+  objects = array 1 (2 ∷ []) ∷ array 2 [] ∷ [];
+  roots = [];
+  repeated = record { objects = 1; strings = 0; loads = 0 };
+  opaque = 0;
+  names = [];
+  classes = [];
+}
 
 -- <1: 2>  <2: 9>
 abbrev pub absent_super : Dump
-absent_super = record { mode = modes.Direct; objects = class_object 1 2 ∷ class_object 2 9 ∷ []; roots = []; repeated = none_repeated; opaque = 0; names = []; classes = class_with 1 [] ∷ class_with 2 [] ∷ [] }
+absent_super = record {
+  mode = modes.Direct;
+  objects = class_object 1 2 ∷ class_object 2 9 ∷ [];
+  roots = [];
+  repeated = none_repeated;
+  opaque = 0;
+  names = [];
+  classes = class_with 1 [] ∷ class_with 2 [] ∷ [];
+}
 
 -- <11: 0>  (2 of 11: 5)
 abbrev pub repeated_size_mismatch : Dump
@@ -537,7 +563,8 @@ abbrev pub wide_instance : Dump
 wide_instance = record {
   mode = modes.Direct;
   objects =
-      instance 0x20 0x12 17 (strong (slots.Field 0) 5 ∷ strong (slots.Field 2) 6 ∷ []) ∷ class_object 0x11 0 ∷ class_object 0x12 0x11 ∷ array 5 [] ∷ array 6 [] ∷ [];
+      instance 0x20 0x12 17 (strong (slots.Field 0) 5 ∷ strong (slots.Field 2) 6 ∷ []) ∷ class_object 0x11 0 ∷ class_object 0x12 0x11 ∷ array 5 [] ∷ array 6 []
+      ∷ [];
   roots = root 0x20 ∷ [];
   repeated = none_repeated;
   opaque = 0;
@@ -703,7 +730,16 @@ phantom_closure = record phantom_referent { mode = modes.Closure }
 
 -- root 1  root 2  [1:]  [2:]  [7:]
 abbrev pub added_and_dropped_roots : Dump
-added_and_dropped_roots = record { mode = modes.Direct; objects = array 1 [] ∷ array 2 [] ∷ array 7 [] ∷ []; roots = root 1 ∷ root 2 ∷ []; repeated = none_repeated; opaque = 0; names = []; classes = [] }
+added_and_dropped_roots = record {
+  mode = modes.Direct;
+  objects = array 1 [] ∷ array 2 [] ∷ array 7 [] ∷ [];
+  roots = root 1 ∷ root 2 ∷ [];
+  repeated =
+      none_repeated;
+  opaque = 0;
+  names = [];
+  classes = [];
+}
 
 -- logs
 

@@ -1,5 +1,6 @@
 -- Groups and recorded bytes of objects, each from its sub-record alone.
--- Source: HPROF binary format, INSTANCE DUMP, OBJECT ARRAY DUMP, PRIMITIVE ARRAY DUMP and CLASS DUMP; what counts as the size of an object is this project's choice.
+-- Source: HPROF binary format, INSTANCE DUMP, OBJECT ARRAY DUMP, PRIMITIVE ARRAY DUMP and CLASS DUMP; what counts as the size
+-- of an object is this project's choice.
 use Rattle.std.specs.Prelude.{ℕ, ◌*◌, List, length, sum_by}
 use Rattle.byteorder.specs.Endian.{big_number}
 use Rattle.hd_terms.specs.declared.IdSize.{IdSize}

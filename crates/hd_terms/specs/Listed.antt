@@ -106,4 +106,5 @@ HasMoved dump before after was is = (o : ℕ) × (o < length dump.objects) × Is
 pub record AreMovedRows (dump : Dump) (before after : List Event) (rows : List MovedRow) : Type 0 where
   pub in_order : IsStrictlyIncreasing (map move_key rows)
   pub totals : AllByRecursion (λ (row : MovedRow). IsTotalOf dump (IsMoved dump before after row.before row.after) row.count row.bytes) rows
-  pub pairs : (was is : Strength) → Contains {X = Strength × Strength} (map (λ (row : MovedRow). (row.before, row.after)) rows) (was, is) ↔ HasMoved dump before after was is
+  pub pairs : (was is : Strength) → Contains {X = Strength × Strength} (map (λ (row : MovedRow). (row.before, row.after)) rows) (was, is)
+      ↔ HasMoved dump before after was is

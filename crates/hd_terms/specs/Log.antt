@@ -1,6 +1,7 @@
 -- The log of events: which logs are lawful, which events are live.
 -- Source: this project. The log is one list that all analysts share; an undo names an earlier event of the same analyst.
-use Rattle.std.specs.Prelude.{◌≡◌, ℕ, ◌≤◌, ◌<◌, ◌==◌, nat_le, Bool, false, ◌&&◌, not, if◌then◌else◌, List, ◌++◌, length, map, filter, Option, Some, None, is_some, slice_get}
+use Rattle.std.specs.Prelude.{◌≡◌, ℕ, ◌≤◌, ◌<◌, ◌==◌, nat_le, Bool, false, ◌&&◌, not, if◌then◌else◌, List, ◌++◌, length, map, filter, Option, Some, None}
+use Rattle.std.specs.Prelude.{is_some, slice_get}
 use Rattle.std.specs.Option.{option_or}
 use Rattle.std.specs.List.{list_any, filter_map, last_or, enumerate_from}
 use Rattle.hd_terms.specs.declared.Edit.{Edit}

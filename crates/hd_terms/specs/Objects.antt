@@ -12,10 +12,12 @@ use Rattle.hd_terms.specs.declared.Span.{Span}
 use Rattle.hd_terms.specs.declared.Text.{Text}
 use Rattle.hd_terms.specs.declared.Load.{Load}
 use Rattle.hd_terms.specs.Records.{id_len, Record, HasHeader, AreRecords, header_len, segment_spans, texts, loads}
-use Rattle.hd_terms.specs.SubRecords.{SubRecord, RootOf, ClassDump, InstanceDump, ObjectArray, PrimitiveArray, ClassItem, StaticItem, Item, Instance, ObjArray, PrimArray, Sub, AreDumpSubRecords, dump_subs_at}
+use Rattle.hd_terms.specs.SubRecords.{SubRecord, RootOf, ClassDump, InstanceDump, ObjectArray, PrimitiveArray, ClassItem, StaticItem, Item, Instance, ObjArray}
+use Rattle.hd_terms.specs.SubRecords.{PrimArray, Sub, AreDumpSubRecords, dump_subs_at}
 use Rattle.hd_terms.specs.SubRecords as subs
 use Rattle.hd_terms.specs.FirstRecords.{first_of_each, repeats, first_subs}
-use Rattle.hd_terms.specs.Classes.{ClassTable, KnownClasses, LayoutField, ResolvedClass, class_table, resolved_class, fitting_class, text_of_id, name_of, bytes_of_span}
+use Rattle.hd_terms.specs.Classes.{ClassTable, KnownClasses, LayoutField, ResolvedClass, class_table, resolved_class, fitting_class, text_of_id, name_of}
+use Rattle.hd_terms.specs.Classes.{bytes_of_span}
 use Rattle.hd_terms.specs.Groups.{instance_group, instance_bytes, array_group, array_bytes, class_group, class_bytes, primitive_group, primitive_bytes}
 use Rattle.hd_terms.specs.Slots.{instance_slots, array_slots, class_slots}
 use Rattle.hd_terms.specs.Roots.{roots_of}
@@ -37,7 +39,8 @@ object_of t size (InstanceDump id serial class count values) = Some (record {
   group = instance_group size class;
   bytes = instance_bytes count;
   slots = instance_slots size (fitting_class t size (instance_bytes count) (big_number (id_len size) class)) class values;
-  referent = option_and_then (λ (k : ResolvedClass). option_map (λ (i : ℕ). slots.Field i) k.referent) (fitting_class t size (instance_bytes count) (big_number (id_len size) class));
+  referent = option_and_then (λ (k : ResolvedClass). option_map (λ (i : ℕ). slots.Field i) k.referent)
+      (fitting_class t size (instance_bytes count) (big_number (id_len size) class));
 })
 object_of t size (ObjectArray id serial count class elements) = Some (record {
   id = big_number (id_len size) id;
@@ -107,7 +110,8 @@ class_by_names t c = record {
 
 -- the classes of a file, by its records and the sub-records of its segments
 abbrev pub classes_of : List ℕ → IdSize → List Record → List (List SubRecord) → ClassTable
-classes_of bytes size records segments = class_table bytes (texts size records) (loads size records) (dump_subs_at size (segment_spans header_len records) segments)
+classes_of bytes size records segments = class_table bytes (texts size records) (loads size records)
+    (dump_subs_at size (segment_spans header_len records) segments)
 
 -- the dump of a file, by how phantom references are followed, its records and the sub-records of its segments
 abbrev pub dump_of : Mode → List ℕ → IdSize → List Record → List (List SubRecord) → Dump
@@ -128,7 +132,8 @@ pub record ReadsAs (bytes : List ℕ) (size : IdSize) (records : List Record) (s
   pub whole : AreRecords size bytes records
   pub bodies : AreDumpSubRecords size records segments
   pub classes : class_faults (classes_of bytes size records segments) (dump_subs_at size (segment_spans header_len records) segments) ≡ []
-  pub objects : object_faults (resolved_class (classes_of bytes size records segments)) size (dump_subs_at size (segment_spans header_len records) segments) ≡ []
+  pub objects : object_faults (resolved_class (classes_of bytes size records segments)) size
+      (dump_subs_at size (segment_spans header_len records) segments) ≡ []
 
 -- the dump of a file that reads without fault, opened in a mode
 pub record IsDumpOf (mode : Mode) (bytes : List ℕ) (dump : Dump) : Type 0 where

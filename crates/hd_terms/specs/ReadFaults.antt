@@ -8,8 +8,11 @@ use Rattle.hd_terms.specs.declared.Span.{Span}
 use Rattle.hd_terms.specs.declared.errors.Cause.{Cause}
 use Rattle.hd_terms.specs.declared.errors.Cause.TheVariants as causes
 use Rattle.hd_terms.specs.declared.errors.ReadFault.{ReadFault}
-use Rattle.hd_terms.specs.Records.{id_len, id_size_of, largest_file, header_len, has_magic, Record, IsFramed, least_body, IsRecord, record_text, HasHeader, AreRecords, is_segment, segment_spans}
-use Rattle.hd_terms.specs.SubRecords.{SubRecord, ClassHead, ClassValue, ClassField, Counted, IsClassHead, IsClassValue, IsClassField, IsCounted, IsBegun, class_head_text, counted_text, value_text, field_text, IsSubRecord, sub_record_text, is_known_tag, AreSubRecords, AreDumpSubRecords, dump_subs_at}
+use Rattle.hd_terms.specs.Records.{id_len, id_size_of, largest_file, header_len, has_magic, Record, IsFramed, least_body, IsRecord, record_text, HasHeader}
+use Rattle.hd_terms.specs.Records.{AreRecords, is_segment, segment_spans}
+use Rattle.hd_terms.specs.SubRecords.{SubRecord, ClassHead, ClassValue, ClassField, Counted, IsClassHead, IsClassValue, IsClassField, IsCounted, IsBegun}
+use Rattle.hd_terms.specs.SubRecords.{class_head_text, counted_text, value_text, field_text, IsSubRecord, sub_record_text, is_known_tag, AreSubRecords}
+use Rattle.hd_terms.specs.SubRecords.{AreDumpSubRecords, dump_subs_at}
 use Rattle.hd_terms.specs.Types.{is_element_type, is_type}
 use Rattle.hd_terms.specs.Objects.{classes_of}
 use Rattle.hd_terms.specs.Classes.{resolved_class}
@@ -31,7 +34,8 @@ pub data IsStuckRecord (size : IdSize) (rest : List ℕ) : Cause → Type 0 wher
   -- it runs past the end
   cut : (r : Record) → IsFramed r → IsCutOff rest (record_text r) → IsStuckRecord size rest causes.Truncated
   -- it is whole, but its body is shorter than its fields
-  short : (r : Record) (after : List ℕ) → IsFramed r → rest ≡ record_text r ++ after → length r.body < least_body size r.tag → IsStuckRecord size rest causes.ShortRecord
+  short : (r : Record) (after : List ℕ) → IsFramed r → rest ≡ record_text r ++ after → length r.body < least_body size r.tag
+      → IsStuckRecord size rest causes.ShortRecord
 
 -- the fault of a file's records: records that can be read, and then bytes from which none can be read
 pub record IsRecordFault (size : IdSize) (bytes : List ℕ) (f : ReadFault) : Type 0 where
@@ -54,14 +58,17 @@ pub data IsRecordsFault (bytes : List ℕ) : ReadFault → Type 0 where
 -- what stands in a CLASS DUMP between its tag and the type of a constant, a static or a field: all that comes before, read
 -- without fault, and then what names it
 pub data IsBeforeType (size : IdSize) : List ℕ → Type 0 where
-  of_constant : (head : ClassHead) (constants : Counted ClassValue) (key : List ℕ) → IsClassHead size head → IsBegun (IsClassValue size 2) constants → length key ≡ 2
+  of_constant : (head : ClassHead) (constants : Counted ClassValue) (key : List ℕ) → IsClassHead size head → IsBegun (IsClassValue size 2) constants
+      → length key ≡ 2
       → IsBeforeType size (class_head_text head ++ counted_text value_text constants ++ key)
   of_static : (head : ClassHead) (constants statics : Counted ClassValue) (key : List ℕ) → IsClassHead size head → IsCounted (IsClassValue size 2) constants
       → IsBegun (IsClassValue size (id_len size)) statics → length key ≡ id_len size
       → IsBeforeType size (class_head_text head ++ counted_text value_text constants ++ counted_text value_text statics ++ key)
-  of_field : (head : ClassHead) (constants statics : Counted ClassValue) (fields : Counted ClassField) (key : List ℕ) → IsClassHead size head → IsCounted (IsClassValue size 2) constants
+  of_field : (head : ClassHead) (constants statics : Counted ClassValue) (fields : Counted ClassField) (key : List ℕ) → IsClassHead size head
+      → IsCounted (IsClassValue size 2) constants
       → IsCounted (IsClassValue size (id_len size)) statics → IsBegun (IsClassField size) fields → length key ≡ id_len size
-      → IsBeforeType size (class_head_text head ++ counted_text value_text constants ++ counted_text value_text statics ++ counted_text field_text fields ++ key)
+      → IsBeforeType size (class_head_text head ++ counted_text value_text constants ++ counted_text value_text statics ++ counted_text field_text fields
+      ++ key)
 
 -- why no sub-record can be read from the front of what is left of a body
 pub data IsStuck (size : IdSize) (rest : List ℕ) : Cause → Type 0 where
@@ -109,5 +116,6 @@ pub data IsReadFault (bytes : List ℕ) : ReadFault → Type 0 where
   in_objects : {f : ReadFault} (size : IdSize) (records : List Record) (segments : List (List SubRecord))
       → HasHeader size bytes → AreRecords size bytes records → AreDumpSubRecords size records segments
       → class_faults (classes_of bytes size records segments) (dump_subs_at size (segment_spans header_len records) segments) ≡ []
-      → slice_get (object_faults (resolved_class (classes_of bytes size records segments)) size (dump_subs_at size (segment_spans header_len records) segments)) 0 ≡ Some f
+      → slice_get (object_faults (resolved_class (classes_of bytes size records segments)) size (dump_subs_at size (segment_spans header_len records) segments))
+      0 ≡ Some f
       → IsReadFault bytes f

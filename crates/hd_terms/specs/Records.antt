@@ -2,7 +2,8 @@
 -- Source: HPROF binary format, JAVA PROFILE 1.0.2, and 1.0.1, as JDK 8 writes it. That all that follows the header of 1.0.1
 -- is read as for 1.0.2 is this project's choice. The header is the zero-terminated text, u4 identifier size, u4 and u4
 -- of time; a record is u1 tag, u4 time, u4 length of the body, the body. Numbers have their highest byte first.
-use Rattle.std.specs.Prelude.{◌≡◌, ℕ, ◌+◌, ◌-◌, ◌*◌, ◌≤◌, Bool, true, ◌||◌, ◌==◌, if◌then◌else◌, List, [], ◌∷◌, ◌++◌, length, take, drop, codes, Option, Some, None}
+use Rattle.std.specs.Prelude.{◌≡◌, ℕ, ◌+◌, ◌-◌, ◌*◌, ◌≤◌, Bool, true, ◌||◌, ◌==◌, if◌then◌else◌, List, [], ◌∷◌, ◌++◌, length, take, drop, codes, Option, Some}
+use Rattle.std.specs.Prelude.{None}
 use Rattle.std.specs.List.{flat_map, filter_map, AllByRecursion}
 use Rattle.std.specs.Str.{bytes_eq}
 use Rattle.byteorder.specs.Endian.{big_number}

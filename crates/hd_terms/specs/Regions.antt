@@ -66,5 +66,6 @@ changed_objects changes = map (λ (d : StrengthChange). d.object) changes
 -- the changes from what was kept to what is kept: the objects whose strength differs, each once, with both strengths
 pub record AreChanges (before after : List Reached) (changes : List StrengthChange) : Type 0 where
   pub once : NoneTwice (changed_objects changes)
-  pub each : (d : StrengthChange) → Contains changes d → ((reached_at before d.object).strength ≡ d.before) × ((reached_at after d.object).strength ≡ d.after) × (d.before ≢ d.after)
+  pub each : (d : StrengthChange) → Contains changes d → ((reached_at before d.object).strength ≡ d.before) × ((reached_at after d.object).strength ≡ d.after)
+      × (d.before ≢ d.after)
   pub all : (o : ℕ) → (reached_at before o).strength ≢ (reached_at after o).strength → Contains (changed_objects changes) o

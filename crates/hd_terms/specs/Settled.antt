@@ -56,7 +56,8 @@ IsSupported g ks o (supports.Edge source slot) = (e : Edge) × SupportedBy g ks 
 pub record Settled (g : Standing) (ks : List Reached) : Type 0 where
   pub supported : (o : ℕ) → IsSupported g ks o (reached_at ks o).support
   pub by_roots : (r : RootEntry) → Contains g.roots r → (reached_at ks r.target).strength ≡ strengths.Strong
-  pub by_edges : (e : Edge) → Contains g.edges e → PassesOn g.mode (reached_at ks e.source) → rank (weaker_of (reached_at ks e.source).strength (given_by e.kind)) ≤ rank (reached_at ks e.target).strength
+  pub by_edges : (e : Edge) → Contains g.edges e → PassesOn g.mode (reached_at ks e.source)
+      → rank (weaker_of (reached_at ks e.source).strength (given_by e.kind)) ≤ rank (reached_at ks e.target).strength
 
 -- the stored chain of an object: supports followed back to a root, written from the root on
 pub record IsStoredChain (g : Standing) (ks : List Reached) (r : RootEntry) (es : List Edge) (o : ℕ) : Type 0 where

@@ -57,10 +57,12 @@ abbrev pub field_slots : IdSize → Option ℕ → EdgeKind → ℕ → List Lay
 field_slots size referent kind i [] values = []
 field_slots size referent kind i (f ∷ fs) values =
     if is_id_type f.code
-    then (record { slot = slots.Field i; kind = field_kind referent kind i; id = big_number (id_len size) values }) ∷ field_slots size referent kind (i + 1) fs (drop (value_len size f.code) values)
+    then (record { slot = slots.Field i; kind = field_kind referent kind i; id = big_number (id_len size) values }) ∷ field_slots size referent kind (i + 1) fs
+    (drop (value_len size f.code) values)
     else field_slots size referent kind (i + 1) fs (drop (value_len size f.code) values)
 
 -- the slots of an instance: its fields, then its class. Of one whose class isn't known, the class alone
 abbrev pub instance_slots : IdSize → Option ResolvedClass → List ℕ → List ℕ → List SlotEntry
 instance_slots size None class values = strong_slot slots.OfClass (big_number (id_len size) class) ∷ []
-instance_slots size (Some k) class values = field_slots size k.referent k.kind 0 k.layout values ++ strong_slot slots.OfClass (big_number (id_len size) class) ∷ []
+instance_slots size (Some k) class values = field_slots size k.referent k.kind 0 k.layout values
+    ++ strong_slot slots.OfClass (big_number (id_len size) class) ∷ []

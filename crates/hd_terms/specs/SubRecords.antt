@@ -140,7 +140,8 @@ pub record AreElements (n : ℕ) (count : List ℕ) (elements : List (List ℕ))
 abbrev pub IsSubRecord : IdSize → SubRecord → Type 0
 IsSubRecord size (RootOf kind id more) = (length id ≡ id_len size) × (length more ≡ root_more size kind)
 IsSubRecord size (ClassDump head constants statics fields) =
-    IsClassHead size head × IsCounted (IsClassValue size 2) constants × IsCounted (IsClassValue size (id_len size)) statics × IsCounted (IsClassField size) fields
+    IsClassHead size head × IsCounted (IsClassValue size 2) constants × IsCounted (IsClassValue size (id_len size)) statics
+    × IsCounted (IsClassField size) fields
 IsSubRecord size (InstanceDump id serial class count values) =
     (length id ≡ id_len size) × (length serial ≡ 4) × (length class ≡ id_len size) × (length count ≡ 4) × (length values ≡ big_number 4 count)
 IsSubRecord size (ObjectArray id serial count class elements) =

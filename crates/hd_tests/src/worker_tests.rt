@@ -1,6 +1,6 @@
 //! Segments on workers: in file order whatever the number of workers, who passes the gate, and that they run at once.
 use hd_decode::{Gate, NoGate, decode, shares_of};
-use hd_graph::open_dump;
+use hd_opening::open_dump;
 use hd_records::read_records;
 use hd_spell::spell;
 use hd_terms::{Mode, Span};

@@ -11,7 +11,8 @@ module _ {T : Type 0} (R : ℕ → T → T → Type 0) where
   pub moved : {i j : ℕ} {x x' y y' : T} → i ≡ j → x ≡ x' → y ≡ y' → R i x y → R j x' y'
   moved {i} {j} {x} {x'} {y} {y'} a b c r = subst (λ k. R k x' y') a (subst (λ u. R i u y') b (subst (R i x) c r))
 
-  pub at_both : (base up : ℕ) (all xs ys xs' ys' : List T) → all ≡ xs ++ ys → length xs' ≡ length xs → up ≡ base + length xs → AtEach base xs xs' → AtEach up ys ys' → AtEach base all (xs' ++ ys')
+  pub at_both : (base up : ℕ) (all xs ys xs' ys' : List T) → all ≡ xs ++ ys → length xs' ≡ length xs → up ≡ base + length xs → AtEach base xs xs'
+      → AtEach up ys ys' → AtEach base all (xs' ++ ys')
   at_both base up all xs ys xs' ys' is same at front back k d lt =
       let read : get_or (xs ++ ys) k d ≡ get_or all k d = sym (ap (λ (zs : List T). get_or zs k d) is) in
       ⊎_elim

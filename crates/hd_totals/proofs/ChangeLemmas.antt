@@ -1,5 +1,6 @@
 -- Totals between two changes: those before have been moved, and those after haven't.
-use Rattle.std.proofs.Common.{◌≡◌, ◌≢◌, ◌∙◌, ℕ, zero, suc, ◌+◌, ◌<◌, ◌≤◌, ◌^◌, Bool, inl, inr, List, [], ◌∷◌, length, get_or, Contains, cond, eqb, eq-eqb, refl, sym, ap, subst, arith}
+use Rattle.std.proofs.Common.{◌≡◌, ◌≢◌, ◌∙◌, ℕ, zero, suc, ◌+◌, ◌<◌, ◌≤◌, ◌^◌, Bool, inl, inr, List, [], ◌∷◌, length, get_or, Contains, cond, eqb, eq-eqb, refl}
+use Rattle.std.proofs.Common.{sym, ap, subst, arith}
 use Rattle.std.proofs.lemmas.Bool.{cases_eq, cases_lt, ne_eqb}
 use Rattle.std.proofs.lemmas.List.{get_or_default}
 use Rattle.hd_terms.specs.declared.Group.{Group}
@@ -27,7 +28,8 @@ object-there (x ∷ ds) (suc j) d lt = Contains-later x.object (get_or ds j d).o
 pub change-there : (ds : List StrengthChange) (j : ℕ) (d : StrengthChange) → j < length ds → Contains ds (get_or ds j d)
 change-there ds j d lt = (j, lt, get_or_default ds j (get_or ds j d) d lt)
 
-apart : (ds : List StrengthChange) (i j : ℕ) (d : StrengthChange) → NoneTwice (changed_objects ds) → i < j → j < length ds → (get_or ds i d).object ≢ (get_or ds j d).object
+apart : (ds : List StrengthChange) (i j : ℕ) (d : StrengthChange) → NoneTwice (changed_objects ds) → i < j → j < length ds
+    → (get_or ds i d).object ≢ (get_or ds j d).object
 apart [] i j d once less lt = absurd (omega arith)
 apart (x ∷ ds) i zero d once less lt = absurd (omega arith)
 apart (x ∷ ds) zero (suc j) d once less lt = λ e. once.0 (subst (λ (o : ℕ). Contains (changed_objects ds) o) (sym e) (object-there ds j d (omega arith)))
@@ -60,7 +62,8 @@ module _ (dump : Dump) (t0 : Totals) (changes : List StrengthChange) (before aft
   }
 
   pub change-within : (i : ℕ) (d : StrengthChange) → i < length changes → (get_or changes i d).object < length dump.objects
-  change-within i d lt = within before after changes h.moved (length dump.objects) h.before_count h.after_count (get_or changes i d).object (object-there changes i d lt)
+  change-within i d lt = within before after changes h.moved (length dump.objects) h.before_count h.after_count (get_or changes i d).object
+      (object-there changes i d lt)
 
   -- one more change
   module _ (i : ℕ) (d0 : StrengthChange) (lt : i < length changes) (t : Totals) (b : IsBetween dump before changes i t) where
@@ -76,27 +79,35 @@ module _ (dump : Dump) (t0 : Totals) (changes : List StrengthChange) (before aft
     now : strength' d.object ≡ d.after
     now = ap (λ (x : Bool). cond x d.after (b.strength d.object)) (eq-eqb d.object d.object refl)
 
-    pub one-done : (t' : Totals) → IsRowPut t t' (group_key (object_at dump d.object).group) (plus_one (less_one (row_at t (group_key (object_at dump d.object).group)) d.before (object_at dump d.object).bytes) d.after (object_at dump d.object).bytes)
+    pub one-done : (t' : Totals) → IsRowPut t t' (group_key (object_at dump d.object).group)
+        (plus_one (less_one (row_at t (group_key (object_at dump d.object).group)) d.before (object_at dump d.object).bytes) d.after
+        (object_at dump d.object).bytes)
         → IsBetween dump before changes (i + 1) t'
     one-done t' put = record {
       strength = strength';
       totals = one-moved dump b.strength (length dump.objects) t b.totals d.object (change-within i d0 lt) strength' still t' put';
       done = done;
       to_do = to_do;
-      others = λ o none. sym (still o (λ same. none (subst (λ (x : ℕ). Contains (changed_objects changes) x) (sym same) (object-there changes i d0 lt)))) ∙ b.others o none;
+      others = λ o none. sym (still o (λ same. none (subst (λ (x : ℕ). Contains (changed_objects changes) x) (sym same) (object-there changes i d0 lt))))
+          ∙ b.others o none;
     }
       where
         group : ℕ
         group = group_key (object_at dump d.object).group
 
-        put' : IsRowPut t t' group (plus_one (less_one (row_at t group) (b.strength d.object) (object_at dump d.object).bytes) (strength' d.object) (object_at dump d.object).bytes)
-        put' = subst (λ (s : Strength). IsRowPut t t' group (plus_one (less_one (row_at t group) s (object_at dump d.object).bytes) (strength' d.object) (object_at dump d.object).bytes)) (sym (b.to_do i d0 (omega arith) lt))
-            (subst (λ (s : Strength). IsRowPut t t' group (plus_one (less_one (row_at t group) d.before (object_at dump d.object).bytes) s (object_at dump d.object).bytes)) (sym now) put)
+        put' : IsRowPut t t' group (plus_one (less_one (row_at t group) (b.strength d.object) (object_at dump d.object).bytes) (strength' d.object)
+            (object_at dump d.object).bytes)
+        put' = subst (λ (s : Strength). IsRowPut t t' group
+            (plus_one (less_one (row_at t group) s (object_at dump d.object).bytes) (strength' d.object) (object_at dump d.object).bytes))
+            (sym (b.to_do i d0 (omega arith) lt))
+            (subst (λ (s : Strength). IsRowPut t t' group
+            (plus_one (less_one (row_at t group) d.before (object_at dump d.object).bytes) s (object_at dump d.object).bytes)) (sym now) put)
 
         done : (j : ℕ) (e : StrengthChange) → j < i + 1 → j < length changes → strength' (get_or changes j e).object ≡ (get_or changes j e).after
         done j e less within = elim (cases_lt j i) [
           | inl earlier ↦
-              let other : (get_or changes j e).object ≢ d.object = λ same. apart changes j i d0 h.moved.once earlier lt (ap (λ (x : StrengthChange). x.object) (get_or_default changes j d0 e within) ∙ same) in
+              let other : (get_or changes j e).object ≢ d.object = λ same. apart changes j i d0 h.moved.once earlier lt
+              (ap (λ (x : StrengthChange). x.object) (get_or_default changes j d0 e within) ∙ same) in
               sym (still (get_or changes j e).object other) ∙ b.done j e earlier within
           | inr after ↦
               let same : j ≡ i = omega arith in
@@ -106,11 +117,13 @@ module _ (dump : Dump) (t0 : Totals) (changes : List StrengthChange) (before aft
 
         to_do : (j : ℕ) (e : StrengthChange) → i + 1 ≤ j → j < length changes → strength' (get_or changes j e).object ≡ (get_or changes j e).before
         to_do j e le within =
-            let other : (get_or changes j e).object ≢ d.object = λ same. apart changes i j d0 h.moved.once (omega arith) within (sym (ap (λ (x : StrengthChange). x.object) (get_or_default changes j d0 e within) ∙ same)) in
+            let other : (get_or changes j e).object ≢ d.object = λ same. apart changes i j d0 h.moved.once (omega arith) within
+            (sym (ap (λ (x : StrengthChange). x.object) (get_or_default changes j d0 e within) ∙ same)) in
             sym (still (get_or changes j e).object other) ∙ b.to_do j e (omega arith) within
 
     -- the change as it is read
-    module _ (group : Group) (group_is : group ≡ (object_at dump d.object).group) (size : ℕ) (size_is : size ≡ (object_at dump d.object).bytes) (s : Strength) (s_is : s ≡ d.before) (s' : Strength) (s'_is : s' ≡ d.after) where
+    module _ (group : Group) (group_is : group ≡ (object_at dump d.object).group) (size : ℕ) (size_is : size ≡ (object_at dump d.object).bytes) (s : Strength)
+        (s_is : s ≡ d.before) (s' : Strength) (s'_is : s' ≡ d.after) where
       inside : d.object < length dump.objects
       inside = change-within i d0 lt
 
@@ -121,7 +134,9 @@ module _ (dump : Dump) (t0 : Totals) (changes : List StrengthChange) (before aft
       was = b.to_do i d0 (omega arith) lt ∙ sym s_is
 
       pub ready : IsReady t group size s s'
-      ready = subst (λ (g : Group). IsReady t g size s s') (sym group_is) (subst (λ (n : ℕ). IsReady t (object_at dump d.object).group n s s') (sym size_is) (subst (λ (x : Strength). IsReady t (object_at dump d.object).group (object_at dump d.object).bytes x s') was there))
+      ready = subst (λ (g : Group). IsReady t g size s s') (sym group_is)
+          (subst (λ (n : ℕ). IsReady t (object_at dump d.object).group n s s') (sym size_is)
+          (subst (λ (x : Strength). IsReady t (object_at dump d.object).group (object_at dump d.object).bytes x s') was there))
         where
           there : IsReady t (object_at dump d.object).group (object_at dump d.object).bytes (b.strength d.object) s'
           there = record {
@@ -129,12 +144,20 @@ module _ (dump : Dump) (t0 : Totals) (changes : List StrengthChange) (before aft
             count = one-there dump b.strength (length dump.objects) t b.totals d.object inside;
             size = bytes-there dump b.strength (length dump.objects) t b.totals d.object inside;
             count_room = omega (arith, few-objects dump b.strength (length dump.objects) t b.totals (object_at dump d.object).group s' range, b.totals.few);
-            size_room = omega (arith, few-bytes dump b.strength (length dump.objects) t b.totals (object_at dump d.object).group s' range, b.totals.few, b.totals.small d.object inside);
+            size_room = omega (
+              arith,
+              few-bytes dump b.strength (length dump.objects) t b.totals
+                  (object_at dump d.object).group s' range,
+              b.totals.few,
+              b.totals.small d.object inside,
+            );
           }
 
-      pub one-done-with : (t' : Totals) → IsRowPut t t' (group_key group) (plus_one (less_one (row_at t (group_key group)) s size) s' size) → IsBetween dump before changes (i + 1) t'
+      pub one-done-with : (t' : Totals) → IsRowPut t t' (group_key group) (plus_one (less_one (row_at t (group_key group)) s size) s' size)
+          → IsBetween dump before changes (i + 1) t'
       one-done-with t' put = one-done t'
-          (subst (λ (g : Group). IsRowPut t t' (group_key g) (plus_one (less_one (row_at t (group_key g)) d.before (object_at dump d.object).bytes) d.after (object_at dump d.object).bytes)) group_is
+          (subst (λ (g : Group). IsRowPut t t' (group_key g)
+          (plus_one (less_one (row_at t (group_key g)) d.before (object_at dump d.object).bytes) d.after (object_at dump d.object).bytes)) group_is
           (subst (λ (n : ℕ). IsRowPut t t' (group_key group) (plus_one (less_one (row_at t (group_key group)) d.before n) d.after n)) size_is
           (subst (λ (x : Strength). IsRowPut t t' (group_key group) (plus_one (less_one (row_at t (group_key group)) x size) d.after size)) s_is
           (subst (λ (x : Strength). IsRowPut t t' (group_key group) (plus_one (less_one (row_at t (group_key group)) s size) x size)) s'_is put))))

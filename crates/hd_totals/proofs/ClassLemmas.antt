@@ -1,5 +1,6 @@
 -- The rows of the groups that have objects of a strength.
-use Rattle.std.proofs.Common.{◌≡◌, ◌∙◌, ℕ, zero, suc, ◌+◌, ◌<◌, ◌≤◌, Bool, true, ◌&&◌, inl, inr, List, [], ◌∷◌, ◌++◌, length, map, get_or, Contains, Some, slice_get, eq-eqb, refl, sym, ap, subst, arith, true≢false}
+use Rattle.std.proofs.Common.{◌≡◌, ◌∙◌, ℕ, zero, suc, ◌+◌, ◌<◌, ◌≤◌, Bool, true, ◌&&◌, inl, inr, List, [], ◌∷◌, ◌++◌, length, map, get_or, Contains, Some}
+use Rattle.std.proofs.Common.{slice_get, eq-eqb, refl, sym, ap, subst, arith, true≢false}
 use Rattle.std.specs.Cmp.{nat_eq_equiv}
 use Rattle.std.specs.Prelude.{All, nat_eq}
 use Rattle.std.specs.List.{IsDistinct, list_any}
@@ -77,25 +78,36 @@ module _ (t : Totals) (s : Strength) (i : ℕ) (distinct : IsDistinct nat_eq t.k
       found = λ k c. further k (h.found k c);
       all = λ j less some. elim (cases_lt j i) [
         | inl before ↦ h.all j before some
-        | inr after ↦ let same : j ≡ i = omega arith in absurd (let zero_is = ap (λ (x : ℕ). (total_for (get_or t.rows x no_totals) s).count) same in omega (arith, zero_is, none, some))
+        | inr after ↦ let same : j ≡ i = omega arith in
+            absurd (let zero_is = ap (λ (x : ℕ). (total_for (get_or t.rows x no_totals) s).count) same in omega (arith, zero_is, none, some))
       ];
     }
 
     -- a group with some
-    pub row-with : (row : ClassRow) → InRange row.group → group_key row.group ≡ key → row.count ≡ (total_for totals s).count → row.bytes ≡ (total_for totals s).bytes → 1 ≤ row.count → AreRowsBefore t s (i + 1) (rows ++ row ∷ [])
+    pub row-with : (row : ClassRow) → InRange row.group → group_key row.group ≡ key → row.count ≡ (total_for totals s).count
+        → row.bytes ≡ (total_for totals s).bytes → 1 ≤ row.count → AreRowsBefore t s (i + 1) (rows ++ row ∷ [])
     row-with row range key_is count_is bytes_is some = record {
       distinct = subst (IsDistinct nat_eq) (sym pushed) (distinct-push (map row_key rows) (row_key row) h.distinct new);
-      each = All-push (IsRowOf t s) rows row h.each (record { range = range; count_is = count_is ∙ sym (ap (λ (x : StrengthTotals). (total_for x s).count) at); bytes_is = bytes_is ∙ sym (ap (λ (x : StrengthTotals). (total_for x s).bytes) at); some = some });
+      each = All-push (IsRowOf t s) rows row h.each
+          (record {
+            range = range;
+            count_is = count_is ∙ sym (ap (λ (x : StrengthTotals). (total_for x s).count) at);
+            bytes_is = bytes_is
+                ∙ sym (ap (λ (x : StrengthTotals). (total_for x s).bytes) at);
+            some = some;
+          });
       found = λ k c. elim (Contains-push_cases (map row_key rows) (row_key row) k (subst (λ (ks : List ℕ). Contains ks k) pushed c)) [
         | inl old ↦ further k (h.found k old)
         | inr same ↦ (i, omega arith, sym key_is ∙ same)
       ];
       all = λ j less more. elim (cases_lt j i) [
-        | inl before ↦ subst (λ (ks : List ℕ). Contains ks (get_or t.keys j 0)) (sym pushed) (Contains-append_left (map row_key rows) (row_key row ∷ []) (get_or t.keys j 0) (h.all j before more))
+        | inl before ↦ subst (λ (ks : List ℕ). Contains ks (get_or t.keys j 0)) (sym pushed)
+            (Contains-append_left (map row_key rows) (row_key row ∷ []) (get_or t.keys j 0) (h.all j before more))
         | inr after ↦
             let same : i ≡ j = omega arith in
             subst (λ (x : ℕ). Contains (map row_key (rows ++ row ∷ [])) (get_or t.keys x 0)) same
-            (subst (λ (k : ℕ). Contains (map row_key (rows ++ row ∷ [])) k) key_is (subst (λ (ks : List ℕ). Contains ks (row_key row)) (sym pushed) (Contains-push (map row_key rows) (row_key row))))
+            (subst (λ (k : ℕ). Contains (map row_key (rows ++ row ∷ [])) k) key_is
+            (subst (λ (ks : List ℕ). Contains ks (row_key row)) (sym pushed) (Contains-push (map row_key rows) (row_key row))))
       ];
     }
       where
@@ -111,17 +123,21 @@ module _ (t : Totals) (s : Strength) (i : ℕ) (distinct : IsDistinct nat_eq t.k
             true≢false (sym (eq-eqb key (get_or t.keys old.0 0) (sym (old.2 ∙ key_is))) ∙ before-key t i distinct whole lt old.0 old.1)
 
 -- one more group, as it is read
-pub gather-step : (u t : Totals) → u ≡ t → (s : Strength) (i : ℕ) (keys : List ℕ) → keys ≡ u.keys → IsDistinct nat_eq keys → length u.rows ≡ length u.keys → i < length u.rows
+pub gather-step : (u t : Totals) → u ≡ t → (s : Strength) (i : ℕ) (keys : List ℕ) → keys ≡ u.keys → IsDistinct nat_eq keys → length u.rows ≡ length u.keys
+    → i < length u.rows
     → (rows : List ClassRow) → AreRowsBefore t s i rows → (totals : StrengthTotals) → slice_get u.rows i ≡ Some totals → (key : ℕ) → slice_get keys i ≡ Some key
     → ((total_for totals s).count ≡ 0 → AreRowsBefore t s (i + 1) rows)
-    × ((row : ClassRow) → InRange row.group → group_key row.group ≡ key → row.count ≡ (total_for totals s).count → row.bytes ≡ (total_for totals s).bytes → 1 ≤ row.count → AreRowsBefore t s (i + 1) (rows ++ row ∷ []))
+    × ((row : ClassRow) → InRange row.group → group_key row.group ≡ key → row.count ≡ (total_for totals s).count → row.bytes ≡ (total_for totals s).bytes
+    → 1 ≤ row.count → AreRowsBefore t s (i + 1) (rows ++ row ∷ []))
 gather-step u t is s i keys keys_are distinct whole lt rows h totals read key read_key = subst
     (λ (x : Totals). AreRowsBefore x s i rows → ((total_for totals s).count ≡ 0 → AreRowsBefore x s (i + 1) rows)
-    × ((row : ClassRow) → InRange row.group → group_key row.group ≡ key → row.count ≡ (total_for totals s).count → row.bytes ≡ (total_for totals s).bytes → 1 ≤ row.count → AreRowsBefore x s (i + 1) (rows ++ row ∷ []))) is
+    × ((row : ClassRow) → InRange row.group → group_key row.group ≡ key → row.count ≡ (total_for totals s).count → row.bytes ≡ (total_for totals s).bytes
+    → 1 ≤ row.count → AreRowsBefore x s (i + 1) (rows ++ row ∷ []))) is
     (λ g. (
       λ none. row-without u s i distinct' whole lt rows g (ap (λ (x : StrengthTotals). (total_for x s).count) here ∙ none),
       λ row range key_is count_is bytes_is some.
-          row-with u s i distinct' whole lt rows g row range (key_is ∙ sym here_key) (count_is ∙ ap (λ (x : StrengthTotals). (total_for x s).count) (sym here)) (bytes_is ∙ ap (λ (x : StrengthTotals). (total_for x s).bytes) (sym here)) some,
+          row-with u s i distinct' whole lt rows g row range (key_is ∙ sym here_key) (count_is ∙ ap (λ (x : StrengthTotals). (total_for x s).count) (sym here))
+          (bytes_is ∙ ap (λ (x : StrengthTotals). (total_for x s).bytes) (sym here)) some,
     )) h
   where
     distinct' : IsDistinct nat_eq u.keys
@@ -134,7 +150,8 @@ gather-step u t is s i keys keys_are distinct whole lt rows h totals read key re
     here_key = ap (λ (ks : List ℕ). get_or ks i 0) (sym keys_are) ∙ get_or_from_slice_get keys i key 0 read_key
 
 -- the rows in order
-module _ (t : Totals) (s : Strength) (whole : length t.rows ≡ length t.keys) (rows sorted : List ClassRow) (h : AreRowsBefore t s (length t.rows) rows) (moved : IsPermutation rows sorted) where
+module _ (t : Totals) (s : Strength) (whole : length t.rows ≡ length t.keys) (rows sorted : List ClassRow) (h : AreRowsBefore t s (length t.rows) rows)
+    (moved : IsPermutation rows sorted) where
   each : All (IsRowOf t s) sorted
   each = All-permutation (IsRowOf t s) rows sorted moved h.each
 
@@ -144,29 +161,35 @@ module _ (t : Totals) (s : Strength) (whole : length t.rows ≡ length t.keys) (
       let within : j < length sorted = omega (arith, lt, length-map sorted row_key) in
       omega (arith, up i j none le within, get_or-map row_key sorted i none d (omega arith), get_or-map row_key sorted j none d within)
 
-  is-there : (group : Group) → InRange group → place_of t (group_key group) < length t.rows → 1 ≤ (total_in t group s).count → Contains (map row_group sorted) group
+  is-there : (group : Group) → InRange group → place_of t (group_key group) < length t.rows → 1 ≤ (total_in t group s).count
+      → Contains (map row_group sorted) group
   is-there group range lt some =
       let c = h.all (place_of t (group_key group)) lt some in
-      let c' : Contains (map row_key rows) (group_key group) = subst (λ (k : ℕ). Contains (map row_key rows) k) (at-place (group_key group) t.keys (omega arith)) c in
-      let found = row-of sorted (group_key group) (Contains-permutation (map row_key rows) (map row_key sorted) (group_key group) (IsPermutation-map row_key rows sorted moved) c') in
+      let c' : Contains (map row_key rows) (group_key group) = subst (λ (k : ℕ). Contains (map row_key rows) k)
+      (at-place (group_key group) t.keys (omega arith)) c in
+      let found = row-of sorted (group_key group)
+      (Contains-permutation (map row_key rows) (map row_key sorted) (group_key group) (IsPermutation-map row_key rows sorted moved) c') in
       let row = found.0 in
       let is : row.group ≡ group = one-key row.group group (All-contains (IsRowOf t s) sorted row each found.1).range range found.2 in
       subst (λ (g : Group). Contains (map row_group sorted) g) is (contains-map row_group sorted row found.1)
 
   pub rows-of : IsNonDecreasingBy row_key sorted → AreRowsOf t s sorted
   rows-of up = record {
-    in_order = IsStrictlyIncreasing-from_distinct (map row_key sorted) (rises up) (IsDistinct-IsPermutation nat_eq eqb-flips (map row_key rows) (map row_key sorted) (IsPermutation-map row_key rows sorted moved) h.distinct);
+    in_order = IsStrictlyIncreasing-from_distinct (map row_key sorted) (rises up)
+        (IsDistinct-IsPermutation nat_eq eqb-flips (map row_key rows) (map row_key sorted) (IsPermutation-map row_key rows sorted moved) h.distinct);
     each = each;
     all = λ group range some. elim (cases_lt (place_of t (group_key group)) (length t.rows)) [
       | inl lt ↦ is-there group range lt some
       | inr past ↦
-          let none : (total_in t group s).count ≡ 0 = ap (λ (x : StrengthTotals). (total_for x s).count) (get_or_past t.rows (place_of t (group_key group)) no_totals past) ∙ ap (λ total. total.count) (total-none s) in
+          let none : (total_in t group s).count ≡ 0 = ap (λ (x : StrengthTotals). (total_for x s).count)
+          (get_or_past t.rows (place_of t (group_key group)) no_totals past) ∙ ap (λ total. total.count) (total-none s) in
           absurd (omega arith)
     ];
   }
 
 -- the rows by what is kept of the objects
-pub member-rows : (t : Totals) (s : Strength) (rows : List ClassRow) → AreRowsOf t s rows → (dump : Dump) (ks : List Reached) → AreTotals dump ks t → AreMemberRows dump ks s rows
+pub member-rows : (t : Totals) (s : Strength) (rows : List ClassRow) → AreRowsOf t s rows → (dump : Dump) (ks : List Reached) → AreTotals dump ks t
+    → AreMemberRows dump ks s rows
 member-rows t s rows h dump ks totals = record {
   in_order = h.in_order;
   each = All-weaker (IsRowOf t s) (IsMemberRow dump ks s) member rows h.each;
@@ -187,4 +210,5 @@ member-rows t s rows h dump ks totals = record {
     all o lt kept =
         let g = (object_at dump o).group in
         let passes : is_member dump ks g s o ≡ true = ap (λ (b : Bool). has_kept ks s o && b) (itself g) ∙ and-true (has_kept ks s o) ∙ kept in
-        h.all g (totals.in_range o lt) (subst (λ (n : ℕ). 1 ≤ n) (sym (totals.counts g s (totals.in_range o lt))) (count-term (is_member dump ks g s) o (length dump.objects) lt passes))
+        h.all g (totals.in_range o lt)
+        (subst (λ (n : ℕ). 1 ≤ n) (sym (totals.counts g s (totals.in_range o lt))) (count-term (is_member dump ks g s) o (length dump.objects) lt passes))

@@ -1,5 +1,6 @@
 -- Totals of some of the objects: one more is counted, and two parts are joined.
-use Rattle.std.proofs.Common.{◌≡◌, ◌≢◌, ◌∙◌, ℕ, suc, ◌+◌, ◌-◌, ◌%◌, ◌<◌, ◌≤◌, ◌^◌, Bool, inl, inr, List, [], length, get_or, Contains, refl, sym, ap, subst, arith}
+use Rattle.std.proofs.Common.{◌≡◌, ◌≢◌, ◌∙◌, ℕ, suc, ◌+◌, ◌-◌, ◌%◌, ◌<◌, ◌≤◌, ◌^◌, Bool, inl, inr, List, [], length, get_or, Contains, refl, sym, ap, subst}
+use Rattle.std.proofs.Common.{arith}
 use Rattle.std.specs.Prelude.{count_by, nat_eq, sum_by}
 use Rattle.std.specs.List.{IsDistinct, range_with_len}
 use Rattle.std.proofs.lemmas.Bool.{cases_eq, cases_lt}
@@ -44,7 +45,8 @@ none-between dump strength start = record {
 -- one more object
 module _ (dump : Dump) (strength : ℕ → Strength) (start k : ℕ) (t t' : Totals) (h : AreTotalsBetween dump strength start k t) (order : start ≤ k)
     (range : InRange (object_at dump k).group) (small : (object_at dump k).bytes ≤ largest_file)
-    (put : IsRowPut t t' (group_key (object_at dump k).group) (plus_one (row_at t (group_key (object_at dump k).group)) (strength k) (object_at dump k).bytes)) where
+    (put : IsRowPut t t' (group_key (object_at dump k).group)
+    (plus_one (row_at t (group_key (object_at dump k).group)) (strength k) (object_at dump k).bytes)) where
   next : k + 1 ≡ suc k
   next = omega arith
 
@@ -74,7 +76,8 @@ module _ (dump : Dump) (strength : ℕ → Strength) (start k : ℕ) (t t' : Tot
     light = λ group s r.
         let one = (one-counted dump strength k t t' range put group s r).1 in
         omega (arith, one, h.light group s r, cond-le (counts_for dump strength group s k) (object_at dump k).bytes largest_file small);
-    grouped = here (λ o. Contains t'.keys (group_key (object_at dump o).group)) (λ o le lt. put.kept (group_key (object_at dump o).group) (h.grouped o le lt)) put.there;
+    grouped = here (λ o. Contains t'.keys (group_key (object_at dump o).group))
+        (λ o le lt. put.kept (group_key (object_at dump o).group) (h.grouped o le lt)) put.there;
     in_range = here (λ o. InRange (object_at dump o).group) h.in_range range;
     small = here (λ o. (object_at dump o).bytes ≤ largest_file) h.small small;
     few_keys = omega (arith, put.few, h.few_keys);
@@ -92,7 +95,8 @@ group-of key le = elim (cases_lt key 18446744073709551616) [
 ]
 
 -- the totals of one further key are added
-module _ (one other : Totals) (i : ℕ) (both : Totals) (h : AreJoining one other i both) (distinct : IsDistinct nat_eq other.keys) (whole : length other.rows ≡ length other.keys) (lt : i < length other.rows) where
+module _ (one other : Totals) (i : ℕ) (both : Totals) (h : AreJoining one other i both) (distinct : IsDistinct nat_eq other.keys)
+    (whole : length other.rows ≡ length other.keys) (lt : i < length other.rows) where
   abbrev key : ℕ
   key = get_or other.keys i 0
 
@@ -111,13 +115,15 @@ module _ (one other : Totals) (i : ℕ) (both : Totals) (h : AreJoining one othe
 
   -- no sum is too great, where none of a group's is
   module _ (small : key ≤ 18446744073709551872) (s : Strength) where
-    pub count-fits : ((group : Group) (s : Strength) → InRange group → (total_in one group s).count + (total_in other group s).count < 2 ^ 64) → (total_for (row_at both key) s).count + (total_for further s).count < 2 ^ 64
+    pub count-fits : ((group : Group) (s : Strength) → InRange group → (total_in one group s).count + (total_in other group s).count < 2 ^ 64)
+        → (total_for (row_at both key) s).count + (total_for further s).count < 2 ^ 64
     count-fits all =
         let of = group-of key small in
         let here = subst (λ (k : ℕ). (total_for (row_at one k) s).count + (total_for (row_at other k) s).count < 2 ^ 64) of.2 (all of.0 s of.1) in
         omega (arith, here, ap (λ (x : StrengthTotals). (total_for x s).count) row-before, ap (λ (x : StrengthTotals). (total_for x s).count) row-further)
 
-    pub bytes-fit-in : ((group : Group) (s : Strength) → InRange group → (total_in one group s).bytes + (total_in other group s).bytes < 2 ^ 64) → (total_for (row_at both key) s).bytes + (total_for further s).bytes < 2 ^ 64
+    pub bytes-fit-in : ((group : Group) (s : Strength) → InRange group → (total_in one group s).bytes + (total_in other group s).bytes < 2 ^ 64)
+        → (total_for (row_at both key) s).bytes + (total_for further s).bytes < 2 ^ 64
     bytes-fit-in all =
         let of = group-of key small in
         let here = subst (λ (k : ℕ). (total_for (row_at one k) s).bytes + (total_for (row_at other k) s).bytes < 2 ^ 64) of.2 (all of.0 s of.1) in
@@ -181,7 +187,8 @@ joined-all one other both whole h = record {
 }
 
 -- two parts, of which one begins where the other ends
-module _ (dump : Dump) (strength : ℕ → Strength) (start middle end : ℕ) (one other : Totals) (first : AreTotalsBetween dump strength start middle one) (second : AreTotalsBetween dump strength middle end other) where
+module _ (dump : Dump) (strength : ℕ → Strength) (start middle end : ℕ) (one other : Totals) (first : AreTotalsBetween dump strength start middle one)
+    (second : AreTotalsBetween dump strength middle end other) where
   pub counts-fit : end < 2 ^ 32 → (group : Group) (s : Strength) → InRange group → (total_in one group s).count + (total_in other group s).count < 2 ^ 64
   counts-fit few group s r = omega (arith, first.few group s r, second.few group s r)
 
@@ -197,7 +204,8 @@ module _ (dump : Dump) (strength : ℕ → Strength) (start middle end : ℕ) (o
     bytes-is group s = ap (λ (x : StrengthTotals). (total_for x s).bytes) (j.sums (group_key group))
         ∙ ap (λ (t : Total). t.bytes) (total-sums (row_at one (group_key group)) (row_at other (group_key group)) s)
 
-    either : (Holds : ℕ → Type 0) → ((o : ℕ) → start ≤ o → o < middle → Holds o) → ((o : ℕ) → middle ≤ o → o < end → Holds o) → (o : ℕ) → start ≤ o → o < end → Holds o
+    either : (Holds : ℕ → Type 0) → ((o : ℕ) → start ≤ o → o < middle → Holds o) → ((o : ℕ) → middle ≤ o → o < end → Holds o) → (o : ℕ) → start ≤ o → o < end
+        → Holds o
     either Holds low high o le lt = elim (cases_lt o middle) [
       | inl below ↦ low o le below
       | inr above ↦ high o (omega arith) lt
@@ -210,7 +218,8 @@ module _ (dump : Dump) (strength : ℕ → Strength) (start middle end : ℕ) (o
       few = λ group s r. omega (arith, count-is group s, first.few group s r, second.few group s r);
       light = λ group s r. omega (arith, bytes-is group s, first.light group s r, second.light group s r);
       grouped = either (λ o. Contains both.keys (group_key (object_at dump o).group))
-          (λ o le lt. j.first (group_key (object_at dump o).group) (first.grouped o le lt)) (λ o le lt. j.second (group_key (object_at dump o).group) (second.grouped o le lt));
+          (λ o le lt. j.first (group_key (object_at dump o).group) (first.grouped o le lt))
+          (λ o le lt. j.second (group_key (object_at dump o).group) (second.grouped o le lt));
       in_range = either (λ o. InRange (object_at dump o).group) first.in_range second.in_range;
       small = either (λ o. (object_at dump o).bytes ≤ largest_file) first.small second.small;
       few_keys = omega (arith, j.few_keys, first.few_keys, second.few_keys);
@@ -218,24 +227,41 @@ module _ (dump : Dump) (strength : ℕ → Strength) (start middle end : ℕ) (o
     }
 
 -- two shares, of which one begins where the other ends, and both with a page
-module _ (dump : Dump) (ks : List Reached) (start middle end : ℕ) (one other : Share) (first : IsShare dump ks start middle one) (second : IsShare dump ks middle end other) where
+module _ (dump : Dump) (ks : List Reached) (start middle end : ℕ) (one other : Share) (first : IsShare dump ks start middle one)
+    (second : IsShare dump ks middle end other) where
   pub both-shares : (both : Share) → start % 1024 ≡ 0 → middle % 1024 ≡ 0 → start ≤ middle → middle ≤ end → AreWhole one.pages
       → AreJoined (totals_of one.counted) (totals_of other.counted) (totals_of both.counted) → both.pages ≡ pages_behind one.pages other.pages
       → IsShare dump ks start end both
   both-shares both begins next order within whole j is = record {
-    counted = both-between dump (strength_in ks) start middle end (totals_of one.counted) (totals_of other.counted) first.counted second.counted (totals_of both.counted) j;
-    room = omega (arith, ap (λ (p : PageMarks). length p.least) is, length-append one.pages.least other.pages.least, first.room, second.room, begins, next, order, within);
-    noted = λ o le lt. subst (λ (p : PageMarks). IsNoted p (page_of o - page_of start) (object_at dump o).group (object_at dump o).id) (sym is) (elim (cases_lt o middle) [
-      | inl below ↦ noted-earlier one.pages other.pages whole (page_of o - page_of start) (object_at dump o).group (object_at dump o).id (omega (arith, first.room, begins, next, le, below)) (first.noted o le below)
-      | inr above ↦
-          let later = noted-later one.pages other.pages whole (page_of o - page_of middle) (object_at dump o).group (object_at dump o).id (second.noted o (omega arith) lt) in
-          let page : length one.pages.least + (page_of o - page_of middle) ≡ page_of o - page_of start = omega (arith, first.room, begins, next, order, above) in
-          subst (λ (n : ℕ). IsNoted (pages_behind one.pages other.pages) n (object_at dump o).group (object_at dump o).id) page later
-    ]);
+    counted = both-between dump (strength_in ks) start middle end (totals_of one.counted) (totals_of other.counted) first.counted second.counted
+        (totals_of both.counted) j;
+    room = omega (
+      arith,
+      ap (λ (p : PageMarks). length p.least) is,
+      length-append one.pages.least other.pages.least,
+      first.room,
+      second.room,
+      begins,
+      next,
+      order,
+      within,
+    );
+    noted = λ o le lt. subst (λ (p : PageMarks). IsNoted p (page_of o - page_of start) (object_at dump o).group (object_at dump o).id) (sym is)
+        (elim (cases_lt o middle) [
+          | inl below ↦ noted-earlier one.pages other.pages whole (page_of o - page_of start) (object_at dump o).group (object_at dump o).id
+              (omega (arith, first.room, begins, next, le, below)) (first.noted o le below)
+          | inr above ↦
+              let later = noted-later one.pages other.pages whole (page_of o - page_of middle) (object_at dump o).group (object_at dump o).id
+              (second.noted o (omega arith) lt) in
+              let page : length one.pages.least + (page_of o - page_of middle) ≡ page_of o - page_of start =
+              omega (arith, first.room, begins, next, order, above) in
+              subst (λ (n : ℕ). IsNoted (pages_behind one.pages other.pages) n (object_at dump o).group (object_at dump o).id) page later
+        ]);
   }
 
 -- all objects
-pub all-counted : (dump : Dump) (ks : List Reached) (t : Totals) → AreTotalsBetween dump (strength_in ks) 0 (length dump.objects) t → length dump.objects < 2 ^ 32 → AreTotals dump ks t
+pub all-counted : (dump : Dump) (ks : List Reached) (t : Totals) → AreTotalsBetween dump (strength_in ks) 0 (length dump.objects) t
+    → length dump.objects < 2 ^ 32 → AreTotals dump ks t
 all-counted dump ks t h few = record {
   counts = λ group s r. omega (arith, h.counts group s r);
   bytes = λ group s r. omega (arith, h.bytes group s r);

@@ -26,14 +26,16 @@ change-of (d ∷ ds) o c = elim (cons-cases d.object (changed_objects ds) o c) [
 ]
 
 -- a test of the objects of changes, and one of the changes
-counted-changes : (p : ℕ → Bool) (q : StrengthChange → Bool) (ds : List StrengthChange) → ((d : StrengthChange) → Contains ds d → p d.object ≡ q d) → count_by p (changed_objects ds) ≡ count_by q ds
+counted-changes : (p : ℕ → Bool) (q : StrengthChange → Bool) (ds : List StrengthChange) → ((d : StrengthChange) → Contains ds d → p d.object ≡ q d)
+    → count_by p (changed_objects ds) ≡ count_by q ds
 counted-changes p q [] same = refl
 counted-changes p q (d ∷ ds) same =
     let here : one_if (p d.object) ≡ one_if (q d) = ap one_if (same d (first-change d ds)) in
     let later : count_by p (changed_objects ds) ≡ count_by q ds = counted-changes p q ds (λ x c. same x (later-change d ds x c)) in
     omega (arith, count_cons p d.object (changed_objects ds), count_cons q d ds)
 
-module _ (before after : List Reached) (changes : List StrengthChange) (h : AreChanges before after changes) (n : ℕ) (before_count : length before ≡ n) (after_count : length after ≡ n) where
+module _ (before after : List Reached) (changes : List StrengthChange) (h : AreChanges before after changes) (n : ℕ) (before_count : length before ≡ n)
+    (after_count : length after ≡ n) where
   -- past the last object nothing changes
   pub within : (o : ℕ) → Contains (changed_objects changes) o → o < n
   within o c = elim (cases_lt o n) [
@@ -49,8 +51,10 @@ module _ (before after : List Reached) (changes : List StrengthChange) (h : AreC
 
   -- a test that no object passes whose strength stays
   pub count-changes : (f : Strength → Strength → Bool) → ((s : Strength) → f s s ≡ false)
-      → count_by (λ (o : ℕ). f (reached_at before o).strength (reached_at after o).strength) (range_with_len 0 n) ≡ count_by (λ (d : StrengthChange). f d.before d.after) changes
-  count-changes f stays = count-listed p n (changed_objects changes) h.once within listed ∙ counted-changes p (λ (d : StrengthChange). f d.before d.after) changes same
+      → count_by (λ (o : ℕ). f (reached_at before o).strength (reached_at after o).strength) (range_with_len 0 n) ≡ count_by
+      (λ (d : StrengthChange). f d.before d.after) changes
+  count-changes f stays = count-listed p n (changed_objects changes) h.once within listed
+      ∙ counted-changes p (λ (d : StrengthChange). f d.before d.after) changes same
     where
       p : ℕ → Bool
       p o = f (reached_at before o).strength (reached_at after o).strength

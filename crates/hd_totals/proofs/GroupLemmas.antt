@@ -58,5 +58,9 @@ same-keys gs hs ranges others keys group (k, lt, is) =
     let key = group_key group in
     let at = keys key (k, omega (arith, lt, length-map gs group_key), get_or-map group_key gs k group key lt ∙ ap group_key is) in
     let within : at.0 < length hs = let less = at.1 in omega (arith, less, length-map hs group_key) in
-    let found = get_or hs at.0 group in
-    (at.0, within, one-key found group (others at.0 group within) (subst InRange is (ranges k group lt)) (sym (get_or-map group_key hs at.0 group key within) ∙ at.2))
+    let found = get_or hs at.0 group in (
+      at.0,
+      within,
+      one-key found group (others at.0 group within) (subst InRange is (ranges k group lt)) (sym (get_or-map group_key hs at.0 group key within)
+          ∙ at.2),
+    )

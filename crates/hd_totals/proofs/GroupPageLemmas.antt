@@ -46,18 +46,21 @@ module _ (words : List ℕ) (i m : ℕ) (within : i < length words) where
   pub taken-keeps : (j k : ℕ) → bit_at (get_or words j 0) k ≡ 1 → bit_at (get_or taken j 0) k ≡ 1
   taken-keeps j k is = elim (cases_eq j i) [
     | inl same ↦
-        let here : get_or taken j 0 ≡ bit_or (get_or words i 0) m = ap (λ (n : ℕ). get_or taken n 0) same ∙ get_or-set_same words i (bit_or (get_or words i 0) m) 0 within in
+        let here : get_or taken j 0 ≡ bit_or (get_or words i 0) m = ap (λ (n : ℕ). get_or taken n 0) same
+        ∙ get_or-set_same words i (bit_or (get_or words i 0) m) 0 within in
         ap (λ (n : ℕ). bit_at n k) here ∙ keeps-bit (get_or words i 0) m k (ap (λ (n : ℕ). bit_at (get_or words n 0) k) (sym same) ∙ is)
     | inr other ↦ ap (λ (n : ℕ). bit_at n k) (get_or-set_other words i j (bit_or (get_or words i 0) m) 0 other) ∙ is
   ]
 
   pub taken-has : (k : ℕ) → m ≡ 2 ^ k → bit_at (get_or taken i 0) k ≡ 1
-  taken-has k is = ap (λ (n : ℕ). bit_at n k) (get_or-set_same words i (bit_or (get_or words i 0) m) 0 within ∙ ap (bit_or (get_or words i 0)) is) ∙ sets-bit (get_or words i 0) k
+  taken-has k is = ap (λ (n : ℕ). bit_at n k) (get_or-set_same words i (bit_or (get_or words i 0) m) 0 within ∙ ap (bit_or (get_or words i 0)) is)
+      ∙ sets-bit (get_or words i 0) k
 
 -- an ID is lowered
 pub lowered : (ids : List ℕ) (i id : ℕ) → i < length ids → id ≤ get_or ids i 0 → (j : ℕ) → get_or (set ids i id) j 0 ≤ get_or ids j 0
 lowered ids i id within le j = elim (cases_eq j i) [
-  | inl same ↦ let here : get_or (set ids i id) j 0 ≡ id = ap (λ (n : ℕ). get_or (set ids i id) n 0) same ∙ get_or-set_same ids i id 0 within in omega (arith, here, le, ap (λ (n : ℕ). get_or ids n 0) same)
+  | inl same ↦ let here : get_or (set ids i id) j 0 ≡ id = ap (λ (n : ℕ). get_or (set ids i id) n 0) same ∙ get_or-set_same ids i id 0 within in
+      omega (arith, here, le, ap (λ (n : ℕ). get_or ids n 0) same)
   | inr other ↦ let there = get_or-set_other ids i j id 0 other in omega (arith, there)
 ]
 
@@ -80,7 +83,8 @@ module _ (earlier later : PageMarks) (whole : AreWhole earlier) (page : ℕ) (gr
   behind : (b : ℕ) → HasBucket later.marks page b → HasBucket (earlier.marks ++ later.marks) (length earlier.least + page) b
   behind b has =
       let at : (length earlier.least + page) * 64 + b / 64 ≡ length earlier.marks + (page * 64 + b / 64) = omega (arith, whole) in
-      ap (λ (n : ℕ). bit_at n (b % 64)) (ap (λ (i : ℕ). get_or (earlier.marks ++ later.marks) i 0) at ∙ get_or-append-add earlier.marks later.marks (page * 64 + b / 64) 0) ∙ has
+      ap (λ (n : ℕ). bit_at n (b % 64)) (ap (λ (i : ℕ). get_or (earlier.marks ++ later.marks) i 0) at
+      ∙ get_or-append-add earlier.marks later.marks (page * 64 + b / 64) 0) ∙ has
 
   pub noted-later : IsNoted later page group id → IsNoted (pages_behind earlier later) (length earlier.least + page) group id
   noted-later noted = record {

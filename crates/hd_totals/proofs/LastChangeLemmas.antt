@@ -1,5 +1,6 @@
 -- When the strengths of the objects of a page last changed, from one event to the next.
-use Rattle.std.proofs.Common.{◌≡◌, ◌≢◌, ◌∙◌, ℕ, ◌+◌, ◌<◌, ◌≤◌, false, inl, inr, List, [], ◌∷◌, ◌++◌, length, get_or, set, take, eq-eqb, refl, sym, ap, subst, arith}
+use Rattle.std.proofs.Common.{◌≡◌, ◌≢◌, ◌∙◌, ℕ, ◌+◌, ◌<◌, ◌≤◌, false, inl, inr, List, [], ◌∷◌, ◌++◌, length, get_or, set, take, eq-eqb, refl, sym, ap, subst}
+use Rattle.std.proofs.Common.{arith}
 use Rattle.std.proofs.lemmas.Bool.{cases_eq, cases_lt}
 use Rattle.std.proofs.lemmas.List.{get_or_default, get_or-set_same, get_or-set_other, length-set, length_push, take_all, take-append-le}
 use Rattle.hd_terms.specs.declared.Event.{Event}
@@ -20,7 +21,8 @@ use Rattle.hd_totals.proofs.TotalLemmas.{one-rank}
 -- after the first changes
 pub record IsChangedUpTo (before : List ℕ) (changes : List StrengthChange) (n i : ℕ) (after : List ℕ) : Type 0 where
   pub count : length after ≡ length before
-  pub changed : (j : ℕ) (d : StrengthChange) → j < i → j < length changes → page_of (get_or changes j d).object < length before → get_or after (page_of (get_or changes j d).object) 0 ≡ n
+  pub changed : (j : ℕ) (d : StrengthChange) → j < i → j < length changes → page_of (get_or changes j d).object < length before
+      → get_or after (page_of (get_or changes j d).object) 0 ≡ n
   pub others : (page : ℕ) → (HasChangeOn page changes → ⊥) → get_or after page 0 ≡ get_or before page 0
 
 module _ (before : List ℕ) (changes : List StrengthChange) (n : ℕ) where
@@ -31,21 +33,25 @@ module _ (before : List ℕ) (changes : List StrengthChange) (n : ℕ) where
     others = λ page none. refl;
   }
 
-  pub one-changed : (i : ℕ) (d0 : StrengthChange) (lt : i < length changes) (mid : List ℕ) → IsChangedUpTo before changes n i mid → (page : ℕ) → page ≡ page_of (get_or changes i d0).object → IsChangedUpTo before changes n (i + 1) (set mid page n)
+  pub one-changed : (i : ℕ) (d0 : StrengthChange) (lt : i < length changes) (mid : List ℕ) → IsChangedUpTo before changes n i mid → (page : ℕ)
+      → page ≡ page_of (get_or changes i d0).object → IsChangedUpTo before changes n (i + 1) (set mid page n)
   one-changed i d0 lt mid h page page_is = record {
     count = length-set mid page n ∙ h.count;
     changed = changed;
-    others = λ p none. get_or-set_other mid page p n 0 (λ same. none (get_or changes i d0, change-there changes i d0 lt, sym page_is ∙ sym same)) ∙ h.others p none;
+    others = λ p none. get_or-set_other mid page p n 0 (λ same. none (get_or changes i d0, change-there changes i d0 lt, sym page_is ∙ sym same))
+        ∙ h.others p none;
   }
     where
-      changed : (j : ℕ) (d : StrengthChange) → j < i + 1 → j < length changes → page_of (get_or changes j d).object < length before → get_or (set mid page n) (page_of (get_or changes j d).object) 0 ≡ n
+      changed : (j : ℕ) (d : StrengthChange) → j < i + 1 → j < length changes → page_of (get_or changes j d).object < length before
+          → get_or (set mid page n) (page_of (get_or changes j d).object) 0 ≡ n
       changed j d less within inside = elim (cases_eq (page_of (get_or changes j d).object) page) [
         | inl same ↦
             let there : page < length mid = omega (arith, h.count, same, inside) in
             ap (λ (p : ℕ). get_or (set mid page n) p 0) same ∙ get_or-set_same mid page n 0 there
         | inr other ↦
             let earlier : j < i = elim (cases_eq j i) [
-              | inl last ↦ absurd (other (ap (λ (k : ℕ). page_of (get_or changes k d).object) last ∙ ap (λ (x : StrengthChange). page_of x.object) (get_or_default changes i d d0 lt) ∙ sym page_is))
+              | inl last ↦ absurd (other (ap (λ (k : ℕ). page_of (get_or changes k d).object) last
+                  ∙ ap (λ (x : StrengthChange). page_of x.object) (get_or_default changes i d d0 lt) ∙ sym page_is))
               | inr before ↦ omega arith
             ] in
             get_or-set_other mid page (page_of (get_or changes j d).object) n 0 other ∙ h.changed j d earlier within inside
@@ -79,7 +85,8 @@ module _ (gives : (g : Standing) (ks : List Reached) → Settled g ks → (o : �
 
   -- after one more event
   pub stepped : (log : List Event) (event : Event) (old new : List Reached) (changes : List StrengthChange) (before after : List ℕ)
-      → AreLastChanges dump log old before → AreChanges old new changes → AreChangedBy before changes (length log + 1) after → Settled (standing dump (log ++ event ∷ [])) new
+      → AreLastChanges dump log old before → AreChanges old new changes → AreChangedBy before changes (length log + 1) after
+      → Settled (standing dump (log ++ event ∷ [])) new
       → AreLastChanges dump (log ++ event ∷ []) new after
   stepped log event old new changes before after h moved by settled o n unchanged le = elim (cases_lt (length log) n) [
     | inl last ↦
@@ -88,8 +95,10 @@ module _ (gives : (g : Standing) (ks : List Reached) → Settled g ks → (o : �
     | inr earlier ↦
         let page = page_of o in
         let inside : page < length before = omega (arith, by.count, unchanged.0) in
-        let none : HasChangeOn page changes → ⊥ = λ has. (let late : get_or after page 0 ≡ length log + 1 = by.changed page inside has in omega (arith, late, unchanged.1)) in
-        let stays : (reached_at old o).strength ≡ (reached_at new o).strength = same-strength (reached_at old o).strength (reached_at new o).strength (λ differs. (
+        let none : HasChangeOn page changes → ⊥ =
+        λ has. (let late : get_or after page 0 ≡ length log + 1 = by.changed page inside has in omega (arith, late, unchanged.1)) in
+        let stays : (reached_at old o).strength ≡ (reached_at new o).strength = same-strength (reached_at old o).strength (reached_at new o).strength
+        (λ differs. (
         let found = change-of changes o (moved.all o differs) in
         none (found.0, found.1, ap page_of found.2))) in
         let was : IsUnchanged before page n = (inside, subst (λ (k : ℕ). k ≤ n) (by.others page none) unchanged.1) in
@@ -103,7 +112,8 @@ pub same-since : (one : (g : Standing) (o : ℕ) (a b : Strength) → HasStrengt
     → AreLastChanges dump earlier ks was → AreLastChanges dump later ls is → n ≤ length earlier → n ≤ length later → take n earlier ≡ take n later
     → (o : ℕ) → IsUnchanged was (page_of o) n → IsUnchanged is (page_of o) n → (reached_at ks o).strength ≡ (reached_at ls o).strength
 same-since one dump earlier later ks ls was is n h k le le' same o still still' =
-    let now : HasStrength (standing dump (take n later)) o (reached_at ks o).strength = subst (λ (log : List Event). HasStrength (standing dump log) o (reached_at ks o).strength) same (h o n still le) in
+    let now : HasStrength (standing dump (take n later)) o (reached_at ks o).strength =
+    subst (λ (log : List Event). HasStrength (standing dump log) o (reached_at ks o).strength) same (h o n still le) in
     one (standing dump (take n later)) o (reached_at ks o).strength (reached_at ls o).strength now (k o n still' le')
 
 -- an object that has one strength before and after doesn't fall

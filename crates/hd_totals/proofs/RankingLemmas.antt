@@ -1,5 +1,6 @@
 -- Rows of groups in the order of their bytes.
-use Rattle.std.proofs.Common.{◌≡◌, ◌≢◌, ◌∙◌, ℕ, ◌+◌, ◌<◌, false, true≢false, eq-eqb, Less, Equal, ◌≤◌, ◌⊎◌, inl, inr, List, length, map, get_or, is_lt, nat_cmp, sym, ap, arith}
+use Rattle.std.proofs.Common.{◌≡◌, ◌≢◌, ◌∙◌, ℕ, ◌+◌, ◌<◌, false, true≢false, eq-eqb, Less, Equal, ◌≤◌, ◌⊎◌, inl, inr, List, length, map, get_or, is_lt, nat_cmp}
+use Rattle.std.proofs.Common.{sym, ap, arith}
 use Rattle.std.specs.Ordering.{ordering_then}
 use Rattle.std.specs.Prelude.{nat_eq}
 use Rattle.std.specs.List.{IsDistinct}
@@ -55,7 +56,8 @@ is-above a b differ h = elim (cases_lt b.bytes a.bytes) [
     ]
 
 -- rows of different groups, of which none is below the next one
-pub are-ranked : (rows : List ClassRow) → IsDistinct nat_eq (map row_key rows) → ((k : ℕ) (d : ClassRow) → 0 ≤ k → k + 1 < length rows → IsNotBelow (get_or rows k d) (get_or rows (k + 1) d)) → AreRanked rows
+pub are-ranked : (rows : List ClassRow) → IsDistinct nat_eq (map row_key rows)
+    → ((k : ℕ) (d : ClassRow) → 0 ≤ k → k + 1 < length rows → IsNotBelow (get_or rows k d) (get_or rows (k + 1) d)) → AreRanked rows
 are-ranked rows distinct sorted i a b at next =
     let within : i + 1 < length rows = slice_get_within rows (i + 1) b next in
     let here : get_or rows i a ≡ a = get_or_from_slice_get rows i a a at in

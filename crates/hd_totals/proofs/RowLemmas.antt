@@ -1,10 +1,12 @@
 -- The totals of groups in their places: a place is added, or its totals are put.
-use Rattle.std.proofs.Common.{◌≡◌, ◌≢◌, ◌∙◌, ℕ, zero, suc, ◌+◌, ◌-◌, ◌<◌, ◌≤◌, Bool, true, false, ◌||◌, true≢false, inl, inr, List, [], ◌∷◌, ◌++◌, length, get_or, Contains, Some, slice_get, cond, eqb-true, eq-eqb, refl, sym, ap, subst, arith}
+use Rattle.std.proofs.Common.{◌≡◌, ◌≢◌, ◌∙◌, ℕ, zero, suc, ◌+◌, ◌-◌, ◌<◌, ◌≤◌, Bool, true, false, ◌||◌, true≢false, inl, inr, List, [], ◌∷◌, ◌++◌, length}
+use Rattle.std.proofs.Common.{get_or, Contains, Some, slice_get, cond, eqb-true, eq-eqb, refl, sym, ap, subst, arith}
 use Rattle.std.proofs.Math.ListN.{set}
 use Rattle.std.specs.Prelude.{nat_eq, not}
 use Rattle.std.specs.List.{IsDistinct, list_any, position_or_len}
 use Rattle.std.proofs.lemmas.Bool.{cases_eq, cases_lt, ne_eqb}
-use Rattle.std.proofs.lemmas.List.{get_or-set_same, get_or-set_other, length-set, length-append, get_or_append_left, get_or-append_right, get_or_past, get_or_default}
+use Rattle.std.proofs.lemmas.List.{get_or-set_same, get_or-set_other, length-set, length-append, get_or_append_left, get_or-append_right, get_or_past}
+use Rattle.std.proofs.lemmas.List.{get_or_default}
 use Rattle.std.proofs.lemmas.List.Elements.{Contains-append_left, Contains-append_right}
 use Rattle.std.proofs.lemmas.Option.{get_or_from_slice_get}
 use Rattle.std.proofs.lemmas.List.Folds.{position_or_len_push}
@@ -83,7 +85,8 @@ module _ (t : Totals) (i : ℕ) (distinct : IsDistinct nat_eq t.keys) (whole : l
   row-of-key = ap (λ (j : ℕ). get_or t.rows j no_totals) place-of-key
 
 -- the totals of a group are put in its place
-module _ (keys : List ℕ) (rows : List StrengthTotals) (whole : length rows ≡ length keys) (key : ℕ) (lt : place key keys < length rows) (row : StrengthTotals) where
+module _ (keys : List ℕ) (rows : List StrengthTotals) (whole : length rows ≡ length keys) (key : ℕ) (lt : place key keys < length rows)
+    (row : StrengthTotals) where
   abbrev old : Totals
   old = record { keys = keys; rows = rows }
 
@@ -118,7 +121,8 @@ module _ (keys : List ℕ) (rows : List StrengthTotals) (whole : length rows ≡
   grown-row g = elim (cases_lt (place g keys) (length keys)) [
     | inl old ↦
         let e : place g (keys ++ k ∷ []) ≡ place g keys =
-        position_or_len_push (nat_eq g) keys k ∙ ap (λ (b : Bool). cond b (length keys + cond (nat_eq g k) 0 1) (place g keys)) (ne_eqb (place g keys) (length keys) (omega arith)) in
+        position_or_len_push (nat_eq g) keys k ∙ ap (λ (b : Bool). cond b (length keys + cond (nat_eq g k) 0 1) (place g keys))
+        (ne_eqb (place g keys) (length keys) (omega arith)) in
         ap (λ (i : ℕ). get_or (rows ++ no_totals ∷ []) i no_totals) e ∙ get_or_append_left rows (no_totals ∷ []) no_totals (place g keys) (omega arith)
     | inr none ↦
         let past : length rows ≤ place g (keys ++ k ∷ []) = later g none in
@@ -129,7 +133,8 @@ module _ (keys : List ℕ) (rows : List StrengthTotals) (whole : length rows ≡
       later g none =
           let end : place g keys ≡ length keys = omega (arith, place-le g keys) in
           let e : place g (keys ++ k ∷ []) ≡ length keys + cond (nat_eq g k) 0 1 =
-          position_or_len_push (nat_eq g) keys k ∙ ap (λ (b : Bool). cond b (length keys + cond (nat_eq g k) 0 1) (place g keys)) (eq-eqb (place g keys) (length keys) end) in
+          position_or_len_push (nat_eq g) keys k ∙ ap (λ (b : Bool). cond b (length keys + cond (nat_eq g k) 0 1) (place g keys))
+          (eq-eqb (place g keys) (length keys) end) in
           omega arith
 
       none-at : (i : ℕ) → length rows ≤ i → get_or (rows ++ no_totals ∷ []) i no_totals ≡ no_totals
@@ -160,7 +165,8 @@ module _ (keys : List ℕ) (rows : List StrengthTotals) (whole : length rows ≡
   }
 
   -- the keys with the group's, and the totals with a place for it
-  pub with-place : (keys' : List ℕ) (rows' : List StrengthTotals) → keys' ≡ with_key keys k → (place k keys ≡ length rows → rows' ≡ rows ++ no_totals ∷ []) → (place k keys ≢ length rows → rows' ≡ rows)
+  pub with-place : (keys' : List ℕ) (rows' : List StrengthTotals) → keys' ≡ with_key keys k → (place k keys ≡ length rows → rows' ≡ rows ++ no_totals ∷ [])
+      → (place k keys ≢ length rows → rows' ≡ rows)
       → IsRowPut t (record { keys = keys'; rows = rows' }) k (row_at t k) × (place k keys' ≡ place k keys)
   with-place keys' rows' is new old = go (list_any (nat_eq k) keys) refl
     where
@@ -175,7 +181,8 @@ module _ (keys : List ℕ) (rows : List StrengthTotals) (whole : length rows ≡
           let keys_are : keys' ≡ keys ++ k ∷ [] = is ∙ ap (λ (b : Bool). cond b keys (keys ++ k ∷ [])) e in
           let rows_are : rows' ≡ rows ++ no_totals ∷ [] = new (end ∙ sym whole) in
           let pushed : place k (keys ++ k ∷ []) ≡ length keys + 0 =
-          position_or_len_push (nat_eq k) keys k ∙ ap (λ (b : Bool). cond b (length keys + cond (nat_eq k k) 0 1) (place k keys)) (eq-eqb (place k keys) (length keys) end) ∙ ap (λ (b : Bool). length keys + cond b 0 1) (eq-eqb k k refl) in
+          position_or_len_push (nat_eq k) keys k ∙ ap (λ (b : Bool). cond b (length keys + cond (nat_eq k k) 0 1) (place k keys))
+          (eq-eqb (place k keys) (length keys) end) ∙ ap (λ (b : Bool). length keys + cond b 0 1) (eq-eqb k k refl) in
           (rw (keys_are, rows_are) place-grown, ap (place k) keys_are ∙ (omega arith))
         where
           ends : list_any (nat_eq k) keys ≡ false → place k keys ≡ length keys
@@ -185,7 +192,8 @@ module _ (keys : List ℕ) (rows : List StrengthTotals) (whole : length rows ≡
           ]
 
 -- the place of a key that was added, or was there
-pub is-placed : (keys : List ℕ) (rows : List StrengthTotals) (whole : length rows ≡ length keys) (key : ℕ) (keys' : List ℕ) (rows' : List StrengthTotals) (i : ℕ)
+pub is-placed : (keys : List ℕ) (rows : List StrengthTotals) (whole : length rows ≡ length keys) (key : ℕ) (keys' : List ℕ) (rows' : List StrengthTotals)
+    (i : ℕ)
     → keys' ≡ with_key keys key → i ≡ place key keys → (i ≡ length rows → rows' ≡ rows ++ no_totals ∷ []) → (i ≢ length rows → rows' ≡ rows)
     → IsPlaced (record { keys = keys; rows = rows }) (record { keys = keys'; rows = rows' }) key i
 is-placed keys rows whole key keys' rows' i keys_are is new old =
@@ -196,7 +204,8 @@ is-placed keys rows whole key keys' rows' i keys_are is new old =
     record { put = p.0; place_is = is ∙ sym at; within = omega arith }
 
 -- the place of a key that stands there
-pub is-placed-at : (keys : List ℕ) (rows : List StrengthTotals) → length rows ≡ length keys → IsDistinct nat_eq keys → (key i : ℕ) → i < length keys → get_or keys i 0 ≡ key
+pub is-placed-at : (keys : List ℕ) (rows : List StrengthTotals) → length rows ≡ length keys → IsDistinct nat_eq keys → (key i : ℕ) → i < length keys
+    → get_or keys i 0 ≡ key
     → IsPlaced (record { keys = keys; rows = rows }) (record { keys = keys; rows = rows }) key i
 is-placed-at keys rows whole distinct key i lt is =
     let within : i < length rows = omega (arith, lt, whole) in
@@ -204,10 +213,12 @@ is-placed-at keys rows whole distinct key i lt is =
     record { put = place-kept keys rows whole key (omega (arith, at, lt)); place_is = sym at; within = within }
 
 -- the totals of a key are put in a place that was added
-pub put-after : (t t' : Totals) (key : ℕ) (row row' : StrengthTotals) → IsRowPut t t' key row → IsRowPut t (record { keys = t'.keys; rows = set t'.rows (place_of t' key) row' }) key row'
+pub put-after : (t t' : Totals) (key : ℕ) (row row' : StrengthTotals) → IsRowPut t t' key row
+    → IsRowPut t (record { keys = t'.keys; rows = set t'.rows (place_of t' key) row' }) key row'
 put-after t t' key row row' p =
     let lt : place key t'.keys < length t'.keys = placed key t'.keys p.there in
-    let q : IsRowPut t' (record { keys = t'.keys; rows = set t'.rows (place_of t' key) row' }) key row' = row-put t'.keys t'.rows p.whole key (let w : length t'.rows ≡ length t'.keys = p.whole in omega arith) row' in
+    let q : IsRowPut t' (record { keys = t'.keys; rows = set t'.rows (place_of t' key) row' }) key row' =
+    row-put t'.keys t'.rows p.whole key (let w : length t'.rows ≡ length t'.keys = p.whole in omega arith) row' in
     record {
       here = q.here;
       others = λ k other. q.others k other ∙ p.others k other;
@@ -231,8 +242,10 @@ read-row u t key i row is at read =
     sym (get_or_from_slice_get u.rows i row no_totals read) ∙ ap (λ (x : Totals). get_or x.rows i no_totals) is ∙ ap (λ (j : ℕ). get_or t.rows j no_totals) at
 
 -- and put there
-pub put-at : (u t : Totals) (key i : ℕ) (row : StrengthTotals) (rows : List StrengthTotals) → u ≡ t → i ≡ place_of t key → i < length t.rows → length t.rows ≡ length t.keys → rows ≡ set u.rows i row → IsRowPut t (record { keys = u.keys; rows = rows }) key row
+pub put-at : (u t : Totals) (key i : ℕ) (row : StrengthTotals) (rows : List StrengthTotals) → u ≡ t → i ≡ place_of t key → i < length t.rows
+    → length t.rows ≡ length t.keys → rows ≡ set u.rows i row → IsRowPut t (record { keys = u.keys; rows = rows }) key row
 put-at u t key i row rows is at lt whole put =
     subst (λ (x : Totals). rows ≡ set x.rows i row → IsRowPut t (record { keys = x.keys; rows = rows }) key row) (sym is)
-    (λ put'. subst (λ (rs : List StrengthTotals). IsRowPut t (record { keys = t.keys; rows = rs }) key row) (sym (put' ∙ ap (λ (j : ℕ). set t.rows j row) at)) (row-put t.keys t.rows whole key (omega arith) row))
+    (λ put'. subst (λ (rs : List StrengthTotals). IsRowPut t (record { keys = t.keys; rows = rs }) key row) (sym (put' ∙ ap (λ (j : ℕ). set t.rows j row) at))
+    (row-put t.keys t.rows whole key (omega arith) row))
     put

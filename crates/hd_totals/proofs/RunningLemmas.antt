@@ -31,7 +31,8 @@ cond-le false n m le = omega arith
 
 -- one more object, where its totals are put
 module _ (dump : Dump) (strength : ℕ → Strength) (k : ℕ) (t t' : Totals) (range : InRange (object_at dump k).group)
-    (put : IsRowPut t t' (group_key (object_at dump k).group) (plus_one (row_at t (group_key (object_at dump k).group)) (strength k) (object_at dump k).bytes)) where
+    (put : IsRowPut t t' (group_key (object_at dump k).group)
+    (plus_one (row_at t (group_key (object_at dump k).group)) (strength k) (object_at dump k).bytes)) where
   abbrev g : Group
   g = (object_at dump k).group
 
@@ -44,8 +45,10 @@ module _ (dump : Dump) (strength : ℕ → Strength) (k : ℕ) (t t' : Totals) (
   counted group s r true e = subst
       (λ (x : Group). ((total_in t' x s).count ≡ (total_in t x s).count + cond (eqb (rank (strength k)) (rank s) && true) 1 0)
       × ((total_in t' x s).bytes ≡ (total_in t x s).bytes + cond (eqb (rank (strength k)) (rank s) && true) (object_at dump k).bytes 0)) (one-group g group e) (
-        ap (λ (x : StrengthTotals). (total_for x s).count) put.here ∙ plus-count row (strength k) s (object_at dump k).bytes ∙ ap (λ (b : Bool). (total_for row s).count + cond b 1 0) (sym (and-true (eqb (rank (strength k)) (rank s)))),
-        ap (λ (x : StrengthTotals). (total_for x s).bytes) put.here ∙ plus-bytes row (strength k) s (object_at dump k).bytes ∙ ap (λ (b : Bool). (total_for row s).bytes + cond b (object_at dump k).bytes 0) (sym (and-true (eqb (rank (strength k)) (rank s)))),
+        ap (λ (x : StrengthTotals). (total_for x s).count) put.here ∙ plus-count row (strength k) s (object_at dump k).bytes
+            ∙ ap (λ (b : Bool). (total_for row s).count + cond b 1 0) (sym (and-true (eqb (rank (strength k)) (rank s)))),
+        ap (λ (x : StrengthTotals). (total_for x s).bytes) put.here ∙ plus-bytes row (strength k) s (object_at dump k).bytes
+            ∙ ap (λ (b : Bool). (total_for row s).bytes + cond b (object_at dump k).bytes 0) (sym (and-true (eqb (rank (strength k)) (rank s)))),
       )
   counted group s r false e =
       let same = put.others (group_key group) (other-key g group range r e) in
@@ -65,12 +68,15 @@ module _ (dump : Dump) (strength : ℕ → Strength) (k : ℕ) (t : Totals) (h :
 
   pub few-bytes : (group : Group) (s : Strength) → InRange group → (total_in t group s).bytes ≤ k * largest_file
   few-bytes group s range = subst (λ (m : ℕ). m ≤ k * largest_file) (sym (h.bytes group s range))
-      (sum-le (bytes_if dump (counts_for dump strength group s)) largest_file k (λ o lt. cond-le (counts_for dump strength group s o) (object_at dump o).bytes largest_file (h.small o lt)))
+      (sum-le (bytes_if dump (counts_for dump strength group s)) largest_file k
+      (λ o lt. cond-le (counts_for dump strength group s o) (object_at dump o).bytes largest_file (h.small o lt)))
 
   pub same-totals : (strength' : ℕ → Strength) → ((o : ℕ) → strength o ≡ strength' o) → AreTotalsOf dump strength' k t
   same-totals strength' same = record {
-    counts = λ group s range. h.counts group s range ∙ count-same (counts_for dump strength group s) (counts_for dump strength' group s) k (λ o lt. test group s o);
-    bytes = λ group s range. h.bytes group s range ∙ sum-same (bytes_if dump (counts_for dump strength group s)) (bytes_if dump (counts_for dump strength' group s)) k
+    counts = λ group s range. h.counts group s range ∙ count-same (counts_for dump strength group s) (counts_for dump strength' group s) k
+        (λ o lt. test group s o);
+    bytes = λ group s range. h.bytes group s range ∙ sum-same (bytes_if dump (counts_for dump strength group s))
+        (bytes_if dump (counts_for dump strength' group s)) k
         (λ o lt. ap (λ (b : Bool). cond b (object_at dump o).bytes 0) (test group s o));
     grouped = h.grouped;
     in_range = h.in_range;
@@ -96,20 +102,26 @@ module _ (dump : Dump) (strength : ℕ → Strength) (k : ℕ) (t : Totals) (h :
     itself-counts = ap (λ (b : Bool). b && same_group group_is group_is) (eq-eqb (rank (strength o)) (rank (strength o)) refl) ∙ itself group_is
 
     pub one-there : 1 ≤ (total_in t group_is (strength o)).count
-    one-there = subst (λ (m : ℕ). 1 ≤ m) (sym (h.counts group_is (strength o) (h.in_range o lt))) (count-term (counts_for dump strength group_is (strength o)) o k lt itself-counts)
+    one-there = subst (λ (m : ℕ). 1 ≤ m) (sym (h.counts group_is (strength o) (h.in_range o lt)))
+        (count-term (counts_for dump strength group_is (strength o)) o k lt itself-counts)
 
     pub bytes-there : size ≤ (total_in t group_is (strength o)).bytes
     bytes-there = subst (λ (m : ℕ). size ≤ m) (sym (h.bytes group_is (strength o) (h.in_range o lt)))
-        (subst (λ (m : ℕ). m ≤ sum_by (bytes_if dump (counts_for dump strength group_is (strength o))) (range_with_len 0 k)) (ap (λ (b : Bool). cond b size 0) itself-counts) (sum-term (bytes_if dump (counts_for dump strength group_is (strength o))) o k lt))
+        (subst (λ (m : ℕ). m ≤ sum_by (bytes_if dump (counts_for dump strength group_is (strength o))) (range_with_len 0 k))
+        (ap (λ (b : Bool). cond b size 0) itself-counts) (sum-term (bytes_if dump (counts_for dump strength group_is (strength o))) o k lt))
 
     module _ (strength' : ℕ → Strength) (others : (x : ℕ) → x ≢ o → strength x ≡ strength' x) (t' : Totals)
         (put : IsRowPut t t' (group_key group_is) (plus_one (less_one totals_are (strength o) size) (strength' o) size)) where
       moved : (group : Group) (s : Strength) → InRange group → (b : Bool) → same_group group_is group ≡ b
-          → ((total_in t' group s).count + cond (eqb (rank (strength o)) (rank s) && b) 1 0 ≡ (total_in t group s).count + cond (eqb (rank (strength' o)) (rank s) && b) 1 0)
-          × ((total_in t' group s).bytes + cond (eqb (rank (strength o)) (rank s) && b) size 0 ≡ (total_in t group s).bytes + cond (eqb (rank (strength' o)) (rank s) && b) size 0)
+          → ((total_in t' group s).count + cond (eqb (rank (strength o)) (rank s) && b) 1 0 ≡ (total_in t group s).count + cond
+          (eqb (rank (strength' o)) (rank s) && b) 1 0)
+          × ((total_in t' group s).bytes + cond (eqb (rank (strength o)) (rank s) && b) size 0 ≡ (total_in t group s).bytes + cond
+          (eqb (rank (strength' o)) (rank s) && b) size 0)
       moved group s r true e = subst
-          (λ (x : Group). ((total_in t' x s).count + cond (eqb (rank (strength o)) (rank s) && true) 1 0 ≡ (total_in t x s).count + cond (eqb (rank (strength' o)) (rank s) && true) 1 0)
-          × ((total_in t' x s).bytes + cond (eqb (rank (strength o)) (rank s) && true) size 0 ≡ (total_in t x s).bytes + cond (eqb (rank (strength' o)) (rank s) && true) size 0)) (one-group group_is group e) (
+          (λ (x : Group). ((total_in t' x s).count + cond (eqb (rank (strength o)) (rank s) && true) 1 0 ≡ (total_in t x s).count + cond
+          (eqb (rank (strength' o)) (rank s) && true) 1 0)
+          × ((total_in t' x s).bytes + cond (eqb (rank (strength o)) (rank s) && true) size 0 ≡ (total_in t x s).bytes + cond
+          (eqb (rank (strength' o)) (rank s) && true) size 0)) (one-group group_is group e) (
             omega (
               arith,
               ap (λ (x : StrengthTotals). (total_for x s).count) put.here,
@@ -154,12 +166,14 @@ module _ (dump : Dump) (strength : ℕ → Strength) (k : ℕ) (t : Totals) (h :
         counts = λ group s r.
             let p = counts_for dump strength group s in
             let q = counts_for dump strength' group s in
-            cancel (total_in t' group s).count (total_in t group s).count (one_if (p o)) (one_if (q o)) (count_by p (range_with_len 0 k)) (count_by q (range_with_len 0 k))
+            cancel (total_in t' group s).count (total_in t group s).count (one_if (p o)) (one_if (q o)) (count_by p (range_with_len 0 k))
+            (count_by q (range_with_len 0 k))
             (moved group s r (same_group group_is group) refl).0 (h.counts group s r) (count-at p q o k lt (agrees group s));
         bytes = λ group s r.
             let p = counts_for dump strength group s in
             let q = counts_for dump strength' group s in
-            cancel (total_in t' group s).bytes (total_in t group s).bytes (bytes_if dump p o) (bytes_if dump q o) (sum_by (bytes_if dump p) (range_with_len 0 k)) (sum_by (bytes_if dump q) (range_with_len 0 k))
+            cancel (total_in t' group s).bytes (total_in t group s).bytes (bytes_if dump p o) (bytes_if dump q o)
+            (sum_by (bytes_if dump p) (range_with_len 0 k)) (sum_by (bytes_if dump q) (range_with_len 0 k))
             (moved group s r (same_group group_is group) refl).1 (h.bytes group s r)
             (sum-at (bytes_if dump p) (bytes_if dump q) o k lt (λ x other. ap (λ (b : Bool). cond b (object_at dump x).bytes 0) (agrees group s x other)));
         grouped = λ x less. put.kept (group_key (object_at dump x).group) (h.grouped x less);

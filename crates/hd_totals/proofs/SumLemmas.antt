@@ -1,5 +1,6 @@
 -- Sums and counts over the numbers below a bound.
-use Rattle.std.proofs.Common.{◌≡◌, ◌≢◌, ◌∙◌, ℕ, zero, suc, ◌+◌, ◌<◌, ◌≤◌, ◌*◌, Bool, true, false, ◌&&◌, true≢false, ◌⊎◌, inl, inr, List, [], ◌∷◌, ◌++◌, Contains, cond, refl, sym, ap, subst, arith, zero-add, add-zero, eq-eqb}
+use Rattle.std.proofs.Common.{◌≡◌, ◌≢◌, ◌∙◌, ℕ, zero, suc, ◌+◌, ◌<◌, ◌≤◌, ◌*◌, Bool, true, false, ◌&&◌, true≢false, ◌⊎◌, inl, inr, List, [], ◌∷◌, ◌++◌}
+use Rattle.std.proofs.Common.{Contains, cond, refl, sym, ap, subst, arith, zero-add, add-zero, eq-eqb}
 use Rattle.std.specs.Prelude.{not, nat_eq, sum_by, count_by}
 use Rattle.std.specs.List.{range_with_len}
 use Rattle.std.proofs.lemmas.Bool.{cases_eq, ne_eqb}
@@ -65,7 +66,8 @@ pub count_suc : (p : ℕ → Bool) (n : ℕ) → count_by p (range_with_len 0 (s
 count_suc p n = sum_suc (λ o. one_if (p o)) n
 
 -- tests that agree but at one number
-pub count-at : (p q : ℕ → Bool) (x n : ℕ) → x < n → ((o : ℕ) → o ≢ x → p o ≡ q o) → count_by p (range_with_len 0 n) + one_if (q x) ≡ count_by q (range_with_len 0 n) + one_if (p x)
+pub count-at : (p q : ℕ → Bool) (x n : ℕ) → x < n → ((o : ℕ) → o ≢ x → p o ≡ q o) → count_by p (range_with_len 0 n) + one_if (q x) ≡ count_by q
+    (range_with_len 0 n) + one_if (p x)
 count-at p q x n lt same = sum-at (λ o. one_if (p o)) (λ o. one_if (q o)) x n lt (λ o e. ap one_if (same o e))
 
 pub count-same : (p q : ℕ → Bool) (n : ℕ) → ((o : ℕ) → o < n → p o ≡ q o) → count_by p (range_with_len 0 n) ≡ count_by q (range_with_len 0 n)
@@ -128,15 +130,18 @@ without p x o = p o && not (nat_eq o x)
 elsewhere : (p : ℕ → Bool) (x o : ℕ) → o ≢ x → without p x o ≡ p o
 elsewhere p x o e = ap (λ (b : Bool). p o && not b) (ne_eqb o x e) ∙ and-true (p o)
 
-pub count-listed : (p : ℕ → Bool) (n : ℕ) (xs : List ℕ) → NoneTwice xs → ((x : ℕ) → Contains xs x → x < n) → ((o : ℕ) → o < n → p o ≡ true → Contains xs o) → count_by p (range_with_len 0 n) ≡ count_by p xs
+pub count-listed : (p : ℕ → Bool) (n : ℕ) (xs : List ℕ) → NoneTwice xs → ((x : ℕ) → Contains xs x → x < n) → ((o : ℕ) → o < n → p o ≡ true → Contains xs o)
+    → count_by p (range_with_len 0 n) ≡ count_by p xs
 count-listed p n [] once within all = count-none p n (λ o lt. not-true (p o) (λ e. no-element o (all o lt e)))
 count-listed p n (x ∷ xs) once within all =
     let lt : x < n = within x (Contains-first x xs) in
     let at : count_by p (range_with_len 0 n) + one_if (without p x x) ≡ count_by (without p x) (range_with_len 0 n) + one_if (p x) =
     count-at p (without p x) x n lt (λ o e. sym (elsewhere p x o e)) in
     let gone : one_if (without p x x) ≡ 0 = ap one_if (ap (λ (b : Bool). p x && not b) (eq-eqb x x refl) ∙ and-false (p x)) in
-    let rest : count_by (without p x) (range_with_len 0 n) ≡ count_by (without p x) xs = count-listed (without p x) n xs once.1 (λ y c. within y (Contains-later x y xs c)) listed in
-    let same : count_by (without p x) xs ≡ count_by p xs = list-same (without p x) p xs (λ y c. elsewhere p x y (λ e. once.0 (subst (λ (z : ℕ). Contains xs z) e c))) in
+    let rest : count_by (without p x) (range_with_len 0 n) ≡ count_by (without p x) xs =
+    count-listed (without p x) n xs once.1 (λ y c. within y (Contains-later x y xs c)) listed in
+    let same : count_by (without p x) xs ≡ count_by p xs =
+    list-same (without p x) p xs (λ y c. elsewhere p x y (λ e. once.0 (subst (λ (z : ℕ). Contains xs z) e c))) in
     omega (arith, count_cons p x xs)
   where
     listed : (o : ℕ) → o < n → without p x o ≡ true → Contains xs o
@@ -148,7 +153,8 @@ count-listed p n (x ∷ xs) once within all =
         ]
 
 -- a number that passes a test, where there is one
-passes-here : (p : ℕ → Bool) (n : ℕ) → (1 ≤ count_by p (range_with_len 0 n) → (o : ℕ) × (o < n) × (p o ≡ true)) → 1 ≤ count_by p (range_with_len 0 (suc n)) → (b : Bool) → p n ≡ b → (o : ℕ) × (o < suc n) × (p o ≡ true)
+passes-here : (p : ℕ → Bool) (n : ℕ) → (1 ≤ count_by p (range_with_len 0 n) → (o : ℕ) × (o < n) × (p o ≡ true)) → 1 ≤ count_by p (range_with_len 0 (suc n))
+    → (b : Bool) → p n ≡ b → (o : ℕ) × (o < suc n) × (p o ≡ true)
 passes-here p n below some true e = (n, omega arith, e)
 passes-here p n below some false e =
     let none : one_if (p n) ≡ 0 = ap one_if e in

@@ -27,14 +27,18 @@ rising-distinct keys up = IsDistinct-from_apart nat_eq keys apart
         ne_eqb (get_or keys i d) (get_or keys j d) (λ e. omega arith)
 
 -- the rows of a strength's groups, ranked
-pub top-rows : (dump : Dump) (log : List Event) (s : Strength) (rows sorted : List ClassRow) → AreClassRows dump log s rows → IsPermutation rows sorted → AreRanked sorted
+pub top-rows : (dump : Dump) (log : List Event) (s : Strength) (rows sorted : List ClassRow) → AreClassRows dump log s rows → IsPermutation rows sorted
+    → AreRanked sorted
     → AreTopRows dump (λ (o : ℕ). HasStrength (standing dump log) o s) sorted
 top-rows dump log s rows sorted h moved ranks = record {
   ranked = ranks;
   totals = recursion_from_All (λ (row : ClassRow). IsGroupTotal dump log row.group s row.count row.bytes) sorted
-      (All-permutation (λ (row : ClassRow). IsGroupTotal dump log row.group s row.count row.bytes) rows sorted moved (All-from_recursion (λ (row : ClassRow). IsGroupTotal dump log row.group s row.count row.bytes) rows h.totals));
+      (All-permutation (λ (row : ClassRow). IsGroupTotal dump log row.group s row.count row.bytes) rows sorted moved
+      (All-from_recursion (λ (row : ClassRow). IsGroupTotal dump log row.group s row.count row.bytes) rows h.totals));
   groups = λ group. (
-    λ has. (h.groups group).0 (Contains-permutation (map row_group sorted) (map row_group rows) group (IsPermutation-sym (map row_group rows) (map row_group sorted) (IsPermutation-map row_group rows sorted moved)) has),
+    λ has. (h.groups group).0
+        (Contains-permutation (map row_group sorted) (map row_group rows) group
+        (IsPermutation-sym (map row_group rows) (map row_group sorted) (IsPermutation-map row_group rows sorted moved)) has),
     λ meant. Contains-permutation (map row_group rows) (map row_group sorted) group (IsPermutation-map row_group rows sorted moved) ((h.groups group).1 meant),
   );
 }

@@ -30,7 +30,8 @@ pub one-rank : (s t : Strength) → eqb (rank s) (rank t) ≡ true → s ≡ t
 one-rank s t e = sym (of_rank-rank s) ∙ ap of_rank (eqb-true (rank s) (rank t) e) ∙ of_rank-rank t
 
 -- another total counts for its own strength
-pub total-put : (row : StrengthTotals) (s t : Strength) (total : Total) → total_for (with_total row s total) t ≡ cond (eqb (rank s) (rank t)) total (total_for row t)
+pub total-put : (row : StrengthTotals) (s t : Strength) (total : Total) → total_for (with_total row s total) t ≡ cond (eqb (rank s) (rank t)) total
+    (total_for row t)
 total-put row strengths.Strong strengths.Strong total = refl
 total-put row strengths.Strong strengths.Soft total = refl
 total-put row strengths.Strong strengths.Weak total = refl
@@ -87,7 +88,8 @@ total-sums one other strengths.Unreachable = refl
 
 -- no object beside some
 sum-none : (t : Total) → sum_of t no_total ≡ t
-sum-none t = ap (λ (n : ℕ). record { count = n; bytes = t.bytes + 0 }) (add-zero t.count) ∙ ap (λ (n : ℕ). record { count = t.count; bytes = n }) (add-zero t.bytes)
+sum-none t = ap (λ (n : ℕ). record { count = n; bytes = t.bytes + 0 }) (add-zero t.count) ∙ ap (λ (n : ℕ). record { count = t.count; bytes = n })
+    (add-zero t.bytes)
 
 pub sums-none : (row : StrengthTotals) → sums_of row no_totals ≡ row
 sums-none row = rw (sum-none row.strong, sum-none row.soft, sum-none row.weak, sum-none row.finalizable, sum-none row.phantom, sum-none row.unreachable) refl
@@ -101,36 +103,46 @@ case-bytes : (b : Bool) (total : Total) (bytes : ℕ) → (cond b (plus_object t
 case-bytes true total bytes = refl
 case-bytes false total bytes = sym (add-zero total.bytes)
 
-same-total : (row : StrengthTotals) (s t : Strength) (bytes : ℕ) (b : Bool) → eqb (rank s) (rank t) ≡ b → cond b (plus_object (total_for row s) bytes) (total_for row t) ≡ cond b (plus_object (total_for row t) bytes) (total_for row t)
+same-total : (row : StrengthTotals) (s t : Strength) (bytes : ℕ) (b : Bool) → eqb (rank s) (rank t) ≡ b
+    → cond b (plus_object (total_for row s) bytes) (total_for row t) ≡ cond b (plus_object (total_for row t) bytes) (total_for row t)
 same-total row s t bytes true e = ap (λ (x : Strength). plus_object (total_for row x) bytes) (one-rank s t e)
 same-total row s t bytes false e = refl
 
-plus-total : (row : StrengthTotals) (s t : Strength) (bytes : ℕ) → total_for (plus_one row s bytes) t ≡ cond (eqb (rank s) (rank t)) (plus_object (total_for row t) bytes) (total_for row t)
+plus-total : (row : StrengthTotals) (s t : Strength) (bytes : ℕ) → total_for (plus_one row s bytes) t ≡ cond (eqb (rank s) (rank t))
+    (plus_object (total_for row t) bytes) (total_for row t)
 plus-total row s t bytes = total-put row s t (plus_object (total_for row s) bytes) ∙ same-total row s t bytes (eqb (rank s) (rank t)) refl
 
-pub plus-count : (row : StrengthTotals) (s t : Strength) (bytes : ℕ) → (total_for (plus_one row s bytes) t).count ≡ (total_for row t).count + cond (eqb (rank s) (rank t)) 1 0
+pub plus-count : (row : StrengthTotals) (s t : Strength) (bytes : ℕ) → (total_for (plus_one row s bytes) t).count ≡ (total_for row t).count + cond
+    (eqb (rank s) (rank t)) 1 0
 plus-count row s t bytes = ap (λ (x : Total). x.count) (plus-total row s t bytes) ∙ case-count (eqb (rank s) (rank t)) (total_for row t) bytes
 
-pub plus-bytes : (row : StrengthTotals) (s t : Strength) (bytes : ℕ) → (total_for (plus_one row s bytes) t).bytes ≡ (total_for row t).bytes + cond (eqb (rank s) (rank t)) bytes 0
+pub plus-bytes : (row : StrengthTotals) (s t : Strength) (bytes : ℕ) → (total_for (plus_one row s bytes) t).bytes ≡ (total_for row t).bytes + cond
+    (eqb (rank s) (rank t)) bytes 0
 plus-bytes row s t bytes = ap (λ (x : Total). x.bytes) (plus-total row s t bytes) ∙ case-bytes (eqb (rank s) (rank t)) (total_for row t) bytes
 
 -- one object of a strength fewer
-less-case : (row : StrengthTotals) (s t : Strength) (bytes : ℕ) (b : Bool) → eqb (rank s) (rank t) ≡ b → 1 ≤ (total_for row s).count → (cond b (less_object (total_for row s) bytes) (total_for row t)).count + cond b 1 0 ≡ (total_for row t).count
+less-case : (row : StrengthTotals) (s t : Strength) (bytes : ℕ) (b : Bool) → eqb (rank s) (rank t) ≡ b → 1 ≤ (total_for row s).count
+    → (cond b (less_object (total_for row s) bytes) (total_for row t)).count + cond b 1 0 ≡ (total_for row t).count
 less-case row s t bytes true e some =
     let same : (total_for row s).count ≡ (total_for row t).count = ap (λ (x : Strength). (total_for row x).count) (one-rank s t e) in
     omega arith
 less-case row s t bytes false e some = add-zero (total_for row t).count
 
-less-bytes-case : (row : StrengthTotals) (s t : Strength) (bytes : ℕ) (b : Bool) → eqb (rank s) (rank t) ≡ b → bytes ≤ (total_for row s).bytes → (cond b (less_object (total_for row s) bytes) (total_for row t)).bytes + cond b bytes 0 ≡ (total_for row t).bytes
+less-bytes-case : (row : StrengthTotals) (s t : Strength) (bytes : ℕ) (b : Bool) → eqb (rank s) (rank t) ≡ b → bytes ≤ (total_for row s).bytes
+    → (cond b (less_object (total_for row s) bytes) (total_for row t)).bytes + cond b bytes 0 ≡ (total_for row t).bytes
 less-bytes-case row s t bytes true e some =
     let same : (total_for row s).bytes ≡ (total_for row t).bytes = ap (λ (x : Strength). (total_for row x).bytes) (one-rank s t e) in
     omega arith
 less-bytes-case row s t bytes false e some = add-zero (total_for row t).bytes
 
-pub less-count : (row : StrengthTotals) (s t : Strength) (bytes : ℕ) → 1 ≤ (total_for row s).count → (total_for (less_one row s bytes) t).count + cond (eqb (rank s) (rank t)) 1 0 ≡ (total_for row t).count
+pub less-count : (row : StrengthTotals) (s t : Strength) (bytes : ℕ) → 1 ≤ (total_for row s).count → (total_for (less_one row s bytes) t).count + cond
+    (eqb (rank s) (rank t)) 1 0 ≡ (total_for row t).count
 less-count row s t bytes some =
-    ap (λ (x : Total). x.count + cond (eqb (rank s) (rank t)) 1 0) (total-put row s t (less_object (total_for row s) bytes)) ∙ less-case row s t bytes (eqb (rank s) (rank t)) refl some
+    ap (λ (x : Total). x.count + cond (eqb (rank s) (rank t)) 1 0) (total-put row s t (less_object (total_for row s) bytes))
+    ∙ less-case row s t bytes (eqb (rank s) (rank t)) refl some
 
-pub less-bytes : (row : StrengthTotals) (s t : Strength) (bytes : ℕ) → bytes ≤ (total_for row s).bytes → (total_for (less_one row s bytes) t).bytes + cond (eqb (rank s) (rank t)) bytes 0 ≡ (total_for row t).bytes
+pub less-bytes : (row : StrengthTotals) (s t : Strength) (bytes : ℕ) → bytes ≤ (total_for row s).bytes → (total_for (less_one row s bytes) t).bytes + cond
+    (eqb (rank s) (rank t)) bytes 0 ≡ (total_for row t).bytes
 less-bytes row s t bytes some =
-    ap (λ (x : Total). x.bytes + cond (eqb (rank s) (rank t)) bytes 0) (total-put row s t (less_object (total_for row s) bytes)) ∙ less-bytes-case row s t bytes (eqb (rank s) (rank t)) refl some
+    ap (λ (x : Total). x.bytes + cond (eqb (rank s) (rank t)) bytes 0) (total-put row s t (less_object (total_for row s) bytes))
+    ∙ less-bytes-case row s t bytes (eqb (rank s) (rank t)) refl some

@@ -27,9 +27,11 @@ AreWhole c = length c.rows.items ≡ length c.keys
 -- first they make those before the second
 pub record AreTotalsBetween (dump : Dump) (strength : ℕ → Strength) (start end : ℕ) (t : Totals) : Type 0 where
   pub counts : (group : Group) (s : Strength) → InRange group
-      → (total_in t group s).count + count_by (counts_for dump strength group s) (range_with_len 0 start) ≡ count_by (counts_for dump strength group s) (range_with_len 0 end)
+      → (total_in t group s).count + count_by (counts_for dump strength group s) (range_with_len 0 start) ≡ count_by (counts_for dump strength group s)
+      (range_with_len 0 end)
   pub bytes : (group : Group) (s : Strength) → InRange group
-      → (total_in t group s).bytes + sum_by (bytes_if dump (counts_for dump strength group s)) (range_with_len 0 start) ≡ sum_by (bytes_if dump (counts_for dump strength group s)) (range_with_len 0 end)
+      → (total_in t group s).bytes + sum_by (bytes_if dump (counts_for dump strength group s)) (range_with_len 0 start) ≡ sum_by
+      (bytes_if dump (counts_for dump strength group s)) (range_with_len 0 end)
   pub few : (group : Group) (s : Strength) → InRange group → (total_in t group s).count + start ≤ end
   pub light : (group : Group) (s : Strength) → InRange group → (total_in t group s).bytes + start * largest_file ≤ end * largest_file
   pub grouped : (o : ℕ) → start ≤ o → o < end → Contains t.keys (group_key (object_at dump o).group)

@@ -28,4 +28,5 @@ pub record AreChangedBy (before : List ℕ) (changes : List StrengthChange) (n :
 
 -- what is kept of an object is its strength under each beginning of the log since which its page is unchanged
 abbrev pub AreLastChanges : Dump → List Event → List Reached → List ℕ → Type 0
-AreLastChanges dump log ks last = (o n : ℕ) → IsUnchanged last (page_of o) n → n ≤ length log → HasStrength (standing dump (take n log)) o (reached_at ks o).strength
+AreLastChanges dump log ks last = (o n : ℕ) → IsUnchanged last (page_of o) n → n ≤ length log
+    → HasStrength (standing dump (take n log)) o (reached_at ks o).strength

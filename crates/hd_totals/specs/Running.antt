@@ -20,7 +20,8 @@ counts_for dump strength group s o = (rank (strength o) == rank s) && same_group
 -- the totals of the first `k` objects, where objects have these strengths
 pub record AreTotalsOf (dump : Dump) (strength : ℕ → Strength) (k : ℕ) (t : Totals) : Type 0 where
   pub counts : (group : Group) (s : Strength) → InRange group → (total_in t group s).count ≡ count_by (counts_for dump strength group s) (range_with_len 0 k)
-  pub bytes : (group : Group) (s : Strength) → InRange group → (total_in t group s).bytes ≡ sum_by (bytes_if dump (counts_for dump strength group s)) (range_with_len 0 k)
+  pub bytes : (group : Group) (s : Strength) → InRange group → (total_in t group s).bytes ≡ sum_by (bytes_if dump (counts_for dump strength group s))
+      (range_with_len 0 k)
   pub grouped : (o : ℕ) → o < k → Contains t.keys (group_key (object_at dump o).group)
   pub in_range : (o : ℕ) → o < k → InRange (object_at dump o).group
   pub small : (o : ℕ) → o < k → (object_at dump o).bytes ≤ largest_file

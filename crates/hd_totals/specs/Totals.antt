@@ -83,8 +83,10 @@ total_in t group s = total_for (row_at t (group_key group)) s
 -- the totals of the objects of a dump, by what is kept of them: each group of an object is there. The objects are few, and no
 -- file holds more bytes than one may record, so that no total is too great
 pub record AreTotals (dump : Dump) (ks : List Reached) (t : Totals) : Type 0 where
-  pub counts : (group : Group) (s : Strength) → InRange group → (total_in t group s).count ≡ count_by (is_member dump ks group s) (range_with_len 0 (length dump.objects))
-  pub bytes : (group : Group) (s : Strength) → InRange group → (total_in t group s).bytes ≡ sum_by (bytes_if dump (is_member dump ks group s)) (range_with_len 0 (length dump.objects))
+  pub counts : (group : Group) (s : Strength) → InRange group → (total_in t group s).count ≡ count_by (is_member dump ks group s)
+      (range_with_len 0 (length dump.objects))
+  pub bytes : (group : Group) (s : Strength) → InRange group → (total_in t group s).bytes ≡ sum_by (bytes_if dump (is_member dump ks group s))
+      (range_with_len 0 (length dump.objects))
   pub grouped : (o : ℕ) → o < length dump.objects → Contains t.keys (group_key (object_at dump o).group)
   pub in_range : (o : ℕ) → o < length dump.objects → InRange (object_at dump o).group
   pub small : (o : ℕ) → o < length dump.objects → (object_at dump o).bytes ≤ largest_file

@@ -1,5 +1,6 @@
 -- Edges to an object, by the slots that refer to it.
-use Rattle.std.proofs.Common.{◌≡◌, ◌∙◌, ℕ, ◌+◌, ◌<◌, ◌==◌, Bool, true, false, cond, is_some, List, [], ◌∷◌, ◌++◌, length, map, get_or, slice_get, All, Contains, Option, Some, None, refl, sym, ap, subst, arith, zero-add}
+use Rattle.std.proofs.Common.{◌≡◌, ◌∙◌, ℕ, ◌+◌, ◌<◌, ◌==◌, Bool, true, false, cond, is_some, List, [], ◌∷◌, ◌++◌, length, map, get_or, slice_get, All, Contains}
+use Rattle.std.proofs.Common.{Option, Some, None, refl, sym, ap, subst, arith, zero-add}
 use Rattle.std.specs.Option.{option_map, option_map_or}
 use Rattle.std.specs.List.{filter, filter_map, cons_option, flat_map, enumerate_from}
 use Rattle.std.proofs.lemmas.Option.{same_Some, slice_get-map, slice_get_within, get_or_from_slice_get}
@@ -26,7 +27,8 @@ found-some o None hit = absurd cc
 found-some o (Some u) hit = refl
 
 -- where a slot of a dump is
-placed-there : (dump : Dump) (p : PlacedSlot) → Contains (all_slots dump) p → (p.source < length dump.objects) × (slice_get (object_at dump p.source).slots p.index ≡ Some p.entry)
+placed-there : (dump : Dump) (p : PlacedSlot) → Contains (all_slots dump) p → (p.source < length dump.objects)
+    × (slice_get (object_at dump p.source).slots p.index ≡ Some p.entry)
 placed-there dump p c =
     let (n, at, from) = flat_map_only slots_of (enumerate_from 0 dump.objects) p c in
     let (s, numbered, made) = map_only (placed_slot n.0) (enumerate_from 0 n.1.slots) p from in
@@ -49,17 +51,21 @@ module _ (dump : Dump) (log : List Event) where
   abbrev mark_at : PlacedSlot → Option MarkedEdge
   mark_at p = marked_edge dump log (object_at dump p.source) p.source p.entry
 
-  slots-marked : (k : ℕ) (x : Object) (j : ℕ) (ss : List SlotEntry) → object_at dump k ≡ x → filter_map (marked_edge dump log x k) ss ≡ filter_map mark_at (map (placed_slot k) (enumerate_from j ss))
+  slots-marked : (k : ℕ) (x : Object) (j : ℕ) (ss : List SlotEntry) → object_at dump k ≡ x → filter_map (marked_edge dump log x k) ss ≡ filter_map mark_at
+      (map (placed_slot k) (enumerate_from j ss))
   slots-marked k x j [] same = refl
   slots-marked k x j (s ∷ ss) same =
       ap (λ (y : Object). cons_option (marked_edge dump log y k s) (filter_map (marked_edge dump log x k) ss)) (sym same)
       ∙ ap (cons_option (mark_at (placed_slot k (j, s)))) (slots-marked k x (j + 1) ss same)
 
-  objects-marked : (ns : List (ℕ × Object)) → All (λ (n : ℕ × Object). object_at dump n.0 ≡ n.1) ns → flat_map (edges_of dump log) ns ≡ filter_map mark_at (flat_map slots_of ns)
+  objects-marked : (ns : List (ℕ × Object)) → All (λ (n : ℕ × Object). object_at dump n.0 ≡ n.1) ns → flat_map (edges_of dump log) ns ≡ filter_map mark_at
+      (flat_map slots_of ns)
   objects-marked [] all = refl
   objects-marked ((k, x) ∷ ns) all =
-      ap (λ (ms : List MarkedEdge). ms ++ flat_map (edges_of dump log) ns) (slots-marked k x 0 x.slots (All-head (λ (n : ℕ × Object). object_at dump n.0 ≡ n.1) (k, x) ns all))
-      ∙ ap (λ (ms : List MarkedEdge). filter_map mark_at (slots_of (k, x)) ++ ms) (objects-marked ns (All-tail (λ (n : ℕ × Object). object_at dump n.0 ≡ n.1) (k, x) ns all))
+      ap (λ (ms : List MarkedEdge). ms ++ flat_map (edges_of dump log) ns)
+      (slots-marked k x 0 x.slots (All-head (λ (n : ℕ × Object). object_at dump n.0 ≡ n.1) (k, x) ns all))
+      ∙ ap (λ (ms : List MarkedEdge). filter_map mark_at (slots_of (k, x)) ++ ms)
+      (objects-marked ns (All-tail (λ (n : ℕ × Object). object_at dump n.0 ≡ n.1) (k, x) ns all))
       ∙ sym (filter_map-append mark_at (slots_of (k, x)) (flat_map slots_of ns))
 
   module _ (o : ℕ) where
@@ -69,16 +75,20 @@ module _ (dump : Dump) (log : List Event) where
     abbrev refers : PlacedSlot → Bool
     refers p = refers_to dump o p.entry
 
-    by-case : (b : Bool) (p : PlacedSlot) (m : MarkedEdge) (rest : List MarkedEdge) (more : List PlacedSlot) → mark_at p ≡ Some m → filter test rest ≡ filter_map mark_at more
+    by-case : (b : Bool) (p : PlacedSlot) (m : MarkedEdge) (rest : List MarkedEdge) (more : List PlacedSlot) → mark_at p ≡ Some m
+        → filter test rest ≡ filter_map mark_at more
         → cond b (m ∷ filter test rest) (filter test rest) ≡ filter_map mark_at (cond b (p ∷ more) more)
-    by-case true p m rest more is same = ap (λ (ms : List MarkedEdge). m ∷ ms) same ∙ ap (λ (q : Option MarkedEdge). cons_option q (filter_map mark_at more)) (sym is)
+    by-case true p m rest more is same = ap (λ (ms : List MarkedEdge). m ∷ ms) same ∙ ap (λ (q : Option MarkedEdge). cons_option q (filter_map mark_at more))
+        (sym is)
     by-case false p m rest more is same = same
 
     -- the edge of a slot, by what the slot refers to
     abbrev mark_by : PlacedSlot → Option ℕ → Option MarkedEdge
-    mark_by p t = option_map (λ e. record { edge = e; stands = is_untouched log (object_at dump p.source) p.entry }) (option_map (λ (target : ℕ). record { source = p.source; slot = p.entry.slot; target = target; kind = p.entry.kind }) t)
+    mark_by p t = option_map (λ e. record { edge = e; stands = is_untouched log (object_at dump p.source) p.entry })
+        (option_map (λ (target : ℕ). record { source = p.source; slot = p.entry.slot; target = target; kind = p.entry.kind }) t)
 
-    by-target : (p : PlacedSlot) (t : Option ℕ) (rest : List MarkedEdge) (more : List PlacedSlot) → index_of dump.objects p.entry.id ≡ t → filter test rest ≡ filter_map mark_at more
+    by-target : (p : PlacedSlot) (t : Option ℕ) (rest : List MarkedEdge) (more : List PlacedSlot) → index_of dump.objects p.entry.id ≡ t
+        → filter test rest ≡ filter_map mark_at more
         → filter test (cons_option (mark_at p) rest) ≡ filter_map mark_at (cond (refers p) (p ∷ more) more)
     by-target p None rest more is same =
         ap (λ (u : Option ℕ). filter test (cons_option (mark_by p u) rest)) is
@@ -117,8 +127,10 @@ module _ (dump : Dump) (log : List Event) where
       pub there : slice_get (object_at dump r.source).slots r.index ≡ Some entry
       pub edge : is_edge dump entry ≡ true
 
-    referrer-slot : (i : ℕ) (r : Referrer) → slice_get (referrers_to dump o) i ≡ Some r → (p : PlacedSlot) × (slice_get (filter refers (all_slots dump)) i ≡ Some p) × (place_of p ≡ r)
-    referrer-slot i r at = mapped_some place_of (slice_get (filter refers (all_slots dump)) i) r (sym (slice_get-map place_of (filter refers (all_slots dump)) i) ∙ at)
+    referrer-slot : (i : ℕ) (r : Referrer) → slice_get (referrers_to dump o) i ≡ Some r → (p : PlacedSlot)
+        × (slice_get (filter refers (all_slots dump)) i ≡ Some p) × (place_of p ≡ r)
+    referrer-slot i r at = mapped_some place_of (slice_get (filter refers (all_slots dump)) i) r
+        (sym (slice_get-map place_of (filter refers (all_slots dump)) i) ∙ at)
 
     pub is_referrer : (i : ℕ) (r : Referrer) → slice_get (referrers_to dump o) i ≡ Some r → IsReferrer r
     is_referrer i r at =
@@ -127,11 +139,13 @@ module _ (dump : Dump) (log : List Event) where
         let among : Contains kept p = Contains-slice_get kept i p (slice_get_within kept i p there) there in
         let place = placed-there dump p (filter_only refers (all_slots dump) p among) in
         let yes : refers p ≡ true = All-contains (λ (q : PlacedSlot). refers q ≡ true) kept p (filter_passes refers (all_slots dump)) among in
-        let known : IsReferrer (place_of p) = record { object = place.0; entry = p.entry; there = place.1; edge = found-some o (index_of dump.objects p.entry.id) yes } in
+        let known : IsReferrer (place_of p) =
+        record { object = place.0; entry = p.entry; there = place.1; edge = found-some o (index_of dump.objects p.entry.id) yes } in
         subst IsReferrer same known
 
     -- an edge to the object by its index
-    pub into_there : (i : ℕ) (r : Referrer) (m : MarkedEdge) → slice_get (referrers_to dump o) i ≡ Some r → IsMark dump log r.source r.index m → slice_get (edges_into dump log o) i ≡ Some m
+    pub into_there : (i : ℕ) (r : Referrer) (m : MarkedEdge) → slice_get (referrers_to dump o) i ≡ Some r → IsMark dump log r.source r.index m
+        → slice_get (edges_into dump log o) i ≡ Some m
     into_there i r m at mark =
         let (p, there, same) = referrer-slot i r at in
         let kept : List PlacedSlot = filter refers (all_slots dump) in

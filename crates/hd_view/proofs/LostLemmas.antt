@@ -1,4 +1,5 @@
-use Rattle.std.proofs.Common.{◌≡◌, ◌∙◌, ℕ, ◌+◌, ◌<◌, ◌⊎◌, inl, inr, List, [], ◌∷◌, ◌++◌, Contains, length, get_or, not, Bool, true, false, Option, None, Some, slice_get, refl, sym, ap, subst, arith}
+use Rattle.std.proofs.Common.{◌≡◌, ◌∙◌, ℕ, ◌+◌, ◌<◌, ◌⊎◌, inl, inr, List, [], ◌∷◌, ◌++◌, Contains, length, get_or, not, Bool, true, false, Option, None, Some}
+use Rattle.std.proofs.Common.{slice_get, refl, sym, ap, subst, arith}
 use Rattle.std.specs.Prelude.{◌≢◌, ◌≤◌, ◌||◌, ◌==◌, position, All}
 use Rattle.std.specs.Option.{option_map, option_map_or}
 use Rattle.std.specs.List.{enumerate_from}
@@ -20,8 +21,10 @@ use Rattle.hd_terms.specs.Regions.{Holding, edge_holding, root_holding}
 use Rattle.hd_strength.specs.Cleared.{is_cleared}
 use Rattle.hd_strength.specs.Removed.{Removals, has_slot, is_removed, IsRemovedBy}
 use Rattle.hd_strength.specs.Rows.{edge_at, root_at}
-use Rattle.hd_strength.proofs.Lists.{Contains-nil, Contains-head, Contains-cons_cases, Contains-slice_get, flat_map_contains, flat_map_only, filter_map_contains, filter_map_only, filter_contains, filter_only, enumerate_contains, enumerate_only}
-use Rattle.hd_strength.proofs.RowLemmas.{edge_to, entry_to, not-true, not-false, IsAt, is_at, at_some, at_cut, at_none, at_edge, at_source, edge_stands_at, edge_has_index, held_at, root_some, root_stands_at, root_has_number, is_entry}
+use Rattle.hd_strength.proofs.Lists.{Contains-nil, Contains-head, Contains-cons_cases, Contains-slice_get, flat_map_contains, flat_map_only}
+use Rattle.hd_strength.proofs.Lists.{filter_map_contains, filter_map_only, filter_contains, filter_only, enumerate_contains, enumerate_only}
+use Rattle.hd_strength.proofs.RowLemmas.{edge_to, entry_to, not-true, not-false, IsAt, is_at, at_some, at_cut, at_none, at_edge, at_source, edge_stands_at}
+use Rattle.hd_strength.proofs.RowLemmas.{edge_has_index, held_at, root_some, root_stands_at, root_has_number, is_entry}
 use Rattle.hd_terms.specs.Lost.{IsLostEdge, IsLostRoot, AreLost}
 use Rattle.hd_view.specs.Losing.{AddsLost, HasEdge, HasRoot, HasNamed, HasIndexed, HasKind, HasNumber, HasAllLost}
 
@@ -42,7 +45,8 @@ adds_one dump more less xs x lost = record {
   ];
 }
 
-pub adds_more : (dump : Dump) (more less : List Event) (xs ys zs : List Holding) → AddsLost dump more less xs ys → AddsLost dump more less ys zs → AddsLost dump more less xs zs
+pub adds_more : (dump : Dump) (more less : List Event) (xs ys zs : List Holding) → AddsLost dump more less xs ys → AddsLost dump more less ys zs
+    → AddsLost dump more less xs zs
 adds_more dump more less xs ys zs a b = record {
   kept = λ h c. b.kept h (a.kept h c);
   only = λ h c. elim (b.only h c) [
@@ -52,13 +56,15 @@ adds_more dump more less xs ys zs a b = record {
 }
 
 -- what the items have they keep
-pub keeps_edge : (dump : Dump) (more less : List Event) (xs ys : List Holding) → AddsLost dump more less xs ys → (e : Edge) → HasEdge dump less xs e → HasEdge dump less ys e
+pub keeps_edge : (dump : Dump) (more less : List Event) (xs ys : List Holding) → AddsLost dump more less xs ys → (e : Edge) → HasEdge dump less xs e
+    → HasEdge dump less ys e
 keeps_edge dump more less xs ys a e has = elim has [
   | inl stays ↦ inl stays
   | inr there ↦ inr (a.kept (edge_holding e) there)
 ]
 
-pub keeps_root : (dump : Dump) (more less : List Event) (xs ys : List Holding) → AddsLost dump more less xs ys → (x : RootEntry) → HasRoot dump less xs x → HasRoot dump less ys x
+pub keeps_root : (dump : Dump) (more less : List Event) (xs ys : List Holding) → AddsLost dump more less xs ys → (x : RootEntry) → HasRoot dump less xs x
+    → HasRoot dump less ys x
 keeps_root dump more less xs ys a x has = elim has [
   | inl stays ↦ inl stays
   | inr there ↦ inr (a.kept (root_holding x) there)
@@ -73,24 +79,34 @@ some-number : (a b : ℕ) → Some a ≡ Some b → a ≡ b
 some-number a b h = cc
 
 -- what is taken away doesn't stand
-pub cut_by : (dump : Dump) (log : List Event) (t : Removals) (o i : ℕ) (s : SlotEntry) (r : Bool) → IsRemovedBy dump log t → o < length dump.objects → slice_get (object_at dump o).slots i ≡ Some s → r ≡ is_removed t o i s.kind → r ≡ true → is_untouched log (object_at dump o) s ≡ false
+pub cut_by : (dump : Dump) (log : List Event) (t : Removals) (o i : ℕ) (s : SlotEntry) (r : Bool) → IsRemovedBy dump log t → o < length dump.objects
+    → slice_get (object_at dump o).slots i ≡ Some s → r ≡ is_removed t o i s.kind → r ≡ true → is_untouched log (object_at dump o) s ≡ false
 cut_by dump log t o i s r by lt there is cut = not-true (is_untouched log (object_at dump o) s) (sym (by.slots o i s lt there) ∙ sym is ∙ cut)
 
-pub uncut_by : (dump : Dump) (log : List Event) (t : Removals) (o i : ℕ) (s : SlotEntry) (r : Bool) → IsRemovedBy dump log t → o < length dump.objects → slice_get (object_at dump o).slots i ≡ Some s → r ≡ is_removed t o i s.kind → r ≡ false → is_untouched log (object_at dump o) s ≡ true
+pub uncut_by : (dump : Dump) (log : List Event) (t : Removals) (o i : ℕ) (s : SlotEntry) (r : Bool) → IsRemovedBy dump log t → o < length dump.objects
+    → slice_get (object_at dump o).slots i ≡ Some s → r ≡ is_removed t o i s.kind → r ≡ false → is_untouched log (object_at dump o) s ≡ true
 uncut_by dump log t o i s r by lt there is stays = not-false (is_untouched log (object_at dump o) s) (sym (by.slots o i s lt there) ∙ sym is ∙ stays)
 
 -- a slot has its own name
 same-slot : (a b : Slot) → a ≡ b → same_slot a b ≡ true
-same-slot a b is = rw (eq-eqb (slot_code a).0 (slot_code b).0 (ap (λ (x : Slot). (slot_code x).0) is), eq-eqb (slot_code a).1 (slot_code b).1 (ap (λ (x : Slot). (slot_code x).1) is)) refl
+same-slot a b is = rw (
+  eq-eqb (slot_code a).0 (slot_code b).0 (ap (λ (x : Slot). (slot_code x).0) is),
+  eq-eqb (slot_code a).1 (slot_code b).1
+      (ap (λ (x : Slot). (slot_code x).1) is),
+) refl
 
 -- the slot that is found has the name
-pub named_first : (slots : List SlotEntry) (slot : Slot) (i : ℕ) (s : SlotEntry) (r : Option ℕ) → r ≡ position (λ (x : SlotEntry). same_slot x.slot slot) slots → r ≡ Some i → slice_get slots i ≡ Some s → same_slot s.slot slot ≡ true
+pub named_first : (slots : List SlotEntry) (slot : Slot) (i : ℕ) (s : SlotEntry) (r : Option ℕ) → r ≡ position (λ (x : SlotEntry). same_slot x.slot slot) slots
+    → r ≡ Some i → slice_get slots i ≡ Some s → same_slot s.slot slot ≡ true
 named_first slots slot i s r first found there =
-    ap (λ (x : SlotEntry). same_slot x.slot slot) (sym (get_or_from_slice_get slots i s s there)) ∙ (position-Some (λ (x : SlotEntry). same_slot x.slot slot) slots i s (sym first ∙ found)).1
+    ap (λ (x : SlotEntry). same_slot x.slot slot) (sym (get_or_from_slice_get slots i s s there))
+    ∙ (position-Some (λ (x : SlotEntry). same_slot x.slot slot) slots i s (sym first ∙ found)).1
 
 -- the edges of a named slot of an object
-module _ (dump : Dump) (o : ℕ) (slot : Slot) (r : Option ℕ) (only : (j : ℕ) (x : SlotEntry) → slice_get (object_at dump o).slots j ≡ Some x → same_slot x.slot slot ≡ true → r ≡ Some j) where
-  edge-index : (log : List Event) (e : Edge) → Contains (standing dump log).edges e → e.source ≡ o → same_slot e.slot slot ≡ true → (j : ℕ) × (edge_at dump log o j ≡ Some e) × (r ≡ Some j)
+module _ (dump : Dump) (o : ℕ) (slot : Slot) (r : Option ℕ) (only : (j : ℕ) (x : SlotEntry) → slice_get (object_at dump o).slots j ≡ Some x
+    → same_slot x.slot slot ≡ true → r ≡ Some j) where
+  edge-index : (log : List Event) (e : Edge) → Contains (standing dump log).edges e → e.source ≡ o → same_slot e.slot slot ≡ true → (j : ℕ)
+      × (edge_at dump log o j ≡ Some e) × (r ≡ Some j)
   edge-index log e c source name =
       let (j, at) = edge_has_index dump log e c in
       let at_o : edge_at dump log o j ≡ Some e = subst (λ (n : ℕ). edge_at dump log n j ≡ Some e) source at in
@@ -104,13 +120,15 @@ module _ (dump : Dump) (o : ℕ) (slot : Slot) (r : Option ℕ) (only : (j : ℕ
       let clash : None ≡ Some j = sym none ∙ some in absurd cc
 
   module _ (i : ℕ) (s : SlotEntry) (found : r ≡ Some i) (there : slice_get (object_at dump o).slots i ≡ Some s) where
-    at-index : (log : List Event) (e : Edge) → Contains (standing dump log).edges e → e.source ≡ o → same_slot e.slot slot ≡ true → edge_at dump log o i ≡ Some e
+    at-index : (log : List Event) (e : Edge) → Contains (standing dump log).edges e → e.source ≡ o → same_slot e.slot slot ≡ true
+        → edge_at dump log o i ≡ Some e
     at-index log e c source name =
         let (j, at, some) = edge-index log e c source name in
         let same : i ≡ j = some-number i j (sym found ∙ some) in
         subst (λ (n : ℕ). edge_at dump log o n ≡ Some e) (sym same) at
 
-    pub lost_edge : (more less : List Event) (t : ℕ) → same_slot s.slot slot ≡ true → index_of dump.objects s.id ≡ Some t → is_untouched more (object_at dump o) s ≡ true → is_untouched less (object_at dump o) s ≡ false
+    pub lost_edge : (more less : List Event) (t : ℕ) → same_slot s.slot slot ≡ true → index_of dump.objects s.id ≡ Some t
+        → is_untouched more (object_at dump o) s ≡ true → is_untouched less (object_at dump o) s ≡ false
         → Lost dump more less (record { target = t; holder = supports.Edge o s.slot })
     lost_edge more less t named target stood cut =
         let e : Edge = edge_to o s t in
@@ -133,21 +151,25 @@ module _ (dump : Dump) (o : ℕ) (slot : Slot) (r : Option ℕ) (only : (j : ℕ
         let found_edge = at_edge dump more o i s there e (at-index more e c source (same-slot e.slot slot name)) in
         inl (edge_stands_at dump less o i e (at_some dump less o i s there e.target found_edge.0 stands ∙ ap (λ (x : Edge). Some x) (sym found_edge.1)))
 
-    pub pushed_edge : (more less : List Event) (items : List Holding) (t : ℕ) → index_of dump.objects s.id ≡ Some t → HasNamed dump more less o slot (items ++ (record { target = t; holder = supports.Edge o s.slot }) ∷ [])
+    pub pushed_edge : (more less : List Event) (items : List Holding) (t : ℕ) → index_of dump.objects s.id ≡ Some t
+        → HasNamed dump more less o slot (items ++ (record { target = t; holder = supports.Edge o s.slot }) ∷ [])
     pushed_edge more less items t target e c source name =
         let found_edge = at_edge dump more o i s there e (at-index more e c source (same-slot e.slot slot name)) in
         let same : t ≡ e.target = some-number t e.target (sym target ∙ found_edge.0) in
         let is : edge_to o s t ≡ e = ap (edge_to o s) same ∙ sym found_edge.1 in
-        inr (subst (λ (x : Edge). Contains (items ++ (record { target = t; holder = supports.Edge o s.slot }) ∷ []) (edge_holding x)) is (has-last items (edge_holding (edge_to o s t))))
+        inr (subst (λ (x : Edge). Contains (items ++ (record { target = t; holder = supports.Edge o s.slot }) ∷ []) (edge_holding x)) is
+        (has-last items (edge_holding (edge_to o s t))))
 
 -- the slot at an index
 pub no_object_there : (dump : Dump) (more less : List Event) (o i : ℕ) (items : List Holding) → length dump.objects ≤ o → HasIndexed dump more less o i items
 no_object_there dump more less o i items past e at = let lt : o < length dump.objects = (is_at dump more o i e at).object in absurd (omega arith)
 
-pub no_slot_there : (dump : Dump) (more less : List Event) (o i : ℕ) (items : List Holding) → length (object_at dump o).slots ≤ i → HasIndexed dump more less o i items
+pub no_slot_there : (dump : Dump) (more less : List Event) (o i : ℕ) (items : List Holding) → length (object_at dump o).slots ≤ i
+    → HasIndexed dump more less o i items
 no_slot_there dump more less o i items past e at = let lt : i < length (object_at dump o).slots = (is_at dump more o i e at).within in absurd (omega arith)
 
-pub by_name : (dump : Dump) (more less : List Event) (o i : ℕ) (s : SlotEntry) (items : List Holding) → slice_get (object_at dump o).slots i ≡ Some s → HasNamed dump more less o s.slot items → HasIndexed dump more less o i items
+pub by_name : (dump : Dump) (more less : List Event) (o i : ℕ) (s : SlotEntry) (items : List Holding) → slice_get (object_at dump o).slots i ≡ Some s
+    → HasNamed dump more less o s.slot items → HasIndexed dump more less o i items
 by_name dump more less o i s items there named e at =
     named e (edge_stands_at dump more o i e at) (at_source dump more o i e at) (ap (λ (x : Edge). x.slot) (at_edge dump more o i s there e at).1)
 
@@ -184,9 +206,11 @@ one-kind a b is = eq-eqb (rank (given_by a)) (rank (given_by b)) (ap (λ (k : Ed
 
 -- the items have the first edges of a kind
 abbrev pub HasFirst : Dump → (more less : List Event) → RefKind → ℕ → List Holding → Type 0
-HasFirst dump more less kind n items = (k : ℕ) (e : Edge) → k < n → slice_get (kind_edges dump kind) k ≡ Some e → Contains (standing dump more).edges e → HasEdge dump less items e
+HasFirst dump more less kind n items = (k : ℕ) (e : Edge) → k < n → slice_get (kind_edges dump kind) k ≡ Some e → Contains (standing dump more).edges e
+    → HasEdge dump less items e
 
-pub next_of_kind : (dump : Dump) (more less : List Event) (kind : RefKind) (n o : ℕ) (slot : Slot) (found : Edge) (xs ys : List Holding) → slice_get (kind_edges dump kind) n ≡ Some found → found.source ≡ o → found.slot ≡ slot → AddsLost dump more less xs ys
+pub next_of_kind : (dump : Dump) (more less : List Event) (kind : RefKind) (n o : ℕ) (slot : Slot) (found : Edge) (xs ys : List Holding)
+    → slice_get (kind_edges dump kind) n ≡ Some found → found.source ≡ o → found.slot ≡ slot → AddsLost dump more less xs ys
     → HasNamed dump more less o slot ys → HasFirst dump more less kind n xs → HasFirst dump more less kind (n + 1) ys
 next_of_kind dump more less kind n o slot found xs ys at source name adds here before k e lt is stood = elim (cases_lt k n) [
   | inl earlier ↦ keeps_edge dump more less xs ys adds e (before k e earlier is stood)
@@ -197,9 +221,11 @@ next_of_kind dump more less kind n o slot found xs ys at source name adds here b
       here e stood (sym (ap (λ (x : Edge). x.source) same) ∙ source) (sym (ap (λ (x : Edge). x.slot) same) ∙ name)
 ]
 
-pub all_of_kind : (dump : Dump) (more less : List Event) (kind : RefKind) (n : ℕ) (items : List Holding) → length (kind_edges dump kind) ≤ n → HasFirst dump more less kind n items → HasKind dump more less kind items
+pub all_of_kind : (dump : Dump) (more less : List Event) (kind : RefKind) (n : ℕ) (items : List Holding) → length (kind_edges dump kind) ≤ n
+    → HasFirst dump more less kind n items → HasKind dump more less kind items
 all_of_kind dump more less kind n items le has e stood is =
-    let (k, lt, at) = filter_contains (λ (x : Edge). same_kind x.kind (kind_of_references kind)) (edges dump) e (among_edges dump more e stood) (one-kind e.kind (kind_of_references kind) is) in
+    let (k, lt, at) = filter_contains (λ (x : Edge). same_kind x.kind (kind_of_references kind)) (edges dump) e (among_edges dump more e stood)
+    (one-kind e.kind (kind_of_references kind) is) in
     has k e (omega arith) (slice_get-get_or (kind_edges dump kind) k e lt ∙ ap (λ (x : Edge). Some x) at) stood
 
 -- neither of two tests
@@ -208,7 +234,8 @@ second-fails true b h = absurd cc
 second-fails false b h = h
 
 -- an edge that stands is of no kind that is cleared
-uncleared : (dump : Dump) (log : List Event) (t : Removals) (e : Edge) → IsRemovedBy dump log t → Contains (standing dump log).edges e → is_cleared t.cleared e.kind ≡ false
+uncleared : (dump : Dump) (log : List Event) (t : Removals) (e : Edge) → IsRemovedBy dump log t → Contains (standing dump log).edges e
+    → is_cleared t.cleared e.kind ≡ false
 uncleared dump log t e by stood =
     let (i, at) = edge_has_index dump log e stood in
     let known : IsAt dump log e.source i e = is_at dump log e.source i e at in
@@ -216,28 +243,34 @@ uncleared dump log t e by stood =
     ap (λ (x : Edge). is_cleared t.cleared x.kind) known.is ∙ second-fails (has_slot t.slots e.source i) (is_cleared t.cleared known.entry.kind) kept
 
 -- a kind of which none stood
-pub none_stood : (dump : Dump) (more less : List Event) (t : Removals) (kind : RefKind) (r : Bool) (items : List Holding) → IsRemovedBy dump more t → r ≡ is_cleared t.cleared (kind_of_references kind) → r ≡ true → HasKind dump more less kind items
+pub none_stood : (dump : Dump) (more less : List Event) (t : Removals) (kind : RefKind) (r : Bool) (items : List Holding) → IsRemovedBy dump more t
+    → r ≡ is_cleared t.cleared (kind_of_references kind) → r ≡ true → HasKind dump more less kind items
 none_stood dump more less t kind r items by is set e stood one =
     let clash : true ≡ false = sym set ∙ is ∙ ap (is_cleared t.cleared) (sym one) ∙ uncleared dump more t e by stood in absurd cc
 
 -- a root by the test of its object
-on-by : (t : ℕ) (at : Option RootEntry) → option_map_or (λ (x : RootEntry). x.target == t) at false ≡ true → Some t ≡ option_map (λ (x : RootEntry). x.target) at
+on-by : (t : ℕ) (at : Option RootEntry) → option_map_or (λ (x : RootEntry). x.target == t) at false ≡ true
+    → Some t ≡ option_map (λ (x : RootEntry). x.target) at
 on-by t None is = absurd cc
 on-by t (Some x) is = ap (λ (n : ℕ). Some n) (sym (eqb-true x.target t is))
 
-off-by : (t : ℕ) (at : Option RootEntry) → option_map_or (λ (x : RootEntry). x.target == t) at false ≡ false → option_map (λ (x : RootEntry). x.target) at ≡ Some t → ⊥
+off-by : (t : ℕ) (at : Option RootEntry) → option_map_or (λ (x : RootEntry). x.target == t) at false ≡ false
+    → option_map (λ (x : RootEntry). x.target) at ≡ Some t → ⊥
 off-by t None is held = absurd cc
 off-by t (Some x) is held = let same : x.target ≡ t = some-number x.target t held in let clash : true ≡ false = sym (eq-eqb x.target t same) ∙ is in absurd cc
 
 -- whether a root holds an object
-pub is_on : (dump other : Dump) (log : List Event) (r t : ℕ) (b : Bool) → other ≡ dump → b ≡ option_map_or (λ (x : RootEntry). x.target == t) (root_at other log r) false → b ≡ true → Some t ≡ held_at dump log r
+pub is_on : (dump other : Dump) (log : List Event) (r t : ℕ) (b : Bool) → other ≡ dump → b ≡ option_map_or (λ (x : RootEntry). x.target == t)
+    (root_at other log r) false → b ≡ true → Some t ≡ held_at dump log r
 is_on dump other log r t b same is on = subst (λ (d : Dump). Some t ≡ held_at d log r) same (on-by t (root_at other log r) (sym is ∙ on))
 
-pub is_off : (dump other : Dump) (log : List Event) (r t : ℕ) (b : Bool) → other ≡ dump → b ≡ option_map_or (λ (x : RootEntry). x.target == t) (root_at other log r) false → b ≡ false → held_at dump log r ≡ Some t → ⊥
+pub is_off : (dump other : Dump) (log : List Event) (r t : ℕ) (b : Bool) → other ≡ dump → b ≡ option_map_or (λ (x : RootEntry). x.target == t)
+    (root_at other log r) false → b ≡ false → held_at dump log r ≡ Some t → ⊥
 is_off dump other log r t b same is off = subst (λ (d : Dump). held_at d log r ≡ Some t → ⊥) same (off-by t (root_at other log r) (sym is ∙ off))
 
 -- a root that is lost, one that stands, and one that is added
-pub lost_root : (dump : Dump) (more less : List Event) (r t : ℕ) → Some t ≡ held_at dump more r → (held_at dump less r ≡ Some t → ⊥) → Lost dump more less (record { target = t; holder = supports.Root r })
+pub lost_root : (dump : Dump) (more less : List Event) (r t : ℕ) → Some t ≡ held_at dump more r → (held_at dump less r ≡ Some t → ⊥)
+    → Lost dump more less (record { target = t; holder = supports.Root r })
 lost_root dump more less r t some other =
     let x : RootEntry = entry_to r t in
     let is : IsLostRoot dump more less (root_holding x) = record {
@@ -251,14 +284,18 @@ lost_root dump more less r t some other =
     } in
     inr is
 
-pub same_root : (dump : Dump) (more less : List Event) (r t : ℕ) (items : List Holding) → Some t ≡ held_at dump more r → Some t ≡ held_at dump less r → HasNumber dump more less r items
-same_root dump more less r t items some other x at = inl (root_stands_at dump less r x (root_some dump less r t other ∙ sym (root_some dump more r t some) ∙ at))
+pub same_root : (dump : Dump) (more less : List Event) (r t : ℕ) (items : List Holding) → Some t ≡ held_at dump more r → Some t ≡ held_at dump less r
+    → HasNumber dump more less r items
+same_root dump more less r t items some other x at =
+    inl (root_stands_at dump less r x (root_some dump less r t other ∙ sym (root_some dump more r t some) ∙ at))
 
-pub pushed_root : (dump : Dump) (more less : List Event) (r t : ℕ) (items : List Holding) → Some t ≡ held_at dump more r → HasNumber dump more less r (items ++ (record { target = t; holder = supports.Root r }) ∷ [])
+pub pushed_root : (dump : Dump) (more less : List Event) (r t : ℕ) (items : List Holding) → Some t ≡ held_at dump more r
+    → HasNumber dump more less r (items ++ (record { target = t; holder = supports.Root r }) ∷ [])
 pushed_root dump more less r t items some x at =
     let one : Some (entry_to r t) ≡ Some x = sym (root_some dump more r t some) ∙ at in
     let same : entry_to r t ≡ x = cc in
-    inr (subst (λ (y : RootEntry). Contains (items ++ (record { target = t; holder = supports.Root r }) ∷ []) (root_holding y)) same (has-last items (root_holding (entry_to r t))))
+    inr (subst (λ (y : RootEntry). Contains (items ++ (record { target = t; holder = supports.Root r }) ∷ []) (root_holding y)) same
+    (has-last items (root_holding (entry_to r t))))
 
 -- what each of a list is
 all-by : (P : Holding → Type 0) (xs : List Holding) → ((h : Holding) → Contains xs h → P h) → All P xs
@@ -291,7 +328,8 @@ lost-holder dump more less h lost nothing = elim lost [
 ]
 
 -- all that is lost
-pub all_lost : (dump : Dump) (more less : List Event) (none items : List Holding) → none ≡ [] → AddsLost dump more less none items → HasAllLost dump more less items → AreLost dump more less items
+pub all_lost : (dump : Dump) (more less : List Event) (none items : List Holding) → none ≡ [] → AddsLost dump more less none items
+    → HasAllLost dump more less items → AreLost dump more less items
 all_lost dump more less none items empty adds all =
     let added : AddsLost dump more less [] items = subst (λ (xs : List Holding). AddsLost dump more less xs items) empty adds in
     let only : (h : Holding) → Contains items h → Lost dump more less h = λ h c. elim (added.only h c) [

@@ -1,5 +1,6 @@
 -- What is lost where two logs differ by one live edit.
-use Rattle.std.proofs.Common.{◌≡◌, ◌∙◌, inl, inr, ℕ, zero, suc, ◌+◌, ◌-◌, ◌<◌, Bool, true, false, cond, not, nat_lt, List, length, Contains, Option, Some, None, slice_get, refl, sym, ap, subst, arith}
+use Rattle.std.proofs.Common.{◌≡◌, ◌∙◌, inl, inr, ℕ, zero, suc, ◌+◌, ◌-◌, ◌<◌, Bool, true, false, cond, not, nat_lt, List, length, Contains, Option, Some, None}
+use Rattle.std.proofs.Common.{slice_get, refl, sym, ap, subst, arith}
 use Rattle.std.specs.Option.{option_map, option_and_then}
 use Rattle.std.specs.List.{list_any, enumerate_from}
 use Rattle.std.proofs.lemmas.Bool.{cases_lt, cases_eq, eqb-true, lt-leb, lt-ltb}
@@ -84,7 +85,8 @@ module _ (less more : List Event) (k : ℕ) (edit : Edit) (one : HasOneMore less
       ])
 
 -- the root of an event, by its live edit
-edit-event : (dump : Dump) (log : List Event) (k : ℕ) (at : Option Event) → root_by_event dump log k at ≡ added_by dump log k (option_and_then (λ (e : Event). live_edit log (k, e)) at)
+edit-event : (dump : Dump) (log : List Event) (k : ℕ) (at : Option Event) → root_by_event dump log k at ≡ added_by dump log k
+    (option_and_then (λ (e : Event). live_edit log (k, e)) at)
 edit-event dump log k None = refl
 edit-event dump log k (Some event) = refl
 
@@ -100,11 +102,14 @@ not-dropped false o x is = (refl, is)
 
 -- an edge stands still, where what it goes through is untouched
 module _ (dump : Dump) (before after : List Event) where
-  still-edge : (e : Edge) (i : ℕ) (known : IsAt dump before e.source i e) → is_untouched after (object_at dump e.source) known.entry ≡ true → Contains (standing dump after).edges e
+  still-edge : (e : Edge) (i : ℕ) (known : IsAt dump before e.source i e) → is_untouched after (object_at dump e.source) known.entry ≡ true
+      → Contains (standing dump after).edges e
   still-edge e i known stays =
-      edge_stands_at dump after e.source i e (at_some dump after e.source i known.entry known.there e.target known.index stays ∙ ap (λ (x : Edge). Some x) (sym known.is))
+      edge_stands_at dump after e.source i e (at_some dump after e.source i known.entry known.there e.target known.index stays
+      ∙ ap (λ (x : Edge). Some x) (sym known.is))
 
-  edge-within : ((x : Object) (s : SlotEntry) → is_untouched before x s ≡ true → is_untouched after x s ≡ true) → (e : Edge) → Contains (standing dump before).edges e → Contains (standing dump after).edges e
+  edge-within : ((x : Object) (s : SlotEntry) → is_untouched before x s ≡ true → is_untouched after x s ≡ true) → (e : Edge)
+      → Contains (standing dump before).edges e → Contains (standing dump after).edges e
   edge-within untouched e c =
       let (i, at) = edge_has_index dump before e c in
       let known : IsAt dump before e.source i e = is_at dump before e.source i e at in
@@ -124,13 +129,15 @@ module _ (dump : Dump) (before after : List Event) (r : ℕ) (undropped : is_dro
   dump-root x None holds = absurd cc
   dump-root x (Some root) holds = still-held r root.id x refl holds
 
-  edit-root : (k : ℕ) (x : RootEntry) (edit : Option Edit) → r ≡ length dump.roots + k → live_edit_at before k ≡ edit → added_by dump before k edit ≡ Some x → added_by dump after k (live_edit_at after k) ≡ Some x
+  edit-root : (k : ℕ) (x : RootEntry) (edit : Option Edit) → r ≡ length dump.roots + k → live_edit_at before k ≡ edit → added_by dump before k edit ≡ Some x
+      → added_by dump after k (live_edit_at after k) ≡ Some x
   edit-root k x None number live holds = absurd cc
   edit-root k x (Some (edits.Cut id slot)) number live holds = absurd cc
   edit-root k x (Some (edits.Clear id)) number live holds = absurd cc
   edit-root k x (Some (edits.Drop s)) number live holds = absurd cc
   edit-root k x (Some (edits.ClearAll references)) number live holds = absurd cc
-  edit-root k x (Some (edits.Add id)) number live holds = ap (added_by dump after k) (added k id number live) ∙ still-held (length dump.roots + k) id x (sym number) holds
+  edit-root k x (Some (edits.Add id)) number live holds = ap (added_by dump after k) (added k id number live)
+      ∙ still-held (length dump.roots + k) id x (sym number) holds
 
   root-still : (x : RootEntry) → root_at dump before r ≡ Some x → root_at dump after r ≡ Some x
   unfolding root_at
@@ -142,7 +149,8 @@ module _ (dump : Dump) (before after : List Event) (r : ℕ) (undropped : is_dro
         let k : ℕ = r - length dump.roots in
         let not_below : nat_lt r (length dump.roots) ≡ false = lt-leb (suc r) (length dump.roots) (omega arith) in
         let of_event : root_by_event dump before k (slice_get before k) ≡ Some x = rw not_below at holds in
-        rw not_below (edit-event dump after k (slice_get after k) ∙ edit-root k x (live_edit_at before k) (omega arith) refl (sym (edit-event dump before k (slice_get before k)) ∙ of_event))
+        rw not_below (edit-event dump after k (slice_get after k) ∙ edit-root k x (live_edit_at before k) (omega arith) refl
+        (sym (edit-event dump before k (slice_get before k)) ∙ of_event))
   ]
 
 -- a log with one more edit that adds no root, and the one without it
@@ -155,30 +163,35 @@ module _ (dump : Dump) (more less : List Event) (k : ℕ) (edit : Edit) (one : H
   undropped-root : (r : ℕ) (x : RootEntry) → drops r edit ≡ false → root_at dump more r ≡ Some x → root_at dump less r ≡ Some x
   undropped-root r x other holds = root-still dump more less r (none-of-more more less k edit one (drops r) other) (adds-kept r) x holds
 
-  root-by-edit : (items : List Holding) → ((r : ℕ) → drops r edit ≡ true → HasNumber dump more less r items) → (x : RootEntry) → Contains (standing dump more).roots x → HasRoot dump less items x
-  root-by-edit items dropped x c = by-drop (root_has_number dump more x c).0 (root_has_number dump more x c).2 (drops (root_has_number dump more x c).0 edit) refl where
-    by-drop : (r : ℕ) → root_at dump more r ≡ Some x → (b : Bool) → drops r edit ≡ b → HasRoot dump less items x
-    by-drop r holds true is = dropped r is x holds
-    by-drop r holds false is = inl (root_stands_at dump less r x (undropped-root r x is holds))
+  root-by-edit : (items : List Holding) → ((r : ℕ) → drops r edit ≡ true → HasNumber dump more less r items) → (x : RootEntry)
+      → Contains (standing dump more).roots x → HasRoot dump less items x
+  root-by-edit items dropped x c = by-drop (root_has_number dump more x c).0 (root_has_number dump more x c).2
+      (drops (root_has_number dump more x c).0 edit) refl where
+        by-drop : (r : ℕ) → root_at dump more r ≡ Some x → (b : Bool) → drops r edit ≡ b → HasRoot dump less items x
+        by-drop r holds true is = dropped r is x holds
+        by-drop r holds false is = inl (root_stands_at dump less r x (undropped-root r x is holds))
 
   -- an edge that the edit doesn't take away stands still
-  edge-by-edit : (items : List Holding) → ((e : Edge) (i : ℕ) → edge_at dump more e.source i ≡ Some e → Contains (standing dump more).edges e → (known : IsAt dump more e.source i e) → takes_away (object_at dump e.source) known.entry edit ≡ true → HasEdge dump less items e)
+  edge-by-edit : (items : List Holding) → ((e : Edge) (i : ℕ) → edge_at dump more e.source i ≡ Some e → Contains (standing dump more).edges e
+      → (known : IsAt dump more e.source i e) → takes_away (object_at dump e.source) known.entry edit ≡ true → HasEdge dump less items e)
       → (e : Edge) → Contains (standing dump more).edges e → HasEdge dump less items e
-  edge-by-edit items taken e c = by-cut (edge_has_index dump more e c).0 (edge_has_index dump more e c).1 (is_at dump more e.source (edge_has_index dump more e c).0 e (edge_has_index dump more e c).1) where
-    by-known : (i : ℕ) → edge_at dump more e.source i ≡ Some e → (known : IsAt dump more e.source i e) → (b : Bool) → is_untouched less (object_at dump e.source) known.entry ≡ b → HasEdge dump less items e
-    by-known i at known true stays = inl (still-edge dump more less e i known stays)
-    by-known i at known false cut =
-        let test : Edit → Bool = takes_away (object_at dump e.source) known.entry in
-        let (j, y, live, passes) = any-at test less (not-false (list_any test (live_edits less)) cut) in
-        elim (one.only j y live) [
-          | inl before ↦
-              let clash : true ≡ false = sym (at-any test more j y before passes) ∙ not-true (list_any test (live_edits more)) known.stands in
-              absurd cc
-          | inr (place, same) ↦ taken e i at c known (ap test (sym same) ∙ passes)
-        ]
+  edge-by-edit items taken e c = by-cut (edge_has_index dump more e c).0 (edge_has_index dump more e c).1
+      (is_at dump more e.source (edge_has_index dump more e c).0 e (edge_has_index dump more e c).1) where
+        by-known : (i : ℕ) → edge_at dump more e.source i ≡ Some e → (known : IsAt dump more e.source i e) → (b : Bool)
+            → is_untouched less (object_at dump e.source) known.entry ≡ b → HasEdge dump less items e
+        by-known i at known true stays = inl (still-edge dump more less e i known stays)
+        by-known i at known false cut =
+            let test : Edit → Bool = takes_away (object_at dump e.source) known.entry in
+            let (j, y, live, passes) = any-at test less (not-false (list_any test (live_edits less)) cut) in
+            elim (one.only j y live) [
+              | inl before ↦
+                  let clash : true ≡ false = sym (at-any test more j y before passes) ∙ not-true (list_any test (live_edits more)) known.stands in
+                  absurd cc
+              | inr (place, same) ↦ taken e i at c known (ap test (sym same) ∙ passes)
+            ]
 
-    by-cut : (i : ℕ) → edge_at dump more e.source i ≡ Some e → IsAt dump more e.source i e → HasEdge dump less items e
-    by-cut i at known = by-known i at known (is_untouched less (object_at dump e.source) known.entry) refl
+        by-cut : (i : ℕ) → edge_at dump more e.source i ≡ Some e → IsAt dump more e.source i e → HasEdge dump less items e
+        by-cut i at known = by-known i at known (is_untouched less (object_at dump e.source) known.entry) refl
 
 -- kinds by their ranks
 kind-at : ℕ → EdgeKind
@@ -201,68 +214,85 @@ one-kind : (a b : EdgeKind) → same_kind a b ≡ true → a ≡ b
 one-kind a b is = sym (kind-of-rank a) ∙ ap kind-at (eqb-true (rank (given_by a)) (rank (given_by b)) is) ∙ kind-of-rank b
 
 -- the one slot that is found is the one that an edit is of
-pub edited_found : (dump : Dump) (more less : List Event) (edit : Edit) (items : List Holding) (p : Option (ℕ × ℕ)) (x j : ℕ) → IsOnlySlot dump (λ y s. takes_slot y s edit) p → p ≡ Some (x, j) → HasIndexed dump more less x j items → HasEdited dump more less edit items
+pub edited_found : (dump : Dump) (more less : List Event) (edit : Edit) (items : List Holding) (p : Option (ℕ × ℕ)) (x j : ℕ)
+    → IsOnlySlot dump (λ y s. takes_slot y s edit) p → p ≡ Some (x, j) → HasIndexed dump more less x j items → HasEdited dump more less edit items
 edited_found dump more less edit items p x j only is has o i s lt at takes =
     let same : Some (x, j) ≡ Some (o, i) = sym is ∙ only.only o i s lt at takes in
     let pair : (x, j) ≡ (o, i) = cc in
     subst (λ (q : ℕ × ℕ). HasIndexed dump more less q.0 q.1 items) pair has
 
-pub edited_none : (dump : Dump) (more less : List Event) (edit : Edit) (items : List Holding) (p : Option (ℕ × ℕ)) → IsOnlySlot dump (λ y s. takes_slot y s edit) p → ((q : ℕ × ℕ) → p ≡ Some q → ⊥) → HasEdited dump more less edit items
+pub edited_none : (dump : Dump) (more less : List Event) (edit : Edit) (items : List Holding) (p : Option (ℕ × ℕ))
+    → IsOnlySlot dump (λ y s. takes_slot y s edit) p → ((q : ℕ × ℕ) → p ≡ Some q → ⊥) → HasEdited dump more less edit items
 edited_none dump more less edit items p only none o i s lt at takes = absurd (none (o, i) (only.only o i s lt at takes))
 
 -- by an edit of one slot
-slot-lost : (dump : Dump) (more less : List Event) (k : ℕ) (edit : Edit) (items : List Holding) → ((x : Object) (s : SlotEntry) → takes_away x s edit ≡ takes_slot x s edit) → ((r : ℕ) → drops r edit ≡ false)
+slot-lost : (dump : Dump) (more less : List Event) (k : ℕ) (edit : Edit) (items : List Holding)
+    → ((x : Object) (s : SlotEntry) → takes_away x s edit ≡ takes_slot x s edit) → ((r : ℕ) → drops r edit ≡ false)
     → HasOneMore more less k edit → HasEdited dump more less edit items → HasAllLost dump more less items
 slot-lost dump more less k edit items form stays one has = record {
-  edges = edge-by-edit dump more less k edit one items (λ e i at c known takes. has e.source i known.entry known.object known.there (sym (form (object_at dump e.source) known.entry) ∙ takes) e at);
+  edges = edge-by-edit dump more less k edit one items
+      (λ e i at c known takes. has e.source i known.entry known.object known.there (sym (form (object_at dump e.source) known.entry) ∙ takes) e at);
   roots = root-by-edit dump more less k edit one items (λ r is. let clash : false ≡ true = sym (stays r) ∙ is in absurd cc);
 }
 
-pub cut_lost : (dump : Dump) (more less : List Event) (k id : ℕ) (slot : Slot) (edit : Edit) (items : List Holding) → edit ≡ edits.Cut id slot → LosesBy more less k edit → HasEdited dump more less edit items → HasAllLost dump more less items
+pub cut_lost : (dump : Dump) (more less : List Event) (k id : ℕ) (slot : Slot) (edit : Edit) (items : List Holding) → edit ≡ edits.Cut id slot
+    → LosesBy more less k edit → HasEdited dump more less edit items → HasAllLost dump more less items
 cut_lost dump more less k id slot edit items is one has =
-    slot-lost dump more less k (edits.Cut id slot) items (λ x s. refl) (λ r. refl) (subst (λ (y : Edit). LosesBy more less k y) is one) (subst (λ (y : Edit). HasEdited dump more less y items) is has)
+    slot-lost dump more less k (edits.Cut id slot) items (λ x s. refl) (λ r. refl) (subst (λ (y : Edit). LosesBy more less k y) is one)
+    (subst (λ (y : Edit). HasEdited dump more less y items) is has)
 
-pub clear_lost : (dump : Dump) (more less : List Event) (k id : ℕ) (edit : Edit) (items : List Holding) → edit ≡ edits.Clear id → LosesBy more less k edit → HasEdited dump more less edit items → HasAllLost dump more less items
+pub clear_lost : (dump : Dump) (more less : List Event) (k id : ℕ) (edit : Edit) (items : List Holding) → edit ≡ edits.Clear id → LosesBy more less k edit
+    → HasEdited dump more less edit items → HasAllLost dump more less items
 clear_lost dump more less k id edit items is one has =
-    slot-lost dump more less k (edits.Clear id) items (λ x s. refl) (λ r. refl) (subst (λ (y : Edit). LosesBy more less k y) is one) (subst (λ (y : Edit). HasEdited dump more less y items) is has)
+    slot-lost dump more less k (edits.Clear id) items (λ x s. refl) (λ r. refl) (subst (λ (y : Edit). LosesBy more less k y) is one)
+    (subst (λ (y : Edit). HasEdited dump more less y items) is has)
 
 -- by an edit of a kind
-kind-lost : (dump : Dump) (more less : List Event) (k : ℕ) (kind : RefKind) (items : List Holding) → HasOneMore more less k (edits.ClearAll kind) → HasKind dump more less kind items → HasAllLost dump more less items
+kind-lost : (dump : Dump) (more less : List Event) (k : ℕ) (kind : RefKind) (items : List Holding) → HasOneMore more less k (edits.ClearAll kind)
+    → HasKind dump more less kind items → HasAllLost dump more less items
 kind-lost dump more less k kind items one has = record {
-  edges = edge-by-edit dump more less k (edits.ClearAll kind) one items (λ e i at c known takes. has e c (ap (λ (x : Edge). x.kind) known.is ∙ one-kind known.entry.kind (kind_of_references kind) takes));
+  edges = edge-by-edit dump more less k (edits.ClearAll kind) one items
+      (λ e i at c known takes. has e c (ap (λ (x : Edge). x.kind) known.is ∙ one-kind known.entry.kind (kind_of_references kind) takes));
   roots = root-by-edit dump more less k (edits.ClearAll kind) one items (λ r is. absurd cc);
 }
 
-pub kind_lost : (dump : Dump) (more less : List Event) (k : ℕ) (kind : RefKind) (edit : Edit) (items : List Holding) → edit ≡ edits.ClearAll kind → LosesBy more less k edit → HasKind dump more less kind items → HasAllLost dump more less items
+pub kind_lost : (dump : Dump) (more less : List Event) (k : ℕ) (kind : RefKind) (edit : Edit) (items : List Holding) → edit ≡ edits.ClearAll kind
+    → LosesBy more less k edit → HasKind dump more less kind items → HasAllLost dump more less items
 kind_lost dump more less k kind edit items is one has = kind-lost dump more less k kind items (subst (λ (y : Edit). LosesBy more less k y) is one) has
 
 -- by an edit that drops a root
-drop-lost : (dump : Dump) (more less : List Event) (k s : ℕ) (items : List Holding) → HasOneMore more less k (edits.Drop s) → HasNumber dump more less s items → HasAllLost dump more less items
+drop-lost : (dump : Dump) (more less : List Event) (k s : ℕ) (items : List Holding) → HasOneMore more less k (edits.Drop s) → HasNumber dump more less s items
+    → HasAllLost dump more less items
 drop-lost dump more less k s items one has = record {
   edges = edge-by-edit dump more less k (edits.Drop s) one items (λ e i at c known takes. absurd cc);
   roots = root-by-edit dump more less k (edits.Drop s) one items (λ r is. subst (λ (n : ℕ). HasNumber dump more less n items) (eqb-true s r is) has);
 }
 
-pub drop_lost : (dump : Dump) (more less : List Event) (k s : ℕ) (edit : Edit) (items : List Holding) → edit ≡ edits.Drop s → LosesBy more less k edit → HasNumber dump more less s items → HasAllLost dump more less items
+pub drop_lost : (dump : Dump) (more less : List Event) (k s : ℕ) (edit : Edit) (items : List Holding) → edit ≡ edits.Drop s → LosesBy more less k edit
+    → HasNumber dump more less s items → HasAllLost dump more less items
 drop_lost dump more less k s edit items is one has = drop-lost dump more less k s items (subst (λ (y : Edit). LosesBy more less k y) is one) has
 
 -- by an edit that adds a root
 module _ (dump : Dump) (more less : List Event) (k id : ℕ) (one : HasOneMore less more k (edits.Add id)) where
   untouched-still : (x : Object) (s : SlotEntry) → is_untouched more x s ≡ true → is_untouched less x s ≡ true
-  untouched-still x s stands = ap not (none-of-fewer less more k (edits.Add id) one (takes_away x s) (not-true (list_any (takes_away x s) (live_edits more)) stands))
+  untouched-still x s stands =
+      ap not (none-of-fewer less more k (edits.Add id) one (takes_away x s) (not-true (list_any (takes_away x s) (live_edits more)) stands))
 
-  added-elsewhere : (r j i : ℕ) → (r ≡ length dump.roots + k → ⊥) → r ≡ length dump.roots + j → live_edit_at more j ≡ Some (edits.Add i) → live_edit_at less j ≡ Some (edits.Add i)
+  added-elsewhere : (r j i : ℕ) → (r ≡ length dump.roots + k → ⊥) → r ≡ length dump.roots + j → live_edit_at more j ≡ Some (edits.Add i)
+      → live_edit_at less j ≡ Some (edits.Add i)
   added-elsewhere r j i other number live = elim (one.only j (edits.Add i) live) [
     | inl before ↦ before
     | inr (place, same) ↦ absurd (other (number ∙ ap (λ (n : ℕ). length dump.roots + n) place))
   ]
 
-  other-root : (items : List Holding) → HasNumber dump more less (length dump.roots + k) items → (x : RootEntry) → Contains (standing dump more).roots x → HasRoot dump less items x
+  other-root : (items : List Holding) → HasNumber dump more less (length dump.roots + k) items → (x : RootEntry) → Contains (standing dump more).roots x
+      → HasRoot dump less items x
   other-root items has x c =
       let (r, lt, holds) = root_has_number dump more x c in
       elim (cases_eq r (length dump.roots + k)) [
         | inl same ↦ has x (sym (ap (root_at dump more) same) ∙ holds)
-        | inr other ↦ inl (root_stands_at dump less r x (root-still dump more less r (none-of-fewer less more k (edits.Add id) one (drops r)) (λ j i. added-elsewhere r j i other) x holds))
+        | inr other ↦ inl (root_stands_at dump less r x
+            (root-still dump more less r (none-of-fewer less more k (edits.Add id) one (drops r)) (λ j i. added-elsewhere r j i other) x holds))
       ]
 
   add-lost : (r : ℕ) (items : List Holding) → r ≡ length dump.roots + k → HasNumber dump more less r items → HasAllLost dump more less items
@@ -271,21 +301,28 @@ module _ (dump : Dump) (more less : List Event) (k id : ℕ) (one : HasOneMore l
     roots = other-root items (subst (λ (n : ℕ). HasNumber dump more less n items) number has);
   }
 
-pub add_lost : (dump : Dump) (more less : List Event) (k id : ℕ) (edit : Edit) (r : ℕ) (items : List Holding) → edit ≡ edits.Add id → LosesBy more less k edit → r ≡ length dump.roots + k → HasNumber dump more less r items → HasAllLost dump more less items
-add_lost dump more less k id edit r items is one number has = add-lost dump more less k id (subst (λ (y : Edit). LosesBy more less k y) is one) r items number has
+pub add_lost : (dump : Dump) (more less : List Event) (k id : ℕ) (edit : Edit) (r : ℕ) (items : List Holding) → edit ≡ edits.Add id → LosesBy more less k edit
+    → r ≡ length dump.roots + k → HasNumber dump more less r items → HasAllLost dump more less items
+add_lost dump more less k id edit r items is one number has =
+    add-lost dump more less k id (subst (λ (y : Edit). LosesBy more less k y) is one) r items number has
 
 -- what stands where less does stands where more does: where a root is added, and where one edit more takes away
 grown : (dump : Dump) (less more : List Event) (k id : ℕ) → HasOneMore less more k (edits.Add id) → StandsWithin dump less more
 grown dump less more k id one = record {
-  edges = edge-within dump less more (λ x s stands. ap not (none-of-more less more k (edits.Add id) one (takes_away x s) refl (not-true (list_any (takes_away x s) (live_edits less)) stands)));
+  edges = edge-within dump less more
+      (λ x s stands. ap not (none-of-more less more k (edits.Add id) one (takes_away x s) refl
+      (not-true (list_any (takes_away x s) (live_edits less)) stands)));
   roots = λ x c.
       let (r, lt, holds) = root_has_number dump less x c in
-      root_stands_at dump more r x (root-still dump less more r (none-of-more less more k (edits.Add id) one (drops r) refl) (λ j i number live. one.kept j (edits.Add i) live) x holds);
+      root_stands_at dump more r x
+      (root-still dump less more r (none-of-more less more k (edits.Add id) one (drops r) refl) (λ j i number live. one.kept j (edits.Add i) live) x holds);
 }
 
-shrunk : (dump : Dump) (more less : List Event) (k : ℕ) (edit : Edit) → ((id : ℕ) → edits.Add id ≡ edit → ⊥) → HasOneMore more less k edit → StandsWithin dump less more
+shrunk : (dump : Dump) (more less : List Event) (k : ℕ) (edit : Edit) → ((id : ℕ) → edits.Add id ≡ edit → ⊥) → HasOneMore more less k edit
+    → StandsWithin dump less more
 shrunk dump more less k edit other one = record {
-  edges = edge-within dump less more (λ x s stands. ap not (none-of-fewer more less k edit one (takes_away x s) (not-true (list_any (takes_away x s) (live_edits less)) stands)));
+  edges = edge-within dump less more
+      (λ x s stands. ap not (none-of-fewer more less k edit one (takes_away x s) (not-true (list_any (takes_away x s) (live_edits less)) stands)));
   roots = λ x c.
       let (r, lt, holds) = root_has_number dump less x c in
       root_stands_at dump more r x (root-still dump less more r (none-of-fewer more less k edit one (drops r))

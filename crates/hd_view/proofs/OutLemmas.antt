@@ -1,5 +1,6 @@
 -- Edges from an object, slot by slot.
-use Rattle.std.proofs.Common.{◌≡◌, ◌∙◌, ℕ, ◌+◌, ◌≤◌, Bool, true, false, not, ◌==◌, ◌&&◌, nat_le, is_some, List, length, take, slice_get, Option, Some, None, refl, sym, ap, subst, arith}
+use Rattle.std.proofs.Common.{◌≡◌, ◌∙◌, ℕ, ◌+◌, ◌≤◌, Bool, true, false, not, ◌==◌, ◌&&◌, nat_le, is_some, List, length, take, slice_get, Option, Some, None}
+use Rattle.std.proofs.Common.{refl, sym, ap, subst, arith}
 use Rattle.std.specs.Option.{option_map}
 use Rattle.std.specs.List.{count_by}
 use Rattle.std.proofs.lemmas.Bool.{cond_both, and_parts, eqb-true, leb-true}
@@ -27,12 +28,14 @@ module _ (dump : Dump) (log : List Event) (x : Object) (o : ℕ) where
 
 module _ (dump : Dump) (o : ℕ) where
   -- a slot that is an edge, and one that is none
-  pub edges_more : (i : ℕ) (s : SlotEntry) → slice_get (object_at dump o).slots i ≡ Some s → is_edge dump s ≡ true → edges_before dump o (i + 1) ≡ edges_before dump o i + 1
+  pub edges_more : (i : ℕ) (s : SlotEntry) → slice_get (object_at dump o).slots i ≡ Some s → is_edge dump s ≡ true
+      → edges_before dump o (i + 1) ≡ edges_before dump o i + 1
   edges_more i s at hit =
       count_by_more_yes (is_edge dump) (object_at dump o).slots i s (slice_get_within (object_at dump o).slots i s at)
       (ap (is_edge dump) (get_or_from_slice_get (object_at dump o).slots i s s at) ∙ hit)
 
-  pub edges_kept : (i : ℕ) (s : SlotEntry) → slice_get (object_at dump o).slots i ≡ Some s → is_edge dump s ≡ false → edges_before dump o (i + 1) ≡ edges_before dump o i
+  pub edges_kept : (i : ℕ) (s : SlotEntry) → slice_get (object_at dump o).slots i ≡ Some s → is_edge dump s ≡ false
+      → edges_before dump o (i + 1) ≡ edges_before dump o i
   edges_kept i s at miss =
       count_by_more_no (is_edge dump) (object_at dump o).slots i s (slice_get_within (object_at dump o).slots i s at)
       (ap (is_edge dump) (get_or_from_slice_get (object_at dump o).slots i s s at) ∙ miss)
@@ -50,15 +53,19 @@ module _ (dump : Dump) (o : ℕ) where
     pub length_edges : length (edges_of dump log (o, object_at dump o)) ≡ edge_count dump o
     length_edges =
         length_picked (marked_edge dump log (object_at dump o) o) (object_at dump o).slots
-        ∙ count_same (λ (s : SlotEntry). is_some (marked_edge dump log (object_at dump o) o s)) (is_edge dump) (is_some-marked dump log (object_at dump o) o) (object_at dump o).slots
+        ∙ count_same (λ (s : SlotEntry). is_some (marked_edge dump log (object_at dump o) o s)) (is_edge dump) (is_some-marked dump log (object_at dump o) o)
+        (object_at dump o).slots
 
     -- an edge by its index among the edges
-    pub edge_there : (i slot : ℕ) (m : MarkedEdge) → IsEdgeAt dump o i slot → IsMark dump log o slot m → slice_get (edges_of dump log (o, object_at dump o)) i ≡ Some m
+    pub edge_there : (i slot : ℕ) (m : MarkedEdge) → IsEdgeAt dump o i slot → IsMark dump log o slot m
+        → slice_get (edges_of dump log (o, object_at dump o)) i ≡ Some m
     edge_there i slot m at mark =
         let h : SlotEntry → Option MarkedEdge = marked_edge dump log (object_at dump o) o in
         let index : count_by (λ (s : SlotEntry). is_some (h s)) (take slot (object_at dump o).slots) ≡ i =
-        count_same (λ (s : SlotEntry). is_some (h s)) (is_edge dump) (is_some-marked dump log (object_at dump o) o) (take slot (object_at dump o).slots) ∙ at.before in
-        subst (λ (n : ℕ). slice_get (edges_of dump log (o, object_at dump o)) n ≡ Some m) index (picked_at h (object_at dump o).slots slot mark.entry m mark.there mark.is)
+        count_same (λ (s : SlotEntry). is_some (h s)) (is_edge dump) (is_some-marked dump log (object_at dump o) o) (take slot (object_at dump o).slots)
+        ∙ at.before in
+        subst (λ (n : ℕ). slice_get (edges_of dump log (o, object_at dump o)) n ≡ Some m) index
+        (picked_at h (object_at dump o).slots slot mark.entry m mark.there mark.is)
 
 -- an edge that was found is where the next search begins
 pub cursor_at : (dump : Dump) (o i slot : ℕ) → IsEdgeAt dump o i slot → IsCursor dump (record { object = o; edges = i; slot = slot })
@@ -75,7 +82,8 @@ pub record IsSought (dump : Dump) (o edge edges slot : ℕ) : Type 0 where
   pub upto : edges ≤ edge
 
 -- where the search starts
-pub start_is : (dump : Dump) (cursor : Cursor) (o edge : ℕ) → IsCursor dump cursor → IsSought dump o edge (start_from cursor o edge).edges (start_from cursor o edge).slot
+pub start_is : (dump : Dump) (cursor : Cursor) (o edge : ℕ) → IsCursor dump cursor → IsSought dump o edge (start_from cursor o edge).edges
+    (start_from cursor o edge).slot
 start_is dump cursor o edge at =
     let first : Cursor = record { object = o; edges = 0; slot = 0 } in
     let test : Bool = (cursor.object == o) && nat_le cursor.edges edge in
@@ -83,13 +91,16 @@ start_is dump cursor o edge at =
     (λ hit.
     let parts = and_parts (cursor.object == o) (nat_le cursor.edges edge) hit in
     let same : cursor.object ≡ o = eqb-true cursor.object o parts.0 in
-    let known : IsSought dump cursor.object edge cursor.edges cursor.slot = record { within = at.within; before = at.edges; upto = leb-true cursor.edges edge parts.1 } in
+    let known : IsSought dump cursor.object edge cursor.edges cursor.slot =
+    record { within = at.within; before = at.edges; upto = leb-true cursor.edges edge parts.1 } in
     subst (λ (n : ℕ). IsSought dump n edge cursor.edges cursor.slot) same known)
     (λ miss. record { within = omega arith; before = refl; upto = omega arith })
 
 -- the edge of a slot that was read
-pub mark_made : (dump : Dump) (log : List Event) (o index : ℕ) (s : SlotEntry) (t : ℕ) (removed : Bool) → slice_get (object_at dump o).slots index ≡ Some s → index_of dump.objects s.id ≡ Some t
-    → removed ≡ not (is_untouched log (object_at dump o) s) → IsMark dump log o index (record { edge = record { source = o; slot = s.slot; target = t; kind = s.kind }; stands = not removed })
+pub mark_made : (dump : Dump) (log : List Event) (o index : ℕ) (s : SlotEntry) (t : ℕ) (removed : Bool) → slice_get (object_at dump o).slots index ≡ Some s
+    → index_of dump.objects s.id ≡ Some t
+    → removed ≡ not (is_untouched log (object_at dump o) s)
+    → IsMark dump log o index (record { edge = record { source = o; slot = s.slot; target = t; kind = s.kind }; stands = not removed })
 mark_made dump log o index s t removed at is taken =
     let x : Object = object_at dump o in
     let stands : not removed ≡ is_untouched log x s = ap not taken ∙ not_not (is_untouched log x s) in
@@ -97,6 +108,8 @@ mark_made dump log o index s t removed at is taken =
       entry = s;
       there = at;
       is =
-          ap (λ (u : Option ℕ). option_map (λ (e : Edge). record { edge = e; stands = is_untouched log x s }) (option_map (λ (target : ℕ). record { source = o; slot = s.slot; target = target; kind = s.kind }) u)) is
-          ∙ ap (λ (b : Bool). let m : MarkedEdge = record { edge = record { source = o; slot = s.slot; target = t; kind = s.kind }; stands = b } in Some m) (sym stands);
+          ap (λ (u : Option ℕ). option_map (λ (e : Edge). record { edge = e; stands = is_untouched log x s })
+          (option_map (λ (target : ℕ). record { source = o; slot = s.slot; target = target; kind = s.kind }) u)) is
+          ∙ ap (λ (b : Bool). let m : MarkedEdge = record { edge = record { source = o; slot = s.slot; target = t; kind = s.kind }; stands = b } in Some m)
+          (sym stands);
     }

@@ -1,5 +1,6 @@
 -- Elements of lists that a function makes of some elements of another.
-use Rattle.std.proofs.Common.{◌≡◌, ◌∙◌, inl, inr, Contains, map, ℕ, zero, suc, ◌+◌, Bool, true, false, cond, not, is_some, List, [], ◌∷◌, ◌++◌, length, take, drop, slice_get, All, Option, Some, None, refl, sym, ap, arith}
+use Rattle.std.proofs.Common.{◌≡◌, ◌∙◌, inl, inr, Contains, map, ℕ, zero, suc, ◌+◌, Bool, true, false, cond, not, is_some, List, [], ◌∷◌, ◌++◌, length, take}
+use Rattle.std.proofs.Common.{drop, slice_get, All, Option, Some, None, refl, sym, ap, arith}
 use Rattle.std.specs.Option.{option_map}
 use Rattle.hd_strength.proofs.Lists.{Contains-nil, Contains-head, Contains-tail, Contains-cons_cases}
 use Rattle.std.specs.List.{filter_map, cons_option, count_by}
@@ -30,7 +31,8 @@ slice_get_front (z ∷ xs) ys (suc i) x at = slice_get_front xs ys i x at
 
 pub slice_get_back : {X : Type 0} (xs ys : List X) (i : ℕ) → slice_get (xs ++ ys) (length xs + i) ≡ slice_get ys i
 slice_get_back [] ys i = let same : 0 + i ≡ i = omega arith in ap (slice_get ys) same
-slice_get_back (x ∷ xs) ys i = let same : length (x ∷ xs) + i ≡ suc (length xs + i) = omega arith in ap (slice_get (x ∷ (xs ++ ys))) same ∙ slice_get_back xs ys i
+slice_get_back (x ∷ xs) ys i = let same : length (x ∷ xs) + i ≡ suc (length xs + i) = omega arith in ap (slice_get (x ∷ (xs ++ ys))) same
+    ∙ slice_get_back xs ys i
 
 module _ {X Y : Type 0} (h : X → Option Y) where
   length-option : (o : Option Y) (ys : List Y) → length (cons_option o ys) ≡ cond (is_some o) 1 0 + length ys
@@ -43,28 +45,34 @@ module _ {X Y : Type 0} (h : X → Option Y) where
   length_picked (x ∷ xs) = omega (arith, length-option (h x) (filter_map h xs), length_picked xs, sum_by-cons (λ (z : X). cond (is_some (h z)) 1 0) x xs)
 
   -- what an element gives stands after what those before it give
-  pub picked_at : (xs : List X) (i : ℕ) (x : X) (y : Y) → slice_get xs i ≡ Some x → h x ≡ Some y → slice_get (filter_map h xs) (count_by (λ (z : X). is_some (h z)) (take i xs)) ≡ Some y
+  pub picked_at : (xs : List X) (i : ℕ) (x : X) (y : Y) → slice_get xs i ≡ Some x → h x ≡ Some y
+      → slice_get (filter_map h xs) (count_by (λ (z : X). is_some (h z)) (take i xs)) ≡ Some y
   picked_at xs i x y at gives =
       let front : List Y = filter_map h (take i xs) in
       let back : List Y = filter_map h (drop (i + 1) xs) in
-      let rest : drop i xs ≡ x ∷ drop (i + 1) xs = drop_more xs i x (slice_get_within xs i x at) ∙ ap (λ (z : X). z ∷ drop (i + 1) xs) (get_or_from_slice_get xs i x x at) in
+      let rest : drop i xs ≡ x ∷ drop (i + 1) xs = drop_more xs i x (slice_get_within xs i x at)
+      ∙ ap (λ (z : X). z ∷ drop (i + 1) xs) (get_or_from_slice_get xs i x x at) in
       let whole : filter_map h xs ≡ front ++ y ∷ back =
       ap (filter_map h) (sym (take-append-drop i xs))
       ∙ filter_map-append h (take i xs) (drop i xs)
       ∙ ap (λ (zs : List X). front ++ filter_map h zs) rest
       ∙ ap (λ (o : Option Y). front ++ cons_option o back) gives in
-      ap (slice_get (filter_map h xs)) (sym (length_picked (take i xs))) ∙ ap (λ (ys : List Y). slice_get ys (length front)) whole ∙ slice_get_after front y back
+      ap (slice_get (filter_map h xs)) (sym (length_picked (take i xs))) ∙ ap (λ (ys : List Y). slice_get ys (length front)) whole
+      ∙ slice_get_after front y back
 
   -- where each element gives something, each has its place
-  first-picked : (o : Option Y) (ys : List Y) → is_some o ≡ true → (slice_get (cons_option o ys) 0 ≡ o) × ((i : ℕ) → slice_get (cons_option o ys) (suc i) ≡ slice_get ys i) × (length (cons_option o ys) ≡ suc (length ys))
+  first-picked : (o : Option Y) (ys : List Y) → is_some o ≡ true → (slice_get (cons_option o ys) 0 ≡ o)
+      × ((i : ℕ) → slice_get (cons_option o ys) (suc i) ≡ slice_get ys i) × (length (cons_option o ys) ≡ suc (length ys))
   first-picked None ys some = absurd cc
   first-picked (Some y) ys some = (refl, λ i. refl, refl)
 
   pub all_picked : (xs : List X) (i : ℕ) (x : X) → All (λ (z : X). is_some (h z) ≡ true) xs → slice_get xs i ≡ Some x → slice_get (filter_map h xs) i ≡ h x
   all_picked [] i x all at = absurd cc
-  all_picked (z ∷ xs) zero x all at = let same : z ≡ x = cc in (first-picked (h z) (filter_map h xs) (All-head (λ (w : X). is_some (h w) ≡ true) z xs all)).0 ∙ ap h same
+  all_picked (z ∷ xs) zero x all at = let same : z ≡ x = cc in (first-picked (h z) (filter_map h xs) (All-head (λ (w : X). is_some (h w) ≡ true) z xs all)).0
+      ∙ ap h same
   all_picked (z ∷ xs) (suc i) x all at =
-      (first-picked (h z) (filter_map h xs) (All-head (λ (w : X). is_some (h w) ≡ true) z xs all)).1 i ∙ all_picked xs i x (All-tail (λ (w : X). is_some (h w) ≡ true) z xs all) at
+      (first-picked (h z) (filter_map h xs) (All-head (λ (w : X). is_some (h w) ≡ true) z xs all)).1 i
+      ∙ all_picked xs i x (All-tail (λ (w : X). is_some (h w) ≡ true) z xs all) at
 
   pub length_all_picked : (xs : List X) → All (λ (z : X). is_some (h z) ≡ true) xs → length (filter_map h xs) ≡ length xs
   length_all_picked [] all = refl

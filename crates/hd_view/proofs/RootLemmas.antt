@@ -1,5 +1,6 @@
 -- Roots on an object, by their numbers.
-use Rattle.std.proofs.Common.{◌≡◌, ◌∙◌, inl, inr, ℕ, ◌+◌, ◌≤◌, ◌==◌, Bool, true, false, cond, List, [], ◌∷◌, ◌++◌, length, map, slice_get, Option, Some, None, refl, sym, ap, arith}
+use Rattle.std.proofs.Common.{◌≡◌, ◌∙◌, inl, inr, ℕ, ◌+◌, ◌≤◌, ◌==◌, Bool, true, false, cond, List, [], ◌∷◌, ◌++◌, length, map, slice_get, Option, Some, None}
+use Rattle.std.proofs.Common.{refl, sym, ap, arith}
 use Rattle.std.specs.Option.{option_map, option_map_or}
 use Rattle.std.specs.List.{filter, filter_map, cons_option, enumerate_from}
 use Rattle.std.proofs.lemmas.Bool.{cases_eq, eq-eqb, ne_eqb}
@@ -36,11 +37,13 @@ module _ (dump : Dump) (log : List Event) (o : ℕ) where
 
   -- the same by the object of an ID
   abbrev mark_by : ℕ → Option ℕ → Option MarkedRoot
-  mark_by number t = option_map (λ (x : RootEntry). record { root = x; stands = root_stands (length dump.roots) log number }) (option_map (λ (target : ℕ). record { number = number; target = target }) t)
+  mark_by number t = option_map (λ (x : RootEntry). record { root = x; stands = root_stands (length dump.roots) log number })
+      (option_map (λ (target : ℕ). record { number = number; target = target }) t)
 
   -- a root that is or isn't on the object
   one-more : (number : ℕ) (t : Option ℕ) (rest : List MarkedRoot) (numbers : List ℕ) → filter test rest ≡ map (mark_of dump log o) numbers
-      → filter test (cons_option (mark_by number t) rest) ≡ map (mark_of dump log o) (cond (option_map_or (λ (target : ℕ). target == o) t false) (number ∷ numbers) numbers)
+      → filter test (cons_option (mark_by number t) rest) ≡ map (mark_of dump log o)
+      (cond (option_map_or (λ (target : ℕ). target == o) t false) (number ∷ numbers) numbers)
   one-more number None rest numbers same = same
   one-more number (Some t) rest numbers same = elim (cases_eq t o) [
     | inl is ↦
@@ -49,14 +52,17 @@ module _ (dump : Dump) (log : List Event) (o : ℕ) where
     | inr other ↦ rw (ne_eqb t o other) same
   ]
 
-  dump-numbers : (ns : List (ℕ × Root)) → filter test (filter_map (marked_root dump log) (map dump_root ns)) ≡ map (mark_of dump log o) (map (λ (n : ℕ × Root). n.0) (filter (is_root_on dump o) ns))
+  dump-numbers : (ns : List (ℕ × Root)) → filter test (filter_map (marked_root dump log) (map dump_root ns)) ≡ map (mark_of dump log o)
+      (map (λ (n : ℕ × Root). n.0) (filter (is_root_on dump o) ns))
   dump-numbers [] = refl
   dump-numbers ((r, root) ∷ ns) =
-      one-more r (index_of dump.objects root.id) (filter_map (marked_root dump log) (map dump_root ns)) (map (λ (n : ℕ × Root). n.0) (filter (is_root_on dump o) ns)) (dump-numbers ns)
+      one-more r (index_of dump.objects root.id) (filter_map (marked_root dump log) (map dump_root ns))
+      (map (λ (n : ℕ × Root). n.0) (filter (is_root_on dump o) ns)) (dump-numbers ns)
       ∙ ap (map (mark_of dump log o)) (sym (first_parts (is_root_on dump o (r, root)) (r, root) (filter (is_root_on dump o) ns)))
 
   -- a root that an event adds, by what the event does
-  by-what : (number : ℕ) (what : What) (rest : List RootOn) (numbers : List ℕ) → filter test (filter_map (marked_root dump log) rest) ≡ map (mark_of dump log o) numbers
+  by-what : (number : ℕ) (what : What) (rest : List RootOn) (numbers : List ℕ) → filter test (filter_map (marked_root dump log) rest) ≡ map
+      (mark_of dump log o) numbers
       → filter test (filter_map (marked_root dump log) (cons_option (root_added number what) rest))
       ≡ map (mark_of dump log o) (cond (option_map_or (λ (target : ℕ). target == o) (object_added dump what) false) (number ∷ numbers) numbers)
   by-what number (whats.Do (edits.Cut id slot)) rest numbers same = same
@@ -80,7 +86,8 @@ module _ (dump : Dump) (log : List Event) (o : ℕ) where
       let rest : List ℕ = map (λ (n : ℕ × Event). n.0) (filter (adds_on dump o) ns) in
       by-what (number_after k) event.what (filter_map (added_root (length dump.roots)) ns) (map number_after rest) (event-numbers ns)
       ∙ ap (map (mark_of dump log o))
-      (sym (after-cond (adds_on dump o (k, event)) k rest) ∙ ap (map number_after) (sym (first_parts (adds_on dump o (k, event)) (k, event) (filter (adds_on dump o) ns))))
+      (sym (after-cond (adds_on dump o (k, event)) k rest)
+      ∙ ap (map number_after) (sym (first_parts (adds_on dump o (k, event)) (k, event) (filter (adds_on dump o) ns))))
 
   -- the roots on an object by their numbers
   roots-are : rows.roots_on dump log o ≡ map (mark_of dump log o) (roots_on dump o ++ map number_after (events_on dump log o))
@@ -106,7 +113,8 @@ module _ (dump : Dump) (log : List Event) (o : ℕ) where
         ∙ ap (λ (ns : List ℕ). length ns) (sym numbers-are)
 
     -- a root by its index
-    pub root_there : (i number : ℕ) → slice_get (numbers_of_roots (length dump.roots) reverse added o) i ≡ Some number → slice_get (rows.roots_on dump log o) i ≡ Some (mark_of dump log o number)
+    pub root_there : (i number : ℕ) → slice_get (numbers_of_roots (length dump.roots) reverse added o) i ≡ Some number
+        → slice_get (rows.roots_on dump log o) i ≡ Some (mark_of dump log o number)
     root_there i number at =
         ap (λ (ms : List MarkedRoot). slice_get ms i) roots-are
         ∙ slice_get-map (mark_of dump log o) (roots_on dump o ++ map number_after (events_on dump log o)) i

@@ -23,8 +23,10 @@ past_slots dump log o i past =
     sym (ap (λ (s : Option SlotEntry). option_map_or (is_standing_edge dump log x) s false) (slice_get_past x.slots i past))
 
 -- one whose ID is an object's stands where it isn't taken away
-pub stands_by_slot : (dump : Dump) (log : List Event) (o i : ℕ) (s : SlotEntry) (target : Option ℕ) (removed : Bool) → slice_get (object_at dump o).slots i ≡ Some s
-    → target ≡ index_of dump.objects s.id → is_some target ≡ true → removed ≡ not (is_untouched log (object_at dump o) s) → not removed ≡ edge_stands dump log o i
+pub stands_by_slot : (dump : Dump) (log : List Event) (o i : ℕ) (s : SlotEntry) (target : Option ℕ) (removed : Bool)
+    → slice_get (object_at dump o).slots i ≡ Some s
+    → target ≡ index_of dump.objects s.id → is_some target ≡ true → removed ≡ not (is_untouched log (object_at dump o) s)
+    → not removed ≡ edge_stands dump log o i
 stands_by_slot dump log o i s target removed at is some taken =
     let x = object_at dump o in
     let found : is_some (index_of dump.objects s.id) ≡ true = ap is_some (sym is) ∙ some in

@@ -12,7 +12,8 @@ use Rattle.hd_terms.specs.Dump.{SlotEntry, Object, Dump, no_object, object_at}
 use Rattle.hd_terms.specs.Edges.{index_of, edge_of}
 use Rattle.hd_terms.specs.EditedDump.{RootOn, is_untouched, standing_from, standing_edges, standing_roots, root_stands, root_entries, held_by}
 use Rattle.hd_terms.specs.EdgeRows.{MarkedEdge, MarkedRoot, AreRows, marked_edge, edges_of, edges_into, marked_root, roots_on, rows_of}
-use Rattle.hd_strength.proofs.Lists.{Contains-nil, flat_map_contains, flat_map_only, filter_map_contains, filter_map_only, filter_contains, filter_only, enumerate_contains, enumerate_only}
+use Rattle.hd_strength.proofs.Lists.{Contains-nil, flat_map_contains, flat_map_only, filter_map_contains, filter_map_only, filter_contains, filter_only}
+use Rattle.hd_strength.proofs.Lists.{enumerate_contains, enumerate_only}
 use Rattle.hd_strength.proofs.RowLemmas.{edge_to, index_of_within}
 
 -- what is in a filtered list passes
@@ -33,7 +34,8 @@ edge-by o s stands (Some t) m is =
     (ap (λ (x : MarkedEdge). Some x.edge.target) same, sym same ∙ ap (λ (x : MarkedEdge). mark_to o s x.edge.target stands) same)
 
 -- a root with whether it stands is on what the root holds
-root-by : (stands : Bool) (held : Option RootEntry) (m : MarkedRoot) → option_map (λ (x : RootEntry). record { root = x; stands = stands }) held ≡ Some m → (held ≡ Some m.root) × (m.stands ≡ stands)
+root-by : (stands : Bool) (held : Option RootEntry) (m : MarkedRoot) → option_map (λ (x : RootEntry). record { root = x; stands = stands }) held ≡ Some m
+    → (held ≡ Some m.root) × (m.stands ≡ stands)
 root-by stands None m is = absurd cc
 root-by stands (Some x) m is =
     let made : MarkedRoot = record { root = x; stands = stands } in
@@ -63,10 +65,12 @@ module _ (dump : Dump) (log : List Event) where
       let parts = edge-by o s (is_untouched log x s) (index_of dump.objects s.id) m is in
       record { slot = s; there = there; target = parts.0; is = parts.1 }
 
-  out-made : (x : Object) (o t : ℕ) (s : SlotEntry) → Contains x.slots s → index_of dump.objects s.id ≡ Some t → Contains (edges_of dump log (o, x)) (mark_to o s t (is_untouched log x s))
+  out-made : (x : Object) (o t : ℕ) (s : SlotEntry) → Contains x.slots s → index_of dump.objects s.id ≡ Some t
+      → Contains (edges_of dump log (o, x)) (mark_to o s t (is_untouched log x s))
   out-made x o t s there is =
       filter_map_contains (marked_edge dump log x o) x.slots s (mark_to o s t (is_untouched log x s)) there
-      (ap (λ (u : Option ℕ). option_map (λ (e : Edge). record { edge = e; stands = is_untouched log x s }) (option_map (λ (target : ℕ). edge_to o s target) u)) is)
+      (ap (λ (u : Option ℕ). option_map (λ (e : Edge). record { edge = e; stands = is_untouched log x s }) (option_map (λ (target : ℕ). edge_to o s target) u))
+      is)
 
   out-source : (x : Object) (o : ℕ) (m : MarkedEdge) → Contains (edges_of dump log (o, x)) m → m.edge.source ≡ o
   out-source x o m c = ap (λ (y : MarkedEdge). y.edge.source) (out-known x o m c).is
@@ -96,12 +100,14 @@ module _ (dump : Dump) (log : List Event) where
       (filter_contains (is_untouched log x) x.slots known.slot known.there untouched)
       (ap (option_map (λ (target : ℕ). edge_to o known.slot target)) known.target ∙ ap (λ (y : MarkedEdge). Some y.edge) (sym known.is)))
 
-  out-all : (e : Edge) → Contains (standing_edges dump log) e → Contains (edges_of dump log (e.source, object_at dump e.source)) (record { edge = e; stands = true })
+  out-all : (e : Edge) → Contains (standing_edges dump log) e → Contains (edges_of dump log (e.source, object_at dump e.source))
+      (record { edge = e; stands = true })
   out-all e c =
       let (n, at, from) = flat_map_only (standing_from dump log) (enumerate_from 0 dump.objects) e c in
       let (s, kept, gives) = filter_map_only (edge_of dump.objects n.0) (filter (is_untouched log n.1) n.1.slots) e from in
       let untouched : is_untouched log n.1 s ≡ true = passes (is_untouched log n.1) n.1.slots s kept in
-      let parts = edge-by n.0 s true (index_of dump.objects s.id) (record { edge = e; stands = true }) (ap (option_map (λ (x : Edge). record { edge = x; stands = true })) gives) in
+      let parts = edge-by n.0 s true (index_of dump.objects s.id) (record { edge = e; stands = true })
+      (ap (option_map (λ (x : Edge). record { edge = x; stands = true })) gives) in
       let source : e.source ≡ n.0 = ap (λ (m : MarkedEdge). m.edge.source) parts.1 in
       let here : Contains (edges_of dump log (n.0, n.1)) (mark_to n.0 s e.target (is_untouched log n.1 s)) =
       out-made n.1 n.0 e.target s (filter_only (is_untouched log n.1) n.1.slots s kept) parts.0 in
@@ -112,20 +118,23 @@ module _ (dump : Dump) (log : List Event) where
       subst (λ (o : ℕ). Contains (edges_of dump log (o, object_at dump o)) (record { edge = e; stands = true })) (sym source) of_object
 
   -- an edge to an object is one from its source
-  into-known : (o : ℕ) (m : MarkedEdge) → Contains (edges_into dump log o) m → (m.edge.source < length dump.objects) × (m.edge.target ≡ o) × Contains (edges_of dump log (m.edge.source, object_at dump m.edge.source)) m
+  into-known : (o : ℕ) (m : MarkedEdge) → Contains (edges_into dump log o) m → (m.edge.source < length dump.objects) × (m.edge.target ≡ o)
+      × Contains (edges_of dump log (m.edge.source, object_at dump m.edge.source)) m
   into-known o m c =
       let test : MarkedEdge → Bool = λ x. x.edge.target == o in
       let all : List MarkedEdge = flat_map (edges_of dump log) (enumerate_from 0 dump.objects) in
       let (n, at, from) = flat_map_only (edges_of dump log) (enumerate_from 0 dump.objects) m (filter_only test all m c) in
       let number = numbered n at in
       let source : m.edge.source ≡ n.0 = out-source n.1 n.0 m from in
-      let of_object : Contains (edges_of dump log (n.0, object_at dump n.0)) m = subst (λ (x : Object). Contains (edges_of dump log (n.0, x)) m) (sym number.1) from in (
+      let of_object : Contains (edges_of dump log (n.0, object_at dump n.0)) m = subst (λ (x : Object). Contains (edges_of dump log (n.0, x)) m)
+      (sym number.1) from in (
         omega (arith, number.0, source),
         eqb-true m.edge.target o (passes test all m c),
         subst (λ (k : ℕ). Contains (edges_of dump log (k, object_at dump k)) m) (sym source) of_object,
       )
 
-  into-made : (o : ℕ) (m : MarkedEdge) → m.edge.target ≡ o → Contains (edges_of dump log (m.edge.source, object_at dump m.edge.source)) m → Contains (edges_into dump log o) m
+  into-made : (o : ℕ) (m : MarkedEdge) → m.edge.target ≡ o → Contains (edges_of dump log (m.edge.source, object_at dump m.edge.source)) m
+      → Contains (edges_into dump log o) m
   into-made o m target c =
       let source : ℕ = m.edge.source in
       filter_contains (λ (x : MarkedEdge). x.edge.target == o) (flat_map (edges_of dump log) (enumerate_from 0 dump.objects)) m
@@ -158,7 +167,8 @@ module _ (dump : Dump) (log : List Event) where
       let stands : test root ≡ true = passes test (root_entries dump log) root kept in
       filter_contains (λ (y : MarkedRoot). y.root.target == x.target) (filter_map (marked_root dump log) (root_entries dump log)) m
       (filter_map_contains (marked_root dump log) (root_entries dump log) root m (filter_only test (root_entries dump log) root kept)
-      (ap (option_map (λ (y : RootEntry). record { root = y; stands = test root })) holds ∙ ap (λ (b : Bool). let made : MarkedRoot = record { root = x; stands = b } in Some made) stands))
+      (ap (option_map (λ (y : RootEntry). record { root = y; stands = test root })) holds
+      ∙ ap (λ (b : Bool). let made : MarkedRoot = record { root = x; stands = b } in Some made) stands))
       (eq-eqb x.target x.target refl)
 
   -- the rows of every dump under every log are those of what stands

@@ -37,7 +37,8 @@ HasIndexed dump more less o i items = (e : Edge) → edge_at dump more o i ≡ S
 
 -- the items have the lost edge of the one slot from which an edit takes the reference
 abbrev pub HasEdited : Dump → (more less : List Event) → Edit → List Holding → Type 0
-HasEdited dump more less edit items = (o i : ℕ) (s : SlotEntry) → o < length dump.objects → slice_get (object_at dump o).slots i ≡ Some s → takes_slot (object_at dump o) s edit ≡ true → HasIndexed dump more less o i items
+HasEdited dump more less edit items = (o i : ℕ) (s : SlotEntry) → o < length dump.objects → slice_get (object_at dump o).slots i ≡ Some s
+    → takes_slot (object_at dump o) s edit ≡ true → HasIndexed dump more less o i items
 
 -- the items have the lost edges of a kind
 abbrev pub HasKind : Dump → (more less : List Event) → RefKind → List Holding → Type 0

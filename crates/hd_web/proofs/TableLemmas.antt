@@ -12,7 +12,8 @@ module _ {S D : Type 0} where
   kept_at xs ys n p q same at kept = ap (λ (x : Place S D). set xs n x) (kept ∙ at) ∙ set-get_or xs n q ∙ same
 
   -- one more place that isn't free
-  pub none_below : (xs ys : List (Place S D)) (n : ℕ) (q : Place S D) → xs ≡ ys → q ≡ get_or xs n q → n < length xs → ¬ (IsFree q) → ((k : ℕ) → k < n → ¬ (IsFreeAt ys k))
+  pub none_below : (xs ys : List (Place S D)) (n : ℕ) (q : Place S D) → xs ≡ ys → q ≡ get_or xs n q → n < length xs → ¬ (IsFree q)
+      → ((k : ℕ) → k < n → ¬ (IsFreeAt ys k))
       → (k : ℕ) → k < n + 1 → ¬ (IsFreeAt ys k)
   none_below xs ys n q same at inside busy before =
       let here : ¬ (IsFreeAt ys n) = λ (found : IsFreeAt ys n).

@@ -10,4 +10,5 @@ use Rattle.hd_protocol.specs.Steps.{IsAnsweredSoFar}
 -- It began without names, where the desk had seen a log and its state had come to one
 abbrev pub HasSession : Work → Type 0
 HasSession work =
-    (seen front : List Event) × (lines : List (List ℕ)) × (written : List ℕ) × IsAnsweredSoFar work.analyst (beginning false seen front) lines written work.memory
+    (seen front : List Event) × (lines : List (List ℕ)) × (written : List ℕ)
+    × IsAnsweredSoFar work.analyst (beginning false seen front) lines written work.memory

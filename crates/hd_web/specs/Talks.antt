@@ -30,7 +30,8 @@ module _ {S : Type 0} where
   SendsText contents before after reply = Writes contents before after (write_step before.conn (text reply))
 
   -- a line is answered by the session, and its reply sent
-  pub record AnswersLine (contents : S → Option (List ℕ)) (old new : Work) (before after : Socket S) (line : List ℕ) (result : Result (Unit {0}) Error) : Type 0 where
+  pub record AnswersLine (contents : S → Option (List ℕ)) (old new : Work) (before after : Socket S) (line : List ℕ)
+      (result : Result (Unit {0}) Error) : Type 0 where
     pub reply : List ℕ
     pub answered : IsAnswered old new (last_word line) (command_of line) reply
     pub sent : OnOk result (SendsText contents before after reply)

@@ -16,7 +16,7 @@ use std::str;
 use std::sync::Wait;
 use tungstenite::{CloseCode, CloseFrame, Error, Message, NoMask, Utf8Bytes, WebSocket};
 
-/// The most bytes of a message: 1 MiB. No line has so many; a longer message closes the connection.
+/// The most bytes of a message: 1 MiB. Lines are far shorter; a longer message closes the connection.
 pub(crate) const LONGEST_MESSAGE: usize = 1_048_576;
 
 /// How the messages of a connection end.

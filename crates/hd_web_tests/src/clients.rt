@@ -60,7 +60,7 @@ pub fn exchange<R: Abort + Net<Listener = TcpListener, Stream = TcpStream>>(
     answer
 }
 
-/// Reads so many bytes.
+/// Reads `count` bytes.
 fn take<R: Abort>(rt: &R, alloc: Global, stream: &mut TcpStream, count: usize) -> Vec<u8> {
     let mut bytes = vec![in alloc; 0; count].expect(rt, "there is room");
     let read = stream.read_exact(bytes.as_mut_slice());

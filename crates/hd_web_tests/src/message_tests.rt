@@ -54,8 +54,8 @@ fn messages_in_their_order(rt: HostRuntime) {
     assert!(rt; has_printed(served, b"0 0 cut 0x1 e0 live\n"));
 }
 
-/// Whether messages of so many bytes are too long for a line, and the session goes on; and whether a binary message closes with
-/// 1003. At the end the desk ends.
+/// Whether messages of 4,097 bytes and more are too long for a line, and the session goes on; and whether a binary message closes
+/// with 1003. At the end the desk ends.
 fn long_and_binary<R: Abort + Net<Listener = TcpListener, Stream = TcpStream>>(
     rt: &R,
     alloc: Global,

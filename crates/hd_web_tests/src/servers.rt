@@ -1,7 +1,7 @@
 //! A server of desks over the two arrays, for the tests.
 use hd_board::open;
 use hd_decode::NoGate;
-use hd_graph::open_dump;
+use hd_opening::open_dump;
 use hd_protocol::SAMPLE;
 use hd_server::ServeOnFault;
 use hd_terms::Mode;

@@ -11,14 +11,16 @@ use Rattle.hd_lines.specs.Lines.{with_digit, digit_in, number_in}
 
 -- the number so far and the digits that are left give the number
 module _ (base : ℕ) (xs : List ℕ) (number i : ℕ) (lt : i < length xs) (so_far : fold (with_digit base) (Some number) (drop i xs) ≡ number_in base xs) where
-  next : (read : Option ℕ) → digit_in base (get_or xs i 0) ≡ read → fold (with_digit base) (option_map (λ digit. base * number + digit) read) (drop (i + 1) xs) ≡ number_in base xs
+  next : (read : Option ℕ) → digit_in base (get_or xs i 0) ≡ read → fold (with_digit base) (option_map (λ digit. base * number + digit) read)
+      (drop (i + 1) xs) ≡ number_in base xs
   next read h =
       ap (λ o. fold (with_digit base) (option_map (λ digit. base * number + digit) o) (drop (i + 1) xs)) (sym h)
       ∙ sym (at_drop_more (fold (with_digit base) (Some number)) xs i 0 lt)
       ∙ so_far
 
   -- one more digit
-  pub digit_next : (digit : ℕ) → digit_in base (get_or xs i 0) ≡ Some digit → fold (with_digit base) (Some (base * number + digit)) (drop (i + 1) xs) ≡ number_in base xs
+  pub digit_next : (digit : ℕ) → digit_in base (get_or xs i 0) ≡ Some digit → fold (with_digit base) (Some (base * number + digit))
+      (drop (i + 1) xs) ≡ number_in base xs
   digit_next digit h = next (Some digit) h
 
   -- no digit

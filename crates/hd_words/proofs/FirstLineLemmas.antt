@@ -1,5 +1,6 @@
 -- The first lines of an answer, and how many they are.
-use Rattle.std.proofs.Common.{◌≡◌, ◌∙◌, ℕ, zero, suc, ◌+◌, ◌-◌, ◌<◌, List, [], ◌∷◌, ◌++◌, length, map, take, min, Option, Some, None, sym, ap, subst, refl, arith, append-nil, append_assoc}
+use Rattle.std.proofs.Common.{◌≡◌, ◌∙◌, ℕ, zero, suc, ◌+◌, ◌-◌, ◌<◌, List, [], ◌∷◌, ◌++◌, length, map, take, min, Option, Some, None, sym, ap, subst, refl}
+use Rattle.std.proofs.Common.{arith, append-nil, append_assoc}
 use Rattle.std.specs.Prelude.{codes, decimal}
 use Rattle.std.specs.List.{flat_map}
 use Rattle.std.proofs.lemmas.List.{length-map, length-take, take_all, take_min, take-map}
@@ -31,7 +32,8 @@ module _ {X : Type 0} (line : X → List ℕ) where
 
     pub lines-with-start : (most : Option ℕ) → 0 < first_count (length rows + 1) most
         → start ∷ map line (take (first_count (length rows + 1) most - 1) rows) ≡ first_items most (start ∷ map line rows)
-    lines-with-start None some = ap (λ (n : ℕ). start ∷ map line (take n rows)) (omega arith) ∙ ap (λ (xs : List X). start ∷ map line xs) (take_all (length rows) rows (omega arith))
+    lines-with-start None some = ap (λ (n : ℕ). start ∷ map line (take n rows)) (omega arith)
+        ∙ ap (λ (xs : List X). start ∷ map line xs) (take_all (length rows) rows (omega arith))
     lines-with-start (Some zero) some = absurd (omega (arith, some))
     lines-with-start (Some (suc n)) some =
         ap (λ (k : ℕ). start ∷ map line (take k rows)) (min-pred n (length rows))
@@ -48,14 +50,16 @@ abbrev pub head : ℕ → List ℕ
 head n = with_newline (codes "ok " ++ decimal n)
 
 -- what is written of a first line and rows
-module _ {X : Type 0} (line : X → List ℕ) (start : List ℕ) (rows : List X) (most : Option ℕ) (count : ℕ) (counted : count ≡ first_count (length rows + 1) most) (text : List ℕ) where
+module _ {X : Type 0} (line : X → List ℕ) (start : List ℕ) (rows : List X) (most : Option ℕ) (count : ℕ) (counted : count ≡ first_count (length rows + 1) most)
+    (text : List ℕ) where
   abbrev lines : List (List ℕ)
   lines = first_items most (start ∷ map line rows)
 
   abbrev first : ℕ
   first = first_count (length rows + 1) most
 
-  pub written-with-start : 0 < count → text ≡ ((head count ++ start) ++ 10 ∷ []) ++ flat_map with_newline (map line (take (count - 1) rows)) → text ≡ answered lines
+  pub written-with-start : 0 < count → text ≡ ((head count ++ start) ++ 10 ∷ []) ++ flat_map with_newline (map line (take (count - 1) rows))
+      → text ≡ answered lines
   written-with-start some is =
       is
       ∙ ap (λ (front : List ℕ). front ++ flat_map with_newline (map line (take (count - 1) rows))) (append_assoc (head count) start (10 ∷ []))

@@ -1,5 +1,6 @@
 -- Lemmas on the words between spaces.
-use Rattle.std.proofs.Common.{◌≡◌, ◌≢◌, ◌∙◌, ℕ, ◌+◌, ◌-◌, ◌<◌, ◌≤◌, inl, inr, List, [], ◌∷◌, ◌++◌, All, length, get_or, take, drop, false, refl, sym, ap, arith, ne_eqb, eq-eqb, take_all, length-take-le, get_or-take, get_or-drop, length-drop, add-zero, take-append-drop}
+use Rattle.std.proofs.Common.{◌≡◌, ◌≢◌, ◌∙◌, ℕ, ◌+◌, ◌-◌, ◌<◌, ◌≤◌, inl, inr, List, [], ◌∷◌, ◌++◌, All, length, get_or, take, drop, false, refl, sym, ap, arith}
+use Rattle.std.proofs.Common.{ne_eqb, eq-eqb, take_all, length-take-le, get_or-take, get_or-drop, length-drop, add-zero, take-append-drop}
 use Rattle.std.specs.Prelude.{◌==◌, nat_lt, filter}
 use Rattle.std.specs.List.{slice_split}
 use Rattle.std.proofs.lemmas.Bool.{cases_lt, lt-ltb}
@@ -17,7 +18,8 @@ pub words_skip : (bs : List ℕ) (i : ℕ) → i < length bs → get_or bs i 0 �
 words_skip bs i lt h = sym (ap words_between (drop_more bs i 0 lt) ∙ words_after_space (get_or bs i 0) (drop (i + 1) bs) h)
 
 -- a part with a byte is a word
-words_cons : (w : List ℕ) (parts : List (List ℕ)) → 0 < length w → filter (λ word. nat_lt 0 (length word)) (w ∷ parts) ≡ w ∷ filter (λ word. nat_lt 0 (length word)) parts
+words_cons : (w : List ℕ) (parts : List (List ℕ)) → 0 < length w → filter (λ word. nat_lt 0 (length word)) (w ∷ parts) ≡ w ∷ filter
+    (λ word. nat_lt 0 (length word)) parts
 words_cons w parts some = rw (lt-ltb 0 (length w) some) refl
 
 -- no space before n
@@ -37,7 +39,8 @@ words_first bs n some within before stops =
       | inl lt ↦
           let split : bs ≡ take n bs ++ get_or bs n 0 ∷ drop (n + 1) bs = sym (take-append-drop n bs) ∙ ap (λ l. take n bs ++ l) (drop_more bs n 0 lt) in
           let parts : slice_split (λ b. b == 32) bs ≡ take n bs ∷ slice_split (λ b. b == 32) (drop (n + 1) bs) =
-          ap (slice_split (λ b. b == 32)) split ∙ slice_split_at (λ b. b == 32) (take n bs) (get_or bs n 0) (drop (n + 1) bs) free (eq-eqb (get_or bs n 0) 32 (stops lt)) in
+          ap (slice_split (λ b. b == 32)) split ∙ slice_split_at (λ b. b == 32) (take n bs) (get_or bs n 0) (drop (n + 1) bs) free
+          (eq-eqb (get_or bs n 0) 32 (stops lt)) in
           ap (λ l. filter (λ word. nat_lt 0 (length word)) l) parts
           ∙ words_cons (take n bs) (slice_split (λ b. b == 32) (drop (n + 1) bs)) long
           ∙ ap (λ l. take n bs ∷ l) (words_skip bs n lt (stops lt))
@@ -51,7 +54,8 @@ words_first bs n some within before stops =
     ]
 
 -- the first word of what is left after the spaces
-pub words_split : (bs rest : List ℕ) (s e : ℕ) → words_between (drop s bs) ≡ words_between bs → (s < length bs → get_or bs s 0 ≢ 32) → rest ≡ take (length bs - s) (drop s bs) → 0 < length rest
+pub words_split : (bs rest : List ℕ) (s e : ℕ) → words_between (drop s bs) ≡ words_between bs → (s < length bs → get_or bs s 0 ≢ 32)
+    → rest ≡ take (length bs - s) (drop s bs) → 0 < length rest
     → e ≤ length rest → ((k : ℕ) → k < e → get_or rest k 0 ≢ 32) → (e < length rest → get_or rest e 0 ≡ 32)
     → words_between bs ≡ take e rest ∷ words_between (take (length rest - e) (drop e rest))
 words_split bs rest s e words stops is some within before ends =

@@ -17,5 +17,6 @@ returns c =
     let are : AreNamed state.dump c.args.text.now groups named = rw (sym c.graph.ensures, sym c.as_slice.ensures.value) c.in_ok-named.ensures in (
       Ok (map (found_line state.dump counts) named),
       found state.dump c.args.text.now groups named c.in_ok-groups.ensures.groups are state.log counts c.in_ok-groups.ensures.counts,
-      c.in_ok-reply.ensures.lines ∙ ap (λ (gs : List Group). answered (first_items c.args.showing.most (map (found_line state.dump counts) gs))) c.as_slice-2.ensures.value,
+      c.in_ok-reply.ensures.lines
+          ∙ ap (λ (gs : List Group). answered (first_items c.args.showing.most (map (found_line state.dump counts) gs))) c.as_slice-2.ensures.value,
     )

@@ -1,3 +1,5 @@
+-- One group after another: it is kept exactly if its name contains the text, so the list is the filter of those so far.
+-- Beside the filter goes what its test means (`Told`).
 use Rattle.std.proofs.Common.{◌≡◌, ◌∙◌, ◌+◌, ◌<◌, ◌≤◌, Bool, true, false, cond, List, [], ◌∷◌, ◌++◌, length, take, get_or, append-nil, sym, ap, subst, arith}
 use Rattle.std.specs.Prelude.{◌↔◌, All, filter}
 use Rattle.std.proofs.lemmas.List.{take_all, take_more}

@@ -7,4 +7,5 @@ use Rattle.hd_analyst.proofs.found_lines.put_counts.Given as goal
 -- the counts of the strengths so far are put
 abbrev pub invariant-loop-strength : goal.invariant-loop-strength
 invariant-loop-strength l =
-    string_bytes l.text ≡ string_bytes l.fn.text ++ flat_map (λ (s : Strength). 32 ∷ decimal (member_count l.state.dump l.state.kept l.group s)) (take l.strength-index falling_strengths)
+    string_bytes l.text ≡ string_bytes l.fn.text ++ flat_map (λ (s : Strength). 32 ∷ decimal (member_count l.state.dump l.state.kept l.group s))
+    (take l.strength-index falling_strengths)

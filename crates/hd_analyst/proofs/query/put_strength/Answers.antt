@@ -8,23 +8,27 @@ use Rattle.hd_analyst.proofs.query.put_strength.Goals as goal
 pub returns-in_default : goal.returns-in_default
 returns-in_default c =
     let state = c.args.state.now in
-    about_none (AnswersStrength state.dump state.log) c.args.most (index_of state.dump.objects c.args.id) c.find_object.new.out refl c.in_default.ensures.0 c.in_default.ensures.1
+    about_none (AnswersStrength state.dump state.log) c.args.most
+    (index_of state.dump.objects c.args.id) c.find_object.new.out refl c.in_default.ensures.0 c.in_default.ensures.1
 
 pub returns-then-is_none_wanted : goal.returns-then-is_none_wanted
 returns-then-is_none_wanted c =
     let state = c.args.state.now in
     let s = c.strength-strength.result in
-    about_object (AnswersStrength state.dump state.log) c.args.most (index_of state.dump.objects c.args.id) c.in-Some.object c.put_head.new.out c.in-Some.ensures (
+    about_object (AnswersStrength state.dump state.log) c.args.most
+    (index_of state.dump.objects c.args.id) c.in-Some.object c.put_head.new.out c.in-Some.ensures (
       Ok (strength_name s ∷ []),
       (s, c.strength-strength.ensures, refl),
-      c.put_head.ensures.bytes ∙ sym (append-nil (answered_head 0)) ∙ ap (λ most. answer_text most (Ok (strength_name s ∷ []))) (sym (c.is_none_wanted.ensures.yes c.if-is_none_wanted.true)),
+      c.put_head.ensures.bytes ∙ sym (append-nil (answered_head 0)) ∙ ap (λ most. answer_text most (Ok (strength_name s ∷ [])))
+          (sym (c.is_none_wanted.ensures.yes c.if-is_none_wanted.true)),
     )
 
 pub returns-else-is_none_wanted : goal.returns-else-is_none_wanted
 returns-else-is_none_wanted c =
     let state = c.args.state.now in
     let s = c.strength-strength.result in
-    about_object (AnswersStrength state.dump state.log) c.args.most (index_of state.dump.objects c.args.id) c.in-Some.object c.put_line.new.out c.in-Some.ensures (
+    about_object (AnswersStrength state.dump state.log) c.args.most
+    (index_of state.dump.objects c.args.id) c.in-Some.object c.put_line.new.out c.in-Some.ensures (
       Ok (strength_name s ∷ []),
       (s, c.strength-strength.ensures, refl),
       c.put_line.ensures ∙ ap (λ line. answered (line ∷ [])) (c.as_bytes.ensures.value ∙ c.strength_text.ensures.name)

@@ -12,7 +12,8 @@ returns-in-Some c =
     let word = c.args.question.text.now in
     let query = c.args.question.query in
     subst (IsQueryReply state marks showing word query) (sym (ap (λ (v : Vec ℕ Global). v.items) c.into_bytes.ensures.value))
-    (subst (λ (text : Option (String Global)). IsAnswerIn state marks showing word query (option_map string_bytes text) c.answer_query.new.out) c.in-Some.is c.in_ok-text.ensures)
+    (subst (λ (text : Option (String Global)). IsAnswerIn state marks showing word query (option_map string_bytes text) c.answer_query.new.out) c.in-Some.is
+    c.in_ok-text.ensures)
 
 pub returns : goal.returns
 returns c =
@@ -23,4 +24,5 @@ returns c =
     let query = c.args.question.query in
     let same : c.in_ok-text-in-None.text.items ≡ c.answer_query.new.out = search rules in
     subst (IsQueryReply state marks showing word query) (sym same)
-    (subst (λ (text : Option (String Global)). IsAnswerIn state marks showing word query (option_map string_bytes text) c.answer_query.new.out) c.in-None.is c.in_ok-text.ensures)
+    (subst (λ (text : Option (String Global)). IsAnswerIn state marks showing word query (option_map string_bytes text) c.answer_query.new.out) c.in-None.is
+    c.in_ok-text.ensures)

@@ -12,7 +12,8 @@ returns-in_ok-text-in-Some c =
     let state = c.args.state.now in
     chain_reply state.dump c.args.showing.names state.log state.kept c.args.object c.args.showing.most _ c.in-Some.chain
     (subst (IsChainFound state.dump state.log state.kept c.args.object) c.in-Some.is c.in_ok-chain.ensures)
-    (c.in_ok-text-in-Some.ensures ∙ ap (λ (dump : Dump). answered (first_items c.args.showing.most (lines_of dump c.args.showing.names c.in-Some.chain))) c.graph.ensures)
+    (c.in_ok-text-in-Some.ensures
+    ∙ ap (λ (dump : Dump). answered (first_items c.args.showing.most (lines_of dump c.args.showing.names c.in-Some.chain))) c.graph.ensures)
 
 pub returns-in_ok-text-in-None : goal.returns-in_ok-text-in-None
 returns-in_ok-text-in-None c =

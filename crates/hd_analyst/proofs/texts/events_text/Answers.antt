@@ -10,5 +10,6 @@ use Rattle.hd_analyst.proofs.texts.events_text.Goals as goal
 pub returns : goal.returns
 returns c =
     c.in_ok-text.ensures.lines
-    ∙ ap (λ (rows : List EventRow). answered (first_items c.args.showing.most (map event_line rows))) (c.as_slice.ensures.value ∙ c.in_ok-rows.ensures ∙ ap event_rows c.front.ensures)
+    ∙ ap (λ (rows : List EventRow). answered (first_items c.args.showing.most (map event_line rows))) (c.as_slice.ensures.value ∙ c.in_ok-rows.ensures
+    ∙ ap event_rows c.front.ensures)
     ∙ ap (λ (lines : List (List ℕ)). answered (first_items c.args.showing.most lines)) (lines_of_rows c.args.state.now.log)

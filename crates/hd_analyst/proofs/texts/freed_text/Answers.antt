@@ -22,7 +22,8 @@ returns c =
         lines = refl;
       },
       c.in_ok-text.ensures.lines
-          ∙ ap (λ (start : List ℕ). answered (first_items most (start ∷ map (class_line c.graph.result.now) c.as_slice.result.now))) (c.as_str.ensures.value ∙ c.in_ok-start.ensures)
+          ∙ ap (λ (start : List ℕ). answered (first_items most (start ∷ map (class_line c.graph.result.now) c.as_slice.result.now)))
+          (c.as_str.ensures.value ∙ c.in_ok-start.ensures)
           ∙ ap (λ (d : Dump). answered (first_items most (total ∷ map (class_line d) c.as_slice.result.now))) c.graph.ensures
           ∙ ap (λ (rs : List ClassRow). answered (first_items most (total ∷ map (class_line dump) rs))) c.as_slice.ensures.value,
     )

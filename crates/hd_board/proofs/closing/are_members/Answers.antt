@@ -7,7 +7,11 @@ pub returns-then-not-is_member-clause-members : goal.returns-then-not-is_member-
 returns-then-not-is_member-clause-members c =
     let numbers = numbers_from c.args.first c.args.count in (
       λ yes. absurd (cc (yes)),
-      λ all. absurd (cc (c.is_member.ensures.1 (ours_there numbers c.args.log.now c.args.from c.loop-i.i c.event.result (omega arith) (omega arith) c.event.ensures all), c.if-not-is_member.true)),
+      λ all. absurd (cc (
+        c.is_member.ensures.1
+            (ours_there numbers c.args.log.now c.args.from c.loop-i.i c.event.result (omega arith) (omega arith) c.event.ensures all),
+        c.if-not-is_member.true,
+      )),
     )
 
 pub returns-clause-members : goal.returns-clause-members

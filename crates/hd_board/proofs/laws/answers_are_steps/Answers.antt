@@ -16,7 +16,8 @@ pub returns-clause-catches : goal.returns-clause-catches
 returns-clause-catches c = λ board s a event member is. (member, event, is, refl)
 
 pub returns-clause-forks : goal.returns-clause-forks
-returns-clause-forks c = λ board s a dump roots. ap (λ (n : ℕ). let b : Board = record { roots = n; base = (s.desk a).front; numbers = a ∷ [] } in b) (sym roots)
+returns-clause-forks c = λ board s a dump roots. ap (λ (n : ℕ). let b : Board = record { roots = n; base = (s.desk a).front; numbers = a ∷ [] } in b)
+    (sym roots)
 
 pub returns-clause-finds : goal.returns-clause-finds
 returns-clause-finds c = λ board s r a member. record { member = member; continues = (one_history board s (kept_after board s r)).seen a member }

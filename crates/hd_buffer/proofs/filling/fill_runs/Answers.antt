@@ -21,7 +21,8 @@ pub loop-rest-preserved : goal.loop-rest-preserved
 loop-rest-preserved g c =
     let done = c.loop-rest.done in
     let run = c.fill_run-run.result in
-    let filled = more-filled g.F.Fn c.args.f.now c.args.offset done.items run.items _ (c.len.ensures ∙ done.ok.0) c.loop-rest.invariant.5 c.fill_run-run.ensures.filled in (
+    let filled = more-filled g.F.Fn c.args.f.now c.args.offset done.items run.items _
+    (c.len.ensures ∙ done.ok.0) c.loop-rest.invariant.5 c.fill_run-run.ensures.filled in (
       search rules,
       search rules,
       search rules,

@@ -52,7 +52,9 @@ attach_spec 𝓤 𝓛 𝓜 𝓡 wired A L g d dd met md =
     let held : Clauses 𝓤 En = F.clauses A g d dd 𝓛 𝓜.mem 𝓡.returns in
     let C = (tables 𝓤 H 𝓜 𝓡 𝓡.env).C in
     let Λ = (tables 𝓤 H 𝓜 𝓡 𝓡.env).Λ in
-    proved_at 𝓛 En stayed held 𝓜 𝓡 (Goes-blank 𝓛 1 (plain (λ _. Space.the_row)) yes (λ κs x f. tt), (Goes-blank 𝓛 1 (plain (λ _. Lender.the_row P g)) no (λ κs x f. tt), tt)) (#self args) fn (code.unfolded 𝓤 H 𝓜 𝓡 wired (A, tt) d dd) (λ z _.
+    proved_at 𝓛 En stayed held 𝓜 𝓡
+    (Goes-blank 𝓛 1 (plain (λ _. Space.the_row)) yes (λ κs x f. tt), (Goes-blank 𝓛 1 (plain (λ _. Lender.the_row P g)) no (λ κs x f. tt), tt))
+    (#self args) fn (code.unfolded 𝓤 H 𝓜 𝓡 wired (A, tt) d dd) (λ z _.
     let Post : Val → SProp 𝓤 = (walk_of 𝓛 En stayed held).post z in
     let toks : SProp 𝓤 = alive 𝓛 En.signature z.0.0 z.0.1 in
     let a = z.0.3 in

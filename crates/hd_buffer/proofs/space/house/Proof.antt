@@ -5,7 +5,8 @@ use mir.Val.{Val, vptr, vint}
 use prog.Wp.{WpFn}
 use contract.Monad.{fact}
 use contract.Running.{tables}
-use types.Kit.{‵, raw, ◌⊛◌, later, prop, ◌$◌, ◌∵◌, !, qed, move, drop, use1, split, fsplit, fjoin, feq_l, regoal, rewrite, suffices, await, done, some, given, pick, learn, at_ret, flt_l}
+use types.Kit.{‵, raw, ◌⊛◌, later, prop, ◌$◌, ◌∵◌, !, qed, move, drop, use1, split, fsplit, fjoin, feq_l, regoal, rewrite, suffices, await, done, some, given}
+use types.Kit.{pick, learn, at_ret, flt_l}
 use types.Run.{enter, returns, of_opd, and_then, no_more, first, blocks, exec}
 use types.ByLocal.{alloc_all, pass_all, free_all, look_at, get, sets, lands_last, env}
 use denote.Exit.{yes}
@@ -36,7 +37,10 @@ use Rattle.std.proofs.raw_atomic.Walks.{proved_at}
 use denote.Triple.Table.{framed}
 
 abbrev stayed : Stays F.ended.signature.params F.ended.kept
-stayed = (stay_dropped (plain (λ _. RawPtr)) yes, (stay_dropped (plain (λ _. usize)) yes, (stay_dropped (plain (λ _. usize)) yes, (stay_dropped (plain (λ _. Space.the_row)) yes, tt))))
+stayed = (
+  stay_dropped (plain (λ _. RawPtr)) yes,
+  (stay_dropped (plain (λ _. usize)) yes, (stay_dropped (plain (λ _. usize)) yes, (stay_dropped (plain (λ _. Space.the_row)) yes, tt))),
+)
 
 pub house_spec : {M : Type 1} → statement M
 house_spec 𝓤 𝓛 𝓜 𝓡 wired =
@@ -45,7 +49,14 @@ house_spec 𝓤 𝓛 𝓜 𝓡 wired =
     let held : Clauses 𝓤 F.ended = F.clauses 𝓛 𝓜.mem 𝓡.returns in
     let C = (tables 𝓤 H 𝓜 𝓡 𝓡.env).C in
     let Λ = (tables 𝓤 H 𝓜 𝓡 𝓡.env).Λ in
-    proved_at 𝓛 F.ended stayed held 𝓜 𝓡 (Goes-blank 𝓛 0 (plain (λ _. RawPtr)) yes (λ κs x f. tt), (Goes-blank 𝓛 0 (plain (λ _. usize)) yes (λ κs x f. tt), (Goes-blank 𝓛 0 (plain (λ _. usize)) yes (λ κs x f. tt), (Goes-blank 𝓛 0 (plain (λ _. Space.the_row)) yes (λ κs x f. tt), tt)))) #self fn (code.unfolded 𝓤 H 𝓜 𝓡 wired) (λ z _.
+    proved_at 𝓛 F.ended stayed held 𝓜 𝓡 (
+      Goes-blank 𝓛 0 (plain (λ _. RawPtr)) yes (λ κs x f. tt),
+      (
+        Goes-blank 𝓛 0 (plain (λ _. usize)) yes (λ κs x f. tt),
+        (Goes-blank 𝓛 0 (plain (λ _. usize)) yes (λ κs x f. tt), (Goes-blank 𝓛 0 (plain (λ _. Space.the_row)) yes (λ κs x f. tt), tt)),
+      ),
+    ) #self fn
+    (code.unfolded 𝓤 H 𝓜 𝓡 wired) (λ z _.
     let Post : Val → SProp 𝓤 = (walk_of 𝓛 F.ended stayed held).post z in
     let toks : SProp 𝓤 = alive 𝓛 F.ended.signature z.0.0 z.0.1 in
     let a = z.0.3 in
@@ -58,17 +69,24 @@ house_spec 𝓤 𝓛 𝓜 𝓡 wired =
     let Asked = (s.ptr ≡ p) × (s.capacity ≡ c) × (length xs ≡ n) × (n ≤ c) × (c < 2 ^ 63) in
     qed 𝓛 ((raw toks ⊛ ‵ (owns (types_at F.ended.signature.params z.0.0) a vss)) ∷ raw (fact 𝓤 Asked) ∷ []) ∵
     move ! (1 ∷ []) $ heard ! Asked (λ asked. split ! $ move ! (1 ∷ []) $
-    fsplit ! $ feq_l ! (λ is₀. fsplit ! $ fsplit ! $ feq_l ! (λ is₁. flt_l ! (λ fits. fsplit ! $ fsplit ! $ feq_l ! (λ is₂. flt_l ! (λ fits₂. fsplit ! $ fsplit ! $ none_had ! vss.1.1.1.0 (λ is₃. move ! (1 ∷ []) $ drop ! $
-    rewrite ! 0 (λ (y : Ptr × ℕ). ‵ (space_owns y.0 y.1 xs)) (λ i. (asked.0 i, asked.1 i)) refl $ in_a_block ! p (λ r. space_owns r c xs) (nowhere 𝓛 c xs) (λ b o at.
+    fsplit ! $ feq_l ! (λ is₀. fsplit ! $ fsplit ! $ feq_l !
+    (λ is₁. flt_l ! (λ fits. fsplit ! $ fsplit ! $ feq_l !
+    (λ is₂. flt_l ! (λ fits₂. fsplit ! $ fsplit ! $ none_had ! vss.1.1.1.0 (λ is₃. move ! (1 ∷ []) $ drop ! $
+    rewrite ! 0 (λ (y : Ptr × ℕ). ‵ (space_owns y.0 y.1 xs)) (λ i. (asked.0 i, asked.1 i)) refl $ in_a_block ! p (λ r. space_owns r c xs) (nowhere 𝓛 c xs)
+    (λ b o at.
     let y = at_lodge 𝓛 𝓜.mem 𝓡.returns b o n c xs in
     regoal ! (λ (us : List Val). prop (WpFn 𝓤 H C Λ fn (us ++ (vss.1.0 ++ (vss.1.1.0 ++ (vss.1.1.1.0 ++ [])))) Post)) (is₀ ∙ ap (λ r. ptr_val r ∷ []) at) refl $
     regoal ! (λ (us : List Val). prop (WpFn 𝓤 H C Λ fn ((vptr b o ∷ []) ++ (us ++ (vss.1.1.0 ++ (vss.1.1.1.0 ++ [])))) Post)) is₁ refl $
     regoal ! (λ (us : List Val). prop (WpFn 𝓤 H C Λ fn ((vptr b o ∷ []) ++ ((vint w64 n ∷ []) ++ (us ++ (vss.1.1.1.0 ++ [])))) Post)) is₂ refl $
     regoal ! (λ (us : List Val). prop (WpFn 𝓤 H C Λ fn ((vptr b o ∷ []) ++ ((vint w64 n ∷ []) ++ ((vint w64 c ∷ []) ++ (us ++ [])))) Post)) is₃ refl $
-    enter ! C Λ fn (vptr b o ∷ vint w64 n ∷ vint w64 c ∷ none ∷ []) Post $ alloc_all ! (λ l. pass_all ! refl ((tt, tt), ((tt, record { fits = fits }), ((tt, record { fits = fits₂ }), ((tt, tt), tt)))) $
+    enter ! C Λ fn (vptr b o ∷ vint w64 n ∷ vint w64 c ∷ none ∷ []) Post $ alloc_all !
+    (λ l. pass_all ! refl ((tt, tt), ((tt, record { fits = fits }), ((tt, record { fits = fits₂ }), ((tt, tt), tt)))) $
     first ! $ blocks ! $ use1 𝓛 (raw ((Lodges 𝓛 𝓜.mem 𝓡.returns).pre y)) (lodge_goes 𝓛 𝓜.mem 𝓡.returns b o n c xs asked.2 asked.3 asked.4) $
-    calls_at_last ! (λ f. framed 𝓤 H 𝓜 (tables 𝓤 H 𝓜 𝓡 𝓡.env) f) (Lodges 𝓛 𝓜.mem 𝓡.returns) (callee.met 𝓤 𝓛 𝓜 𝓡 (code.calls-std_alloc::vec::lodge 𝓡.env wired) u8 byte_laws) y (and_then ! (get ! refl) (and_then ! (get ! refl) (and_then ! (get ! refl) (no_more !)))) (λ v.
-    use1 𝓛 (later (some (λ (r : Vec ℕ Lodged). given (IsLodged 𝓛 𝓜.mem 𝓡.returns b o n c xs r) (‵ (Housed.own_val r (v ∷ [])))))) (lodge_gives 𝓛 𝓜.mem 𝓡.returns b o n c xs v) $
+    calls_at_last ! (λ f. framed 𝓤 H 𝓜 (tables 𝓤 H 𝓜 𝓡 𝓡.env) f) (Lodges 𝓛 𝓜.mem 𝓡.returns)
+    (callee.met 𝓤 𝓛 𝓜 𝓡 (code.calls-std_alloc::vec::lodge 𝓡.env wired) u8 byte_laws) y
+    (and_then ! (get ! refl) (and_then ! (get ! refl) (and_then ! (get ! refl) (no_more !)))) (λ v.
+    use1 𝓛 (later (some (λ (r : Vec ℕ Lodged). given (IsLodged 𝓛 𝓜.mem 𝓡.returns b o n c xs r) (‵ (Housed.own_val r (v ∷ []))))))
+    (lodge_gives 𝓛 𝓜.mem 𝓡.returns b o n c xs v) $
     await ! tt $ pick ! (λ r. learn ! (λ is. tells ! Housed housed-laws r (v ∷ []) (λ u same good.
     let fine : Good Housed v = subst (Good Housed) (sym (ap only same)) good in
     rewrite ! 0 (λ w. ‵ (Housed.own_val r (w ∷ []))) (sym (ap only same)) refl $ lands_last ! refl fine $

@@ -56,8 +56,10 @@ vacate_spec 𝓤 𝓛 𝓜 𝓡 wired =
     regoal ! (λ (us : List Val). prop (WpFn 𝓤 H C Λ fn (us ++ []) Post)) is refl $
     enter ! C Λ fn (u ∷ []) Post $ alloc_all ! (λ l. pass_all ! refl (good, tt) $
     sets ! (of_opd ! (get ! refl)) refl good $ use1 𝓛 (raw ((Dislodges 𝓛 𝓜.mem 𝓡.returns).pre y)) (dislodge_goes 𝓛 𝓜.mem 𝓡.returns v u) $
-    calls_at ! (λ f. framed 𝓤 H 𝓜 (tables 𝓤 H 𝓜 𝓡 𝓡.env) f) (Dislodges 𝓛 𝓜.mem 𝓡.returns) (callee.met 𝓤 𝓛 𝓜 𝓡 (code.calls-std_alloc::vec::lodged::Vec+T+Lodged::dislodge 𝓡.env wired) u8 byte_laws) y (and_then ! (get ! refl) (no_more !)) (λ w.
-    use1 𝓛 (later (given ((w ≡ vint w64 v.len) × (v.len < 2 ^ 64)) (‵ (space_owns v.ptr v.cap v.items)))) (dislodge_gives 𝓛 𝓜.mem 𝓡.returns v u w) $ await ! tt $ learn ! (λ got.
+    calls_at ! (λ f. framed 𝓤 H 𝓜 (tables 𝓤 H 𝓜 𝓡 𝓡.env) f) (Dislodges 𝓛 𝓜.mem 𝓡.returns)
+    (callee.met 𝓤 𝓛 𝓜 𝓡 (code.calls-std_alloc::vec::lodged::Vec+T+Lodged::dislodge 𝓡.env wired) u8 byte_laws) y (and_then ! (get ! refl) (no_more !)) (λ w.
+    use1 𝓛 (later (given ((w ≡ vint w64 v.len) × (v.len < 2 ^ 64)) (‵ (space_owns v.ptr v.cap v.items))))
+    (dislodge_gives 𝓛 𝓜.mem 𝓡.returns v u w) $ await ! tt $ learn ! (λ got.
     lands_as ! got.0 refl (tt, record { fits = got.1 }) $
     sets ! (agg ! (no_more !)) refl (tt, tt) $
     none_made ! $ fjoin ! $

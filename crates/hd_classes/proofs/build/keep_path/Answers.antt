@@ -1,3 +1,5 @@
+-- The classes of a path are kept from its end down, each above the next one (`path-down`),
+-- so the class above one is known when it is kept.
 use Rattle.std.proofs.Common.{◌≡◌, ◌∙◌, ℕ, ◌-◌, [], List, take, Bor, true, inr, sym, ap, subst}
 use Rattle.std.proofs.lemmas.List.{append-nil}
 use Rattle.hd_terms.specs.Classes.{LeadUp, class_at, first_classes}
@@ -44,6 +46,7 @@ returns-clause-ok c =
     let classes = first_classes c.args.source.now.list.now in
     let h = c.loop-class.invariant in
     let items = c.loop-class.classes.items in
-    let none : items ≡ [] = c.in_default.ensures.items ∙ append-nil c.pop.new.self.items ∙ c.in_default.ensures.rest ∙ ap (λ (n : ℕ). take (n - 1) items) c.in_default.ensures.cases.0 in
+    let none : items ≡ [] = c.in_default.ensures.items ∙ append-nil c.pop.new.self.items ∙ c.in_default.ensures.rest
+    ∙ ap (λ (n : ℕ). take (n - 1) items) c.in_default.ensures.cases.0 in
     let same : c.args.path.start ≡ h.2.0 = subst (λ (xs : List (Bor ClassDump)). LeadUp classes c.args.path.start (path_view xs) h.2.0) none h.2.1 in
     record { kept = h.0; more = h.1; top = subst (IsTop c.loop-class.known.entries) (sym same) h.2.2 }

@@ -4,7 +4,8 @@ use Rattle.hd_classes.proofs.ClassNameLemmas.{copied-before, copied-now}
 use Rattle.hd_classes.proofs.class_names.copy_text.Goals as goal
 
 pub returns : goal.returns
-returns c = copied-before c.args.bytes.now c.args.text.now.items c.args.copies.now.entries c.args.span c.in-Some.part.now c.requires.copied (sym c.in-Some.ensures.value) c.if-part-span.true
+returns c = copied-before c.args.bytes.now c.args.text.now.items c.args.copies.now.entries c.args.span c.in-Some.part.now c.requires.copied
+    (sym c.in-Some.ensures.value) c.if-part-span.true
 
 pub returns-2 : goal.returns-2
 returns-2 c =

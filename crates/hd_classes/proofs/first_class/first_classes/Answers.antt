@@ -12,4 +12,5 @@ returns c =
     let all : c.loop-i.i ≡ c.classes_end-i-end.result = omega arith in
     c.loop-i.invariant.kept
     ∙ ap (λ n. map entry_of (placed_classes (take n c.args.list.now))) all
-    ∙ ap (map entry_of) (places-front c.args.list.now c.classes_end-i-end.result (none-placed (drop c.classes_end-i-end.result c.args.list.now) c.classes_end-i-end.ensures.none_after))
+    ∙ ap (map entry_of) (places-front c.args.list.now c.classes_end-i-end.result
+    (none-placed (drop c.classes_end-i-end.result c.args.list.now) c.classes_end-i-end.ensures.none_after))

@@ -6,4 +6,5 @@ use Rattle.hd_classes.proofs.names.first_names.Given as goal
 
 -- the loaded classes so far
 abbrev pub invariant-loop-load : goal.invariant-loop-load
-invariant-loop-load l = HasFirstNames (take l.load-index l.load-items) l.names.entries × (l.repeated ≡ repeats (λ (x : Load). x.class) (take l.load-index l.load-items))
+invariant-loop-load l = HasFirstNames (take l.load-index l.load-items) l.names.entries
+    × (l.repeated ≡ repeats (λ (x : Load). x.class) (take l.load-index l.load-items))

@@ -8,4 +8,5 @@ returns-in_default-clause-first g c =
 
 pub returns-clause-first : goal.returns-clause-first
 returns-clause-first g c =
-    first-known c.args.id c.args.value c.args.kept.now.entries c.in-Some.first _ _ (sym c.in_ok-first.ensures.old ∙ c.in-Some.is) c.in_ok-first.ensures.updates.0 c.in_ok-insert.ensures.updates.0
+    first-known c.args.id c.args.value c.args.kept.now.entries c.in-Some.first _ _
+    (sym c.in_ok-first.ensures.old ∙ c.in-Some.is) c.in_ok-first.ensures.updates.0 c.in_ok-insert.ensures.updates.0

@@ -1,3 +1,5 @@
+-- One known class after another: its own fields get names behind those of the classes above it.
+-- Its row points to the row of the class above, which comes before.
 use Rattle.std.proofs.Common.{◌≡◌, ◌∙◌, ℕ, ◌^◌, ◌++◌, ◌∷◌, [], List, Option, Some, map, take, sym, ap, subst, arith}
 use Rattle.std.specs.List.{slice_get}
 use Rattle.std.proofs.lemmas.Option.{slice_get_within}

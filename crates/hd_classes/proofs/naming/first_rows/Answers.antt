@@ -1,3 +1,5 @@
+-- One class after another, each ID once: it goes into the map with its row, or with none where it has no chain.
+-- So a look-up in the map finds the row of a class.
 use Rattle.std.proofs.Common.{◌≡◌, ◌∙◌, ℕ, ◌++◌, ◌∷◌, [], List, Option, Some, None, eqb, map, take, sym, ap, arith}
 use Rattle.std.specs.List.{slice_get, position}
 use Rattle.std.specs.Map.{keys_of, lookup}

@@ -1,3 +1,5 @@
+-- Names of fields and of statics are numbers of texts, once all texts are there; each list has a row for each class.
+-- What is said of the rows so far holds of any later texts that begin with these.
 use Rattle.std.proofs.Common.{◌∙◌, ℕ, List, Option, length, map, sym, ap}
 use Rattle.std.specs.List.{slice_get}
 use Rattle.std.proofs.lemmas.List.{length-map}

@@ -1,3 +1,5 @@
+-- Each step adds the class to which the last one leads (`lead-push`), until one is known, is absent, or the path is as
+-- long as there are classes, and so never ends.
 use Rattle.std.proofs.Common.{◌≡◌, ◌∙◌, List, [], ◌∷◌, ◌++◌, length, Bor, sym, ap, subst, arith}
 use Rattle.std.proofs.lemmas.List.{length_push, map-append}
 use Rattle.hd_terms.specs.SubRecords.{ClassItem}
@@ -16,9 +18,11 @@ loop-step-preserved c =
     let class : ClassItem = class_view c.in-Some.class.now in
     let h = c.loop-step.invariant in
     let items = c.in_ok-push-in-Some.ensures.items in
-    let seen : path_view c.push.new.self.items ≡ path_view before ++ class ∷ [] = ap path_view items ∙ map-append (λ (b : Bor ClassDump). class_view b.now) before (c.in-Some.class ∷ []) in (
+    let seen : path_view c.push.new.self.items ≡ path_view before ++ class ∷ [] = ap path_view items
+    ∙ map-append (λ (b : Bor ClassDump). class_view b.now) before (c.in-Some.class ∷ []) in (
       h.0,
-      subst (λ (cs : List ClassItem). LeadUp classes c.loop-step.path.start cs class.super) (sym seen) (lead-push classes (path_view before) c.loop-step.path.start c.loop-step.path.end class h.1 (sym c.in-Some.ensures)),
+      subst (λ (cs : List ClassItem). LeadUp classes c.loop-step.path.start cs class.super) (sym seen)
+          (lead-push classes (path_view before) c.loop-step.path.start c.loop-step.path.end class h.1 (sym c.in-Some.ensures)),
       omega (arith, h.2, ap (λ (bs : List (Bor ClassDump)). length bs) items, length_push before c.in-Some.class),
     )
 

@@ -1,3 +1,5 @@
+-- One class of the chain after another: the places of its own fields come behind those before.
+-- Where the places so far end is where its values begin.
 use Rattle.std.proofs.Common.{◌≡◌, ◌∙◌, ℕ, ◌+◌, List, ◌++◌, length, map, sym, ap, arith, append_assoc}
 use Rattle.hd_terms.specs.Classes as classes_of
 use Rattle.hd_terms.specs.Classes.{layout_len}
@@ -11,7 +13,15 @@ pub push_places-requires : goal.push_places-requires
 push_places-requires c =
     let end = c.loop-own.invariant.end in
     let own = map field_view c.in-Some.own.now in
-    omega (arith, end, ap (layout_len c.args.id_size) c.in-Some.ensures.0, len-append c.args.id_size own c.in-Some.above, layout-few c.args.id_size c.args.layout, c.requires)
+    omega (
+      arith,
+      end,
+      ap (layout_len c.args.id_size) c.in-Some.ensures.0,
+      len-append c.args.id_size own c.in-Some.above,
+      layout-few c.args.id_size
+          c.args.layout,
+      c.requires,
+    )
 
 pub loop-own-preserved : goal.loop-own-preserved
 loop-own-preserved c =

@@ -1,3 +1,5 @@
+-- One field after another: a reference is noted at its place, and the place moves on by the length of the value.
+-- The place is the length of the values so far, which fits, since all of a layout do.
 use Rattle.std.proofs.Common.{◌∙◌, ◌≡◌, ◌+◌, List, ℕ, [], ◌∷◌, ◌++◌, sym, ap, arith, append_assoc, get_or, true, false}
 use Rattle.std.proofs.lemmas.List.{append-nil}
 use Rattle.hd_terms.specs.Classes.{layout_len}
@@ -17,7 +19,8 @@ pub overflow_cast-at : goal.overflow_cast-at
 overflow_cast-at c = let at_is = c.loop-i.invariant.at_is in omega (arith, at_is, bytes-within c.args.id_size c.args.fields.now c.loop-i.i, c.requires)
 
 pub overflow_add-at : goal.overflow_add-at
-overflow_add-at c = let at_is = c.loop-i.invariant.at_is in omega (arith, at_is, bytes-within c.args.id_size c.args.fields.now c.loop-i.i, c.requires, c.value_len.ensures.few, c.from-at.ensures)
+overflow_add-at c = let at_is = c.loop-i.invariant.at_is in
+    omega (arith, at_is, bytes-within c.args.id_size c.args.fields.now c.loop-i.i, c.requires, c.value_len.ensures.few, c.from-at.ensures)
 
 pub loop-i-preserved : goal.loop-i-preserved
 loop-i-preserved c =
@@ -28,12 +31,18 @@ loop-i-preserved c =
     record {
       added = elim c.if-is_id_type.branch [
         | then-is_id_type+in_ok-push w ↦
-            ap (λ v. v.items) w.places-is ∙ w.in_ok-push.ensures.items ∙ ap (λ (ps : List ℕ). ps ++ c.loop-i.at ∷ []) c.loop-i.invariant.added ∙ append_assoc old so_far (c.loop-i.at ∷ [])
+            ap (λ v. v.items) w.places-is ∙ w.in_ok-push.ensures.items ∙ ap (λ (ps : List ℕ). ps ++ c.loop-i.at ∷ []) c.loop-i.invariant.added
+            ∙ append_assoc old so_far (c.loop-i.at ∷ [])
             ∙ ap (λ (n : ℕ). old ++ (so_far ++ n ∷ [])) at_is
-            ∙ ap (λ (ps : List ℕ). old ++ ps) (sym (places-more c.args.id_size c.args.start fields c.loop-i.i any_field c.loop-i-test.true true (sym c.is_id_type.ensures ∙ w.if-is_id_type.true)))
+            ∙ ap (λ (ps : List ℕ). old ++ ps)
+            (sym (places-more c.args.id_size c.args.start fields c.loop-i.i any_field c.loop-i-test.true true
+            (sym c.is_id_type.ensures ∙ w.if-is_id_type.true)))
         | else-is_id_type w ↦
             ap (λ v. v.items) w.places-is ∙ c.loop-i.invariant.added
-            ∙ ap (λ (ps : List ℕ). old ++ ps) (sym (append-nil so_far) ∙ sym (places-more c.args.id_size c.args.start fields c.loop-i.i any_field c.loop-i-test.true false (sym c.is_id_type.ensures ∙ w.if-is_id_type.false)))
+            ∙ ap (λ (ps : List ℕ). old ++ ps)
+            (sym (append-nil so_far)
+            ∙ sym (places-more c.args.id_size c.args.start fields c.loop-i.i any_field c.loop-i-test.true false
+            (sym c.is_id_type.ensures ∙ w.if-is_id_type.false)))
       ];
       at_is = omega (arith, at_is, bytes-more c.args.id_size fields c.loop-i.i any_field c.loop-i-test.true, c.value_len.ensures.len, c.from-at.ensures);
     }

@@ -9,7 +9,8 @@ loop-span-preserved c =
     let i = c.loop-span.invariant in
     let e = c.in_ok-read.ensures in
     record {
-      read = reads-next c.args.id_size c.args.bytes.now c.args.share.now c.loop-span.span-index _ c.loop-span.reader.subs c.read.new.self.subs (omega arith) i.read (rw (i.bytes, i.size) at e.ok);
+      read = reads-next c.args.id_size c.args.bytes.now c.args.share.now c.loop-span.span-index _ c.loop-span.reader.subs c.read.new.self.subs
+          (omega arith) i.read (rw (i.bytes, i.size) at e.ok);
       bytes = ap (λ (r : Reader). r.bytes) e.same_file ∙ i.bytes;
       size = ap (λ (r : Reader). r.size) e.same_file ∙ i.size;
     }

@@ -16,23 +16,28 @@ loop-i-init c = no-ids (values_of_constants (map constant_view c.args.constants.
 
 pub push_value-requires-clause-within : goal.push_value-requires-clause-within
 push_value-requires-clause-within c =
-    let within : c.loop-i.i < length (values_of_constants (map constant_view c.args.constants.now)) = omega (arith, length-constant-values c.args.constants.now) in
+    let within : c.loop-i.i < length (values_of_constants (map constant_view c.args.constants.now)) =
+    omega (arith, length-constant-values c.args.constants.now) in
     let values = values_of_constants (map constant_view c.args.constants.now) in
     let first = c.args.slot_table.now in
     let over = over-so-far values c.loop-i.i first c.loop-i.slot_table c.loop-i.invariant in
     value-over first c.loop-i.slot_table _ over
-    (subst (λ (v : ℕ × Span). IsValueWithin first.size (length first.bytes) v) (constant-at c.args.constants.now c.loop-i.i none) (c.requires.within c.loop-i.i (none.code, none.value) within))
+    (subst (λ (v : ℕ × Span). IsValueWithin first.size (length first.bytes) v) (constant-at c.args.constants.now c.loop-i.i none)
+    (c.requires.within c.loop-i.i (none.code, none.value) within))
 
 pub push_value-requires-clause-room : goal.push_value-requires-clause-room
 push_value-requires-clause-room c =
-    let room = room-so-far (values_of_constants (map constant_view c.args.constants.now)) c.loop-i.i c.args.slot_table.now c.loop-i.slot_table c.loop-i.invariant in
+    let room = room-so-far (values_of_constants (map constant_view c.args.constants.now)) c.loop-i.i c.args.slot_table.now c.loop-i.slot_table
+    c.loop-i.invariant in
     omega (arith, room.0, room.1, c.requires.room)
 
 pub loop-i-preserved : goal.loop-i-preserved
 loop-i-preserved c =
-    let within : c.loop-i.i < length (values_of_constants (map constant_view c.args.constants.now)) = omega (arith, length-constant-values c.args.constants.now) in
+    let within : c.loop-i.i < length (values_of_constants (map constant_view c.args.constants.now)) =
+    omega (arith, length-constant-values c.args.constants.now) in
     one-id (values_of_constants (map constant_view c.args.constants.now)) c.loop-i.i (none.code, none.value) c.args.slot_table.now c.loop-i.slot_table _
     within c.loop-i.invariant _ (constant-at c.args.constants.now c.loop-i.i none) c.in_ok-push_value.ensures
 
 pub returns : goal.returns
-returns c = all-ids (values_of_constants (map constant_view c.args.constants.now)) c.loop-i.i c.args.slot_table.now c.loop-i.slot_table (omega (arith, length-constant-values c.args.constants.now)) c.loop-i.invariant
+returns c = all-ids (values_of_constants (map constant_view c.args.constants.now)) c.loop-i.i c.args.slot_table.now c.loop-i.slot_table
+    (omega (arith, length-constant-values c.args.constants.now)) c.loop-i.invariant

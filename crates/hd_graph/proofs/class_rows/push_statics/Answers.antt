@@ -21,7 +21,8 @@ push_value-requires-clause-within c =
     let first = c.args.slot_table.now in
     let over = over-so-far values c.loop-i.i first c.loop-i.slot_table c.loop-i.invariant in
     value-over first c.loop-i.slot_table _ over
-    (subst (λ (v : ℕ × Span). IsValueWithin first.size (length first.bytes) v) (static-at c.args.statics.now c.loop-i.i none) (c.requires.within c.loop-i.i (none.code, none.value) within))
+    (subst (λ (v : ℕ × Span). IsValueWithin first.size (length first.bytes) v) (static-at c.args.statics.now c.loop-i.i none)
+    (c.requires.within c.loop-i.i (none.code, none.value) within))
 
 pub push_value-requires-clause-room : goal.push_value-requires-clause-room
 push_value-requires-clause-room c =
@@ -35,4 +36,5 @@ loop-i-preserved c =
     within c.loop-i.invariant _ (static-at c.args.statics.now c.loop-i.i none) c.in_ok-push_value.ensures
 
 pub returns : goal.returns
-returns c = all-ids (values_of_statics (map static_view c.args.statics.now)) c.loop-i.i c.args.slot_table.now c.loop-i.slot_table (omega (arith, length-static-values c.args.statics.now)) c.loop-i.invariant
+returns c = all-ids (values_of_statics (map static_view c.args.statics.now)) c.loop-i.i c.args.slot_table.now c.loop-i.slot_table
+    (omega (arith, length-static-values c.args.statics.now)) c.loop-i.invariant

@@ -10,10 +10,23 @@ abbrev none : Static
 none = record { name = 0; code = 0; value = record { start = 0; len = 0 } }
 
 pub overflow_cast-bytes : goal.overflow_cast-bytes
-overflow_cast-bytes c = omega (arith, bytes-more c.args.statics.now c.loop-i.i none c.loop-i-test.true, bytes-part c.args.statics.now (c.loop-i.i + 1), c.requires)
+overflow_cast-bytes c = omega (
+  arith,
+  bytes-more c.args.statics.now c.loop-i.i none c.loop-i-test.true,
+  bytes-part c.args.statics.now
+      (c.loop-i.i + 1),
+  c.requires,
+)
 
 pub overflow_add-bytes : goal.overflow_add-bytes
-overflow_add-bytes c = omega (arith, bytes-more c.args.statics.now c.loop-i.i none c.loop-i-test.true, bytes-part c.args.statics.now (c.loop-i.i + 1), c.loop-i.invariant, c.requires)
+overflow_add-bytes c = omega (
+  arith,
+  bytes-more c.args.statics.now c.loop-i.i none c.loop-i-test.true,
+  bytes-part c.args.statics.now
+      (c.loop-i.i + 1),
+  c.loop-i.invariant,
+  c.requires,
+)
 
 pub loop-i-preserved : goal.loop-i-preserved
 loop-i-preserved c = omega (arith, bytes-more c.args.statics.now c.loop-i.i none c.loop-i-test.true, c.loop-i.invariant)

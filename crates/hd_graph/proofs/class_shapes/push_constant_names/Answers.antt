@@ -16,9 +16,12 @@ loop-i-init c = sym (append-nil c.args.names.now.items)
 
 pub loop-i-preserved : goal.loop-i-preserved
 loop-i-preserved c =
-    let within : c.loop-i.i < length (values_of_constants (map constant_view c.args.constants.now)) = omega (arith, length-constant-values c.args.constants.now) in
-    one-name (λ i. slots.Const i) (values_of_constants (map constant_view c.args.constants.now)) c.loop-i.i (none.code, none.value) c.args.names.now.items c.loop-i.names.items _
+    let within : c.loop-i.i < length (values_of_constants (map constant_view c.args.constants.now)) =
+    omega (arith, length-constant-values c.args.constants.now) in
+    one-name (λ i. slots.Const i) (values_of_constants (map constant_view c.args.constants.now)) c.loop-i.i
+    (none.code, none.value) c.args.names.now.items c.loop-i.names.items _
     within c.loop-i.invariant _ (constant-at c.args.constants.now c.loop-i.i none) c.in_ok-push_name.ensures
 
 pub returns : goal.returns
-returns c = all-names (λ i. slots.Const i) (values_of_constants (map constant_view c.args.constants.now)) c.loop-i.i c.args.names.now.items c.loop-i.names.items (omega (arith, length-constant-values c.args.constants.now)) c.loop-i.invariant
+returns c = all-names (λ i. slots.Const i) (values_of_constants (map constant_view c.args.constants.now)) c.loop-i.i c.args.names.now.items c.loop-i.names.items
+    (omega (arith, length-constant-values c.args.constants.now)) c.loop-i.invariant

@@ -17,8 +17,10 @@ loop-i-init c = sym (append-nil c.args.names.now.items)
 pub loop-i-preserved : goal.loop-i-preserved
 loop-i-preserved c =
     let within : c.loop-i.i < length (values_of_statics (map static_view c.args.statics.now)) = omega (arith, length-static-values c.args.statics.now) in
-    one-name (λ i. slots.Static i) (values_of_statics (map static_view c.args.statics.now)) c.loop-i.i (none.code, none.value) c.args.names.now.items c.loop-i.names.items _
+    one-name (λ i. slots.Static i) (values_of_statics (map static_view c.args.statics.now)) c.loop-i.i
+    (none.code, none.value) c.args.names.now.items c.loop-i.names.items _
     within c.loop-i.invariant _ (static-at c.args.statics.now c.loop-i.i none) c.in_ok-push_name.ensures
 
 pub returns : goal.returns
-returns c = all-names (λ i. slots.Static i) (values_of_statics (map static_view c.args.statics.now)) c.loop-i.i c.args.names.now.items c.loop-i.names.items (omega (arith, length-static-values c.args.statics.now)) c.loop-i.invariant
+returns c = all-names (λ i. slots.Static i) (values_of_statics (map static_view c.args.statics.now)) c.loop-i.i c.args.names.now.items c.loop-i.names.items
+    (omega (arith, length-static-values c.args.statics.now)) c.loop-i.invariant

@@ -13,12 +13,14 @@ eq-same_slot a b = search rules
 pub returns-then-eq : goal.returns-then-eq
 returns-then-eq c =
     let name = get_or c.args.names.now c.loop-i.i (slots.Field 0) in
-    sym (found-among c.args.names.now c.args.slot c.loop-i.i (slots.Field 0) c.loop-i-test.true c.loop-i.invariant (sym (eq-same_slot name c.args.slot) ∙ sym c.eq.ensures ∙ c.if-eq.true))
+    sym (found-among c.args.names.now c.args.slot c.loop-i.i (slots.Field 0) c.loop-i-test.true c.loop-i.invariant
+    (sym (eq-same_slot name c.args.slot) ∙ sym c.eq.ensures ∙ c.if-eq.true))
 
 pub loop-i-preserved : goal.loop-i-preserved
 loop-i-preserved c =
     let name = get_or c.args.names.now c.loop-i.i (slots.Field 0) in
-    one-more-among c.args.names.now c.args.slot c.loop-i.i (slots.Field 0) c.loop-i-test.true c.loop-i.invariant (sym (eq-same_slot name c.args.slot) ∙ sym c.eq.ensures ∙ c.if-eq.false)
+    one-more-among c.args.names.now c.args.slot c.loop-i.i (slots.Field 0) c.loop-i-test.true c.loop-i.invariant
+    (sym (eq-same_slot name c.args.slot) ∙ sym c.eq.ensures ∙ c.if-eq.false)
 
 pub returns : goal.returns
 returns c = none-among c.args.names.now c.args.slot (omega (arith, c.loop-i.invariant))

@@ -8,5 +8,6 @@ returns c =
     let t = c.args.slot_table.now in
     instance-added [] c.args.class 1 t t c.push.new.self c.end_row.new.self
     c.requires.filled
-    (ap (λ (f : List ℕ). record t { filling = f; count = t.count }) (sym (append-nil t.filling)) ∙ ap (λ (n : ℕ). record t { filling = t.filling ++ []; count = n }) (sym (add-zero t.count)))
+    (ap (λ (f : List ℕ). record t { filling = f; count = t.count }) (sym (append-nil t.filling))
+    ∙ ap (λ (n : ℕ). record t { filling = t.filling ++ []; count = n }) (sym (add-zero t.count)))
     c.in_ok-push.ensures c.in_ok-end_row.ensures (omega arith)

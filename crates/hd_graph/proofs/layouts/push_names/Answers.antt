@@ -14,9 +14,14 @@ loop-i-preserved c =
     let so_far = field_names c.args.first (first_fields c.args.fields.now c.loop-i.i) in
     elim c.if-is_id_type.branch [
       | then-is_id_type+in_ok-push w ↦
-          ap (λ v. v.items) w.names-is ∙ w.in_ok-push.ensures.items ∙ ap (λ (ns : List Slot). ns ++ slots.Field (c.args.first + c.loop-i.i) ∷ []) c.loop-i.invariant ∙ append_assoc old so_far (slots.Field (c.args.first + c.loop-i.i) ∷ [])
-          ∙ ap (λ (ns : List Slot). old ++ ns) (sym (names-more c.args.first c.args.fields.now c.loop-i.i _ c.loop-i-test.true true (sym c.is_id_type.ensures ∙ w.if-is_id_type.true)))
+          ap (λ v. v.items) w.names-is ∙ w.in_ok-push.ensures.items
+          ∙ ap (λ (ns : List Slot). ns ++ slots.Field (c.args.first + c.loop-i.i) ∷ []) c.loop-i.invariant
+          ∙ append_assoc old so_far (slots.Field (c.args.first + c.loop-i.i) ∷ [])
+          ∙ ap (λ (ns : List Slot). old ++ ns)
+          (sym (names-more c.args.first c.args.fields.now c.loop-i.i _ c.loop-i-test.true true (sym c.is_id_type.ensures ∙ w.if-is_id_type.true)))
       | else-is_id_type w ↦
           ap (λ v. v.items) w.names-is ∙ c.loop-i.invariant
-          ∙ ap (λ (ns : List Slot). old ++ ns) (sym (append-nil so_far) ∙ sym (names-more c.args.first c.args.fields.now c.loop-i.i _ c.loop-i-test.true false (sym c.is_id_type.ensures ∙ w.if-is_id_type.false)))
+          ∙ ap (λ (ns : List Slot). old ++ ns)
+          (sym (append-nil so_far)
+          ∙ sym (names-more c.args.first c.args.fields.now c.loop-i.i _ c.loop-i-test.true false (sym c.is_id_type.ensures ∙ w.if-is_id_type.false)))
     ]

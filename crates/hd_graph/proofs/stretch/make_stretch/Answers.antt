@@ -1,3 +1,5 @@
+-- One sub-record after another: it is numbered, and its row and shape are added, so the three columns go on together.
+-- The loop keeps that all are those of the sub-records from `first` on, and that there is room for one more.
 use Rattle.std.proofs.Common.{◌≡◌, ◌+◌, ◌-◌, ◌++◌, [], Some, ◌∙◌, ℕ, ap, sym, subst, refl, arith, rules, length, drop, List}
 use Rattle.std.specs.List.{slice_get, cons_option}
 use Rattle.std.proofs.lemmas.List.{length-take, length-drop}
@@ -28,19 +30,31 @@ loop-i-init c =
     let begun : Tally = record { repeated = 0; opaque = 0 } in
     record {
       from = omega arith;
-      numbered = subst (λ (n : ℕ). IsNumbered known size (stretch first n list) c.in_ok-ids.ids c.new-roots.result.items begun) none (rw (c.in_ok-ids.ensures, c.new-roots.ensures.items) (begin known size));
+      numbered = subst (λ (n : ℕ). IsNumbered known size (stretch first n list) c.in_ok-ids.ids c.new-roots.result.items begun) none
+          (rw (c.in_ok-ids.ensures, c.new-roots.ensures.items) (begin known size));
       so_far = subst (λ (n : ℕ). HasAllRows known c.args.bytes.now size (stretch first n list) c.in_ok-slot_table.slot_table) none
-          (rw c.in_ok-slot_table.ensures (record { bytes_are = refl; size_is = refl; ids_are = search rules; rows_are = refl; filled = refl; few = omega arith }));
+          (rw c.in_ok-slot_table.ensures
+          (record { bytes_are = refl; size_is = refl; ids_are = search rules; rows_are = refl; filled = refl; few = omega arith }));
       shapes = subst (λ (n : ℕ). HasAllShapes known size (stretch first n list) c.in_ok-shapes.shapes.objects) none (rw c.in_ok-shapes.ensures refl);
       made = rw c.in_ok-shapes.ensures (none-made size c.args.classes.now _ c.requires.classes c.len.ensures);
       layouts = c.in_ok-layouts.ensures;
     }
 
 pub add_one-requires-clause-repeated : goal.add_one-requires-clause-repeated
-add_one-requires-clause-repeated c = omega (arith, repeated-le (known_at c.args.classes.now) c.args.id_size (drop c.args.first c.args.list.now) (c.loop-i.i - c.args.first) _ _ _ c.loop-i.invariant.numbered)
+add_one-requires-clause-repeated c =
+    omega (
+      arith,
+      repeated-le (known_at c.args.classes.now) c.args.id_size (drop c.args.first c.args.list.now)
+          (c.loop-i.i - c.args.first) _ _ _ c.loop-i.invariant.numbered,
+    )
 
 pub add_one-requires-clause-opaque : goal.add_one-requires-clause-opaque
-add_one-requires-clause-opaque c = omega (arith, opaque-le (known_at c.args.classes.now) c.args.id_size (drop c.args.first c.args.list.now) (c.loop-i.i - c.args.first) _ _ _ c.loop-i.invariant.numbered)
+add_one-requires-clause-opaque c =
+    omega (
+      arith,
+      opaque-le (known_at c.args.classes.now) c.args.id_size (drop c.args.first c.args.list.now)
+          (c.loop-i.i - c.args.first) _ _ _ c.loop-i.invariant.numbered,
+    )
 
 pub add_one-requires-clause-size : goal.add_one-requires-clause-size
 add_one-requires-clause-size c = ap (λ (l : SizedClasses). l.size) c.loop-i.invariant.layouts ∙ sym c.loop-i.invariant.so_far.size_is
@@ -71,19 +85,23 @@ pub add_one-requires-clause-few : goal.add_one-requires-clause-few
 add_one-requires-clause-few c =
     let list = c.args.list.now in
     let first = c.args.first in
-    let few = few-all-shapes (known_at c.args.classes.now) c.args.id_size (stretch first (c.loop-i.i - first) list) c.loop-i.shapes.objects c.loop-i.invariant.shapes in
+    let few = few-all-shapes (known_at c.args.classes.now) c.args.id_size
+    (stretch first (c.loop-i.i - first) list) c.loop-i.shapes.objects c.loop-i.invariant.shapes in
     omega (arith, few, length-take (c.loop-i.i - first) (drop first list), length-drop first list, length-le-weight list, c.requires.within.few)
 
 pub add_one-requires-clause-classes : goal.add_one-requires-clause-classes
-add_one-requires-clause-classes c = subst (λ (l : SizedClasses). AreLayouts l.size l.classes c.loop-i.shapes.layouts) (sym c.loop-i.invariant.layouts) c.loop-i.invariant.made
+add_one-requires-clause-classes c = subst (λ (l : SizedClasses). AreLayouts l.size l.classes c.loop-i.shapes.layouts)
+    (sym c.loop-i.invariant.layouts) c.loop-i.invariant.made
 
 pub returns-in_err-add_one-clause-err : goal.returns-in_err-add_one-clause-err
 returns-in_err-add_one-clause-err c =
     let list = c.args.list.now in
     let first = c.args.first in
     let p = err_from_is_err_and c.from_residual-in_err-add_one.result c.from_residual-in_err-add_one.ensures.1 in
-    let stops = subst (λ (l : SizedClasses). StopsAt (known_at l.classes) l.size (sub_view c.get-sub.result) c.loop-i.ids c.in_err-add_one.field-0.0) c.loop-i.invariant.layouts c.in_err-add_one.ensures.err in
-    let at : slice_get (drop first list) (c.loop-i.i - first) ≡ Some (sub_view c.get-sub.result) = at-distance list first c.loop-i.i _ c.loop-i.invariant.from (rw c.as_list-subs.ensures at c.get-sub.ensures) in
+    let stops = subst (λ (l : SizedClasses). StopsAt (known_at l.classes) l.size (sub_view c.get-sub.result) c.loop-i.ids c.in_err-add_one.field-0.0)
+    c.loop-i.invariant.layouts c.in_err-add_one.ensures.err in
+    let at : slice_get (drop first list) (c.loop-i.i - first) ≡ Some (sub_view c.get-sub.result) = at-distance list first c.loop-i.i _ c.loop-i.invariant.from
+    (rw c.as_list-subs.ensures at c.get-sub.ensures) in
     rw (p.1, p.2) (lifted (known_at c.args.classes.now) c.args.id_size (drop first list) (c.loop-i.i - first) _ _ _ _ _ at c.loop-i.invariant.numbered stops)
 
 pub loop-i-preserved : goal.loop-i-preserved
@@ -101,8 +119,10 @@ loop-i-preserved c =
     let more_shapes = c.add_one.new.shapes.objects in
     let done = c.in_ok-add_one.ensures in
     let same = c.loop-i.invariant.layouts in
-    let at : slice_get (drop first list) k ≡ Some s = at-distance list first c.loop-i.i _ c.loop-i.invariant.from (rw c.as_list-subs.ensures at c.get-sub.ensures) in
-    let more = subst (λ (l : SizedClasses). NumbersOneMore (known_at l.classes) l.size s c.loop-i.ids c.loop-i.roots.items c.loop-i.tally c.add_one.new.ids c.add_one.new.roots.items c.add_one.new.tally) same done.ok in
+    let at : slice_get (drop first list) k ≡ Some s = at-distance list first c.loop-i.i _ c.loop-i.invariant.from
+    (rw c.as_list-subs.ensures at c.get-sub.ensures) in
+    let more = subst (λ (l : SizedClasses). NumbersOneMore (known_at l.classes) l.size s c.loop-i.ids c.loop-i.roots.items c.loop-i.tally c.add_one.new.ids
+    c.add_one.new.roots.items c.add_one.new.tally) same done.ok in
     let adds = subst (λ (l : SizedClasses). AddsItemRow (known_at l.classes) now.bytes now.size s.item now then) same done.row in
     let shape = subst (λ (l : SizedClasses). more_shapes ≡ shapes ++ cons_option (shape_of_item (known_at l.classes) l.size s.item) []) same done.shape in
     let next : k + 1 ≡ c.loop-i.i + 1 - first = let from = c.loop-i.invariant.from in omega arith in
@@ -122,4 +142,5 @@ pub returns-clause-numbers : goal.returns-clause-numbers
 returns-clause-numbers c =
     let list = c.args.list.now in
     let all : c.loop-i.i ≡ c.args.end = omega (arith, c.loop-i-test.false, c.loop-i.auto.i-end c.requires.there.0) in
-    subst (λ (n : ℕ). IsNumbered (known_at c.args.classes.now) c.args.id_size (stretch c.args.first (n - c.args.first) list) c.loop-i.ids c.loop-i.roots.items c.loop-i.tally) all c.loop-i.invariant.numbered
+    subst (λ (n : ℕ). IsNumbered (known_at c.args.classes.now) c.args.id_size
+    (stretch c.args.first (n - c.args.first) list) c.loop-i.ids c.loop-i.roots.items c.loop-i.tally) all c.loop-i.invariant.numbered

@@ -1,3 +1,5 @@
+-- Each example is a command over a dump, and its reply as bytes.
+-- The strengths that it tells are those of settled supports.
 use Rattle.std.proofs.Common.{◌≡◌, ◌∙◌, ℕ, inr, false, List, [], ◌∷◌, ◌++◌, Ok, codes, lit<, sym, ap, refl, arith}
 use Rattle.std.specs.Prelude.{decimal, false, map}
 use Rattle.std.specs.Fmt.{digits}
@@ -129,7 +131,8 @@ events_text zero one two id =
     )
 
 abbrev roots_text : (zero one id : List ℕ) → List ℕ
-roots_text zero one id = with_newline (codes "ok " ++ one) ++ (with_newline (zero ++ 32 ∷ codes "unknown" ++ 32 ∷ (codes "0x" ++ id) ++ 32 ∷ codes "stands") ++ [])
+roots_text zero one id = with_newline (codes "ok " ++ one) ++ (with_newline (zero ++ 32 ∷ codes "unknown" ++ 32 ∷ (codes "0x" ++ id) ++ 32 ∷ codes "stands")
+    ++ [])
 
 -- the digits of the numbers and the ID that occur
 digits_of_events : events_text (48 ∷ []) (49 ∷ []) (50 ∷ []) (49 ∷ []) ≡ events_text (decimal 0) (decimal 1) (decimal 2) (digits 16 false 1)

@@ -1,3 +1,5 @@
+-- Each example is lines that an analyst gives, and the replies, line by line.
+-- The strengths that they tell are those of settled supports for the log at that line.
 use Rattle.std.proofs.Common.{◌≡◌, ◌∙◌, ℕ, inl, inr, true, false, List, [], ◌∷◌, ◌++◌, ◌+◌, ◌<◌, Some, None, take, codes, lit<, sym, ap, refl, append-nil}
 use Rattle.std.specs.Prelude.{decimal}
 use Rattle.std.proofs.lemmas.Fmt.{decimal_digit}
@@ -31,7 +33,8 @@ first = (record { strength = strengths.Strong; support = supports.Root 0; stamp 
 
 -- `ok 1` and `event E fell F back B`, by the digits of the four numbers
 abbrev text : (one event fell back : List ℕ) → List ℕ
-text one event fell back = with_newline (codes "ok " ++ one) ++ (with_newline (codes "event " ++ event ++ codes " fell " ++ fell ++ codes " back " ++ back) ++ [])
+text one event fell back = with_newline (codes "ok " ++ one)
+    ++ (with_newline (codes "event " ++ event ++ codes " fell " ++ fell ++ codes " back " ++ back) ++ [])
 
 -- numbers of one digit are that digit
 spelled : (e f b : ℕ) → e < 10 → f < 10 → b < 10 → answered (event_line e f b ∷ []) ≡ text (49 ∷ []) ((48 + e) ∷ []) ((48 + f) ∷ []) ((48 + b) ∷ [])
@@ -42,15 +45,18 @@ spelled e f b le lf lb =
     ∙ ap (λ (back : List ℕ). text (49 ∷ []) ((48 + e) ∷ []) ((48 + f) ∷ []) back) (decimal_digit b lb)
 
 -- `m` events of the log are a lawful log with the same events of an analyst
-later : (who n m : ℕ) (more : List Event) → session_examples.first_cuts m ≡ session_examples.first_cuts n ++ more → own who (session_examples.first_cuts m) ≡ own who (session_examples.first_cuts n) → IsLawful (session_examples.first_cuts m)
+later : (who n m : ℕ) (more : List Event) → session_examples.first_cuts m ≡ session_examples.first_cuts n ++ more
+    → own who (session_examples.first_cuts m) ≡ own who (session_examples.first_cuts n) → IsLawful (session_examples.first_cuts m)
     → IsLater who (session_examples.first_cuts n) (session_examples.first_cuts m)
 later who n m more begins same is = record { more = more; begins = begins; same_own = same; lawful = is }
 
-refreshed : (who n m : ℕ) → IsLater who (session_examples.first_cuts n) (session_examples.first_cuts m) → IsRefreshed who (at_log (beginning false [] []) (session_examples.first_cuts n)) (at_log (beginning false [] []) (session_examples.first_cuts m))
+refreshed : (who n m : ℕ) → IsLater who (session_examples.first_cuts n) (session_examples.first_cuts m)
+    → IsRefreshed who (at_log (beginning false [] []) (session_examples.first_cuts n)) (at_log (beginning false [] []) (session_examples.first_cuts m))
 refreshed who n m is = record { later = is; same = refl }
 
 -- nothing came meanwhile
-none : (who n : ℕ) → session_examples.first_cuts n ≡ session_examples.first_cuts n ++ [] → IsLawful (session_examples.first_cuts n) → IsLater who (session_examples.first_cuts n) (session_examples.first_cuts n)
+none : (who n : ℕ) → session_examples.first_cuts n ≡ session_examples.first_cuts n ++ [] → IsLawful (session_examples.first_cuts n)
+    → IsLater who (session_examples.first_cuts n) (session_examples.first_cuts n)
 none who n begins is = later who n n [] begins refl is
 
 lawful_0 : IsLawful (session_examples.first_cuts 0)
@@ -72,7 +78,8 @@ abbrev cut_1 : Event
 cut_1 = examples.does 1 (examples.cut 0)
 
 -- what the two cuts and their undos are answered
-first_cut : RepliesDone examples.two_arrays (session_examples.first_cuts 0) (session_examples.first_cuts 1) (codes "ok 1" ++ 10 ∷ codes "event 0 fell 1 back 0" ++ 10 ∷ [])
+first_cut : RepliesDone examples.two_arrays (session_examples.first_cuts 0) (session_examples.first_cuts 1) (codes "ok 1" ++ 10 ∷ codes "event 0 fell 1 back 0"
+    ++ 10 ∷ [])
 first_cut = record {
   fell = 1;
   back = 0;
@@ -81,7 +88,8 @@ first_cut = record {
   reply_is = sym (spelled 0 1 0 (lit< tt) (lit< tt) (lit< tt));
 }
 
-second_cut : RepliesDone examples.two_arrays (session_examples.first_cuts 1) (session_examples.first_cuts 2) (codes "ok 1" ++ 10 ∷ codes "event 1 fell 0 back 0" ++ 10 ∷ [])
+second_cut : RepliesDone examples.two_arrays (session_examples.first_cuts 1) (session_examples.first_cuts 2) (codes "ok 1" ++ 10 ∷ codes "event 1 fell 0 back 0"
+    ++ 10 ∷ [])
 second_cut = record {
   fell = 0;
   back = 0;
@@ -90,7 +98,8 @@ second_cut = record {
   reply_is = sym (spelled 1 0 0 (lit< tt) (lit< tt) (lit< tt));
 }
 
-first_undo : RepliesDone examples.two_arrays (session_examples.first_cuts 2) (session_examples.first_cuts 3) (codes "ok 1" ++ 10 ∷ codes "event 2 fell 0 back 0" ++ 10 ∷ [])
+first_undo : RepliesDone examples.two_arrays (session_examples.first_cuts 2) (session_examples.first_cuts 3) (codes "ok 1" ++ 10 ∷ codes "event 2 fell 0 back 0"
+    ++ 10 ∷ [])
 first_undo = record {
   fell = 0;
   back = 0;
@@ -99,7 +108,8 @@ first_undo = record {
   reply_is = sym (spelled 2 0 0 (lit< tt) (lit< tt) (lit< tt));
 }
 
-second_undo : RepliesDone examples.two_arrays (session_examples.first_cuts 3) (session_examples.first_cuts 4) (codes "ok 1" ++ 10 ∷ codes "event 3 fell 0 back 1" ++ 10 ∷ [])
+second_undo : RepliesDone examples.two_arrays (session_examples.first_cuts 3) (session_examples.first_cuts 4)
+    (codes "ok 1" ++ 10 ∷ codes "event 3 fell 0 back 1" ++ 10 ∷ [])
 second_undo = record {
   fell = 0;
   back = 1;
@@ -151,7 +161,8 @@ pub returns-clause-behind : goal.returns-clause-behind
 returns-clause-behind c = (
   refreshed 0 0 0 (none 0 0 refl lawful_0),
   none 0 0 refl lawful_0,
-  sessions.unfinished (commands.Edit (examples.cut 0)) (whats.Do (examples.cut 0)) refl refl refl (sym (ap (λ (digits : List ℕ). with_newline (codes "no Accepted " ++ digits)) (decimal_digit 0 (lit< tt)))) refl,
+  sessions.unfinished (commands.Edit (examples.cut 0)) (whats.Do (examples.cut 0)) refl refl refl
+      (sym (ap (λ (digits : List ℕ). with_newline (codes "no Accepted " ++ digits)) (decimal_digit 0 (lit< tt)))) refl,
   (
     refreshed 0 1 1 (none 0 1 refl lawful_1),
     none 0 1 refl lawful_1,
@@ -167,7 +178,13 @@ returns-clause-behind c = (
 
 -- the cut of a private part's home, and its undo
 lawful_cut : (n : ℕ) → is_lawful (take n examples.cut_and_undo) ≡ true → IsLater 0 (take n examples.cut_and_undo) (take n examples.cut_and_undo)
-lawful_cut n is = record { more = []; begins = sym (append-nil (take n examples.cut_and_undo)); same_own = refl; lawful = lawful (take n examples.cut_and_undo) is }
+lawful_cut n is = record {
+  more = [];
+  begins = sym (append-nil (take n examples.cut_and_undo));
+  same_own = refl;
+  lawful =
+      lawful (take n examples.cut_and_undo) is;
+}
 
 cut_done : RepliesDone examples.two_arrays [] (take 1 examples.cut_and_undo) (codes "ok 1" ++ 10 ∷ codes "event 0 fell 1 back 0" ++ 10 ∷ [])
 cut_done = first_cut

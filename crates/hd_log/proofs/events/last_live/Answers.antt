@@ -6,5 +6,7 @@ use Rattle.hd_log.proofs.events.last_live.Goals.{in-Some, in_default}
 pub loop-k-preserved : goal.loop-k-preserved
 loop-k-preserved c = elim c.match-own_live.branch [
   | in-Some w ↦ w.last-is ∙ own_seen c.args.events.now c.args.who c.loop-k.k w.in-Some.own c.own_live.result c.loop-k-test.true c.own_live.ensures w.in-Some.is
-  | in_default w ↦ w.last-is ∙ other_seen c.args.events.now c.args.who c.loop-k.k c.loop-k.last c.own_live.result c.loop-k-test.true c.own_live.ensures w.in_default.is c.loop-k.invariant
+  | in_default w ↦ w.last-is
+      ∙ other_seen c.args.events.now c.args.who c.loop-k.k c.loop-k.last c.own_live.result c.loop-k-test.true c.own_live.ensures w.in_default.is
+      c.loop-k.invariant
 ]

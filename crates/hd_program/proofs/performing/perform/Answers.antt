@@ -10,4 +10,11 @@ returns-in-Ok-clause-performs g c =
     let before = g.W.Write.contents c.args.output.now in
     let after = g.W.Write.contents c.stat_bytes-ended.new.output in
     subst (λ (task : Task). Performs task unread unread before after c.report.result) (sym c.in-Stat.is)
-    (inl (record { bytes = c.in-Ok.bytes.items; ended = c.stat_bytes-ended.result; stats = c.stat_bytes-ended.ensures; unread = search rules; exit_is = c.report.ensures.status }))
+    (inl (record {
+      bytes = c.in-Ok.bytes.items;
+      ended = c.stat_bytes-ended.result;
+      stats = c.stat_bytes-ended.ensures;
+      unread = search rules;
+      exit_is =
+          c.report.ensures.status;
+    }))

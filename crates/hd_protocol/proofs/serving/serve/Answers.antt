@@ -31,4 +31,6 @@ returns-in_err-_board g c =
 
 pub returns : goal.returns
 returns g c =
-    served_desk c.args.board.now c.args.names c.args.desk.now c.begin-analyst.result c.run_all-ended.new.service.analyst c.leave.result _ _ _ _ c.run_all-ended.result (c.begin-analyst.ensures ∙ ap (work_begun c.args.board.now c.args.names) c.replace.ensures.value) c.run_all-ended.ensures c.leave.ensures.who c.leave.ensures.dump c.leave.ensures.seen
+    served_desk c.args.board.now c.args.names c.args.desk.now c.begin-analyst.result c.run_all-ended.new.service.analyst c.leave.result _ _ _ _
+    c.run_all-ended.result (c.begin-analyst.ensures ∙ ap (work_begun c.args.board.now c.args.names) c.replace.ensures.value) c.run_all-ended.ensures
+    c.leave.ensures.who c.leave.ensures.dump c.leave.ensures.seen

@@ -1,3 +1,5 @@
+-- The chain is followed back by supports: each is a standing edge, and the way to the root gets shorter (`next-nearer`).
+-- At a root the links, turned round, are a root path of the object's strength (`whole-chain`).
 use Rattle.std.proofs.Common.{◌∙◌, ◌++◌, ◌∷◌, [], List, ap, refl, subst, sym}
 use Rattle.hd_queries.specs.declared.chain.Link.{Link}
 use Rattle.hd_queries.proofs.ChainLemmas.{IsFollowed, begun, followed, is-next, never-nothing, next, next-nearer, next-stands, whole-chain}
@@ -13,7 +15,8 @@ loop-source-init c =
 
 pub loop-source-smaller : goal.loop-source-smaller
 loop-source-smaller c =
-    next-nearer c.args.solved.graph.now c.args.solved.front.now c.args.solved.strengths.now c.args.o c.loop-source.at c.loop-source.links.items c.loop-source.invariant c.in-Edge.source c.in-Edge.slot (sym c.support.ensures ∙ c.in-Edge.is) c.requires.kept.settled
+    next-nearer c.args.solved.graph.now c.args.solved.front.now c.args.solved.strengths.now c.args.o c.loop-source.at c.loop-source.links.items
+    c.loop-source.invariant c.in-Edge.source c.in-Edge.slot (sym c.support.ensures ∙ c.in-Edge.is) c.requires.kept.settled
 
 pub loop-source-preserved : goal.loop-source-preserved
 loop-source-preserved c =
@@ -31,9 +34,12 @@ loop-source-preserved c =
 
 pub returns-in-Root : goal.returns-in-Root
 returns-in-Root c =
-    whole-chain c.args.solved.graph.now c.args.solved.front.now c.args.solved.strengths.now c.args.o c.loop-source.at c.loop-source.links.items c.loop-source.invariant c.in-Root.root (sym c.support.ensures ∙ c.in-Root.is)
-    c.settled_supports_give_strengths.ensures.strengths c.requires.kept.settled (record { root = c.in-Root.root; start = c.loop-source.at; links = c.reverse.new.self }) refl refl c.reverse.ensures.items
+    whole-chain c.args.solved.graph.now c.args.solved.front.now c.args.solved.strengths.now c.args.o c.loop-source.at c.loop-source.links.items
+    c.loop-source.invariant c.in-Root.root (sym c.support.ensures ∙ c.in-Root.is)
+    c.settled_supports_give_strengths.ensures.strengths c.requires.kept.settled
+    (record { root = c.in-Root.root; start = c.loop-source.at; links = c.reverse.new.self }) refl refl c.reverse.ensures.items
 
 pub unreachable-requires : goal.unreachable-requires
 unreachable-requires c =
-    never-nothing c.args.solved.graph.now c.args.solved.front.now c.args.solved.strengths.now c.args.o c.loop-source.at c.loop-source.links.items c.loop-source.invariant (sym c.support.ensures ∙ c.in-Nothing.is)
+    never-nothing c.args.solved.graph.now c.args.solved.front.now c.args.solved.strengths.now c.args.o c.loop-source.at c.loop-source.links.items
+    c.loop-source.invariant (sym c.support.ensures ∙ c.in-Nothing.is)

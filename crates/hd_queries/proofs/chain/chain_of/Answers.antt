@@ -23,6 +23,7 @@ returns-then-o-len c =
     elim c.then-o-len.branch [
       | then-o-len-via-then-o-len w ↦ past-unreachable gives g ks c.requires.settled o (omega (arith, w.if-o-len.true, c.len.ensures))
       | then-o-len-via-else-o-len+then-eq w ↦
-          let none : w.strength.result ≡ strengths.Unreachable = unreachable-true w.strength.result (sym (eq-unreachable w.strength.result) ∙ sym w.eq.ensures ∙ w.if-eq.true) in
+          let none : w.strength.result ≡ strengths.Unreachable =
+          unreachable-true w.strength.result (sym (eq-unreachable w.strength.result) ∙ sym w.eq.ensures ∙ w.if-eq.true) in
           subst (λ (s : Strength). HasStrength g o s) (sym w.strength.ensures ∙ none) (gives g ks c.requires.settled o)
     ]

@@ -12,5 +12,6 @@ returns-clause-same c o quiet =
     let was = c.args.earlier.last_changes.now in
     let are : AreLastChanges dump before ks was = subst (λ (d : Dump). AreLastChanges d before ks was) c.requires.one_dump c.requires.changes_earlier in
     let common = c.common_events-common.ensures in
-    same-since c.one_strength.ensures dump before c.args.later.front.now ks c.args.later.strengths.now was c.args.later.last_changes.now c.common_events-common.result
+    same-since c.one_strength.ensures dump before c.args.later.front.now ks c.args.later.strengths.now was c.args.later.last_changes.now
+    c.common_events-common.result
     are c.requires.changes_later common.within_earlier common.within_later common.same o quiet.0 quiet.1

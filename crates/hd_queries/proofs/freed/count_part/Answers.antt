@@ -1,3 +1,5 @@
+-- One object or one quiet page after another: a page that didn't change has none that fell (`same-not-falls`).
+-- Each object that fell counts once, in the total and in its group.
 use Rattle.std.proofs.Common.{ℕ, ◌+◌, ◌/◌, ◌-◌, ◌%◌, ◌<◌, ◌≤◌, ◌≡◌, false, refl, sym, subst, arith}
 use Rattle.hd_totals.specs.Counting.{totals_of}
 use Rattle.hd_totals.specs.Fallen.{falls_from}
@@ -12,7 +14,8 @@ pub loop-o-init : goal.loop-o-init
 loop-o-init c = record {
   from = omega arith;
   within = omega arith;
-  counted = none-freed c.args.graph.now (falls_from c.args.compared.earlier.strengths.now c.args.compared.later.strengths.now) c.args.start c.none.result (totals_of c.none-2.result) c.none.ensures c.none-2.ensures;
+  counted = none-freed c.args.graph.now (falls_from c.args.compared.earlier.strengths.now c.args.compared.later.strengths.now) c.args.start c.none.result
+      (totals_of c.none-2.result) c.none.ensures c.none-2.ensures;
 }
 
 pub loop-o-preserved-then-is_quiet : goal.loop-o-preserved-then-is_quiet
@@ -28,18 +31,21 @@ loop-o-preserved-then-is_quiet c =
     record {
       from = omega (arith, c.min-o.ensures);
       within = omega (arith, c.min-o.ensures);
-      counted = quiet-freed c.args.graph.now (falls_from ks ls) c.args.start o end c.loop-o.part.total (totals_of c.loop-o.part.groups) (omega arith) none c.loop-o.invariant.counted;
+      counted = quiet-freed c.args.graph.now (falls_from ks ls) c.args.start o end c.loop-o.part.total (totals_of c.loop-o.part.groups)
+          (omega arith) none c.loop-o.invariant.counted;
     }
 
 pub count_object-requires-clause-room : goal.count_object-requires-clause-room
 count_object-requires-clause-room c =
-    room-for-more c.args.graph.now (falls_from c.args.compared.earlier.strengths.now c.args.compared.later.strengths.now) c.args.start c.loop-o.o c.loop-o.part.total (totals_of c.loop-o.part.groups) c.loop-o.invariant.counted (omega arith)
+    room-for-more c.args.graph.now (falls_from c.args.compared.earlier.strengths.now c.args.compared.later.strengths.now) c.args.start c.loop-o.o
+    c.loop-o.part.total (totals_of c.loop-o.part.groups) c.loop-o.invariant.counted (omega arith)
 
 pub loop-o-preserved : goal.loop-o-preserved
 loop-o-preserved c = record {
   from = omega arith;
   within = omega arith;
-  counted = freed-with c.args.graph.now (falls_from c.args.compared.earlier.strengths.now c.args.compared.later.strengths.now) c.args.start c.loop-o.o c.loop-o.part.total c.count_object.new.part.total
+  counted = freed-with c.args.graph.now (falls_from c.args.compared.earlier.strengths.now c.args.compared.later.strengths.now) c.args.start c.loop-o.o
+      c.loop-o.part.total c.count_object.new.part.total
       (totals_of c.loop-o.part.groups) (totals_of c.count_object.new.part.groups) c.loop-o.invariant.counted c.in_ok-count_object.ensures;
 }
 

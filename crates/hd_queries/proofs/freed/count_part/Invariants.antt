@@ -9,7 +9,8 @@ abbrev pub invariant-loop-o : goal.invariant-loop-o
 invariant-loop-o l = record {
   from : l.start ≤ l.o;
   within : l.o ≤ l.end;
-  counted : AreFreedBetween l.graph (falls_from l.compared.earlier.strengths.now l.compared.later.strengths.now) l.start l.o l.part.total (totals_of l.part.groups);
+  counted : AreFreedBetween l.graph (falls_from l.compared.earlier.strengths.now l.compared.later.strengths.now) l.start l.o l.part.total
+      (totals_of l.part.groups);
 }
 
 abbrev pub decreases-loop-o : goal.decreases-loop-o

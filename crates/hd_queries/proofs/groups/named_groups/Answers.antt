@@ -16,7 +16,8 @@ loop-place-preserved c = λ ks totals.
     let rows = c.in_ok-rows.rows.items in
     subst (AreGroupsAbove dump ks (place + 1))
     (sym (c.in_ok-push_groups.ensures ∙ ap (λ (more : List ClassRow). gs ++ map row_group more) c.as_slice.ensures.value))
-    (more-above dump ks c.strength_at.result rows place c.strength_at.ensures (c.in_ok-rows.ensures.members dump ks totals) gs (c.loop-place.invariant ks totals))
+    (more-above dump ks c.strength_at.result rows place c.strength_at.ensures (c.in_ok-rows.ensures.members dump ks totals) gs
+    (c.loop-place.invariant ks totals))
 
 pub returns : goal.returns
 returns c =

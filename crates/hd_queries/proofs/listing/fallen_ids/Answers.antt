@@ -22,7 +22,13 @@ returns c =
     let after = c.args.later.front.now in
     let ks = c.args.earlier.strengths.now in
     let ls = c.args.later.strengths.now in
-    let settled : Settled (standing dump before) ks = subst (λ (d : Dump). Settled (standing d before) ks) c.requires.one_dump c.requires.kept_earlier.settled in
-    let decides = decides-falls c.settled_supports_give_strengths.ensures.strengths c.one_strength.ensures dump before after ks ls settled c.requires.kept_later.settled in
-    let found = c.in_ok-ids.ensures in
-    (found.0, all-ids dump (falls_from ks ls) (Falls dump before after) found.0 decides (rw (c.compare.ensures.earlier, c.compare.ensures.later) at found.1.0) found.1.1, found.2)
+    let settled : Settled (standing dump before) ks =
+    subst (λ (d : Dump). Settled (standing d before) ks) c.requires.one_dump c.requires.kept_earlier.settled in
+    let decides = decides-falls c.settled_supports_give_strengths.ensures.strengths c.one_strength.ensures dump before after ks ls settled
+    c.requires.kept_later.settled in
+    let found = c.in_ok-ids.ensures in (
+      found.0,
+      all-ids dump (falls_from ks ls) (Falls dump before after) found.0 decides
+          (rw (c.compare.ensures.earlier, c.compare.ensures.later) at found.1.0) found.1.1,
+      found.2,
+    )

@@ -1,3 +1,5 @@
+-- One object or one page after another: what is left out is not listed, or its ID comes behind `most` that are.
+-- So what is kept are the first IDs of all that are listed.
 use Rattle.std.proofs.Common.{◌≡◌, ◌∙◌, ℕ, ◌+◌, ◌-◌, ◌/◌, ◌%◌, ◌≤◌, length, sym, ap, subst, arith, true≢false}
 use Rattle.hd_terms.specs.Dump.{object_at}
 use Rattle.hd_queries.specs.Listed.{is_listed, least_of, AreGatheredBefore, IsQuiet}

@@ -9,7 +9,8 @@ ids_of-requires-clause-quiet c =
     let dump = c.args.solved.graph.now in
     let pages = c.args.members.pages.now in
     record {
-      none = λ o lt quiet. unmarked-not-member dump c.args.solved.strengths.now pages c.args.members.group c.args.members.strength o (c.requires.noted o lt) quiet;
+      none = λ o lt quiet. unmarked-not-member dump c.args.solved.strengths.now pages c.args.members.group c.args.members.strength o
+          (c.requires.noted o lt) quiet;
       above = λ o lt. (c.requires.noted o lt).above;
     }
 

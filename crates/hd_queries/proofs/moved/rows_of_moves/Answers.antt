@@ -16,8 +16,11 @@ loop-place-preserved c =
       | then-total-gt0+in_ok-push w ↦
           let row : MovedRow = record { before = c.strength_at-before.result; after = c.strength_at-after.result; count = total.count; bytes = total.bytes } in
           let is : c.if-total-gt0.rows.items ≡ c.loop-place.rows.items ++ row ∷ [] = ap (λ v. v.items) w.rows-is ∙ w.in_ok-push.ensures.items in
-          subst (λ (rows : List MovedRow). AreMoveRows totals (place + 1) rows) (sym is) (move-with totals place c.loop-place.rows.items c.loop-place.invariant row c.strength_at-before.ensures c.strength_at-after.ensures refl refl (omega (arith, w.if-total-gt0.true)))
+          subst (λ (rows : List MovedRow). AreMoveRows totals (place + 1) rows) (sym is)
+          (move-with totals place c.loop-place.rows.items c.loop-place.invariant row c.strength_at-before.ensures c.strength_at-after.ensures refl refl
+          (omega (arith, w.if-total-gt0.true)))
       | else-total-gt0 w ↦
           let is : c.if-total-gt0.rows.items ≡ c.loop-place.rows.items = ap (λ v. v.items) w.rows-is in
-          subst (λ (rows : List MovedRow). AreMoveRows totals (place + 1) rows) (sym is) (move-without totals place c.loop-place.rows.items c.loop-place.invariant (omega (arith, w.if-total-gt0.false)))
+          subst (λ (rows : List MovedRow). AreMoveRows totals (place + 1) rows) (sym is)
+          (move-without totals place c.loop-place.rows.items c.loop-place.invariant (omega (arith, w.if-total-gt0.false)))
     ]

@@ -13,4 +13,5 @@ loop-r-preserved c =
     let none : Root = record { kind = kinds.Unknown; id = 0 } in
     let root : Root = get_or dump.roots r none in
     let at : slice_get dump.roots r ≡ Some root = slice_get-get_or dump.roots r none lt in
-    dump-pushed dump c.args.edited.front.now r root c.loop-r.rows.items c.push.new.self.items c.dump_row.result at c.loop-r.invariant (c.dump_row.ensures root at) c.in_ok-push.ensures.items
+    dump-pushed dump c.args.edited.front.now r root c.loop-r.rows.items c.push.new.self.items c.dump_row.result at c.loop-r.invariant
+    (c.dump_row.ensures root at) c.in_ok-push.ensures.items

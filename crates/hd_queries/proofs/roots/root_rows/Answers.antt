@@ -14,9 +14,11 @@ loop-k-preserved c =
     let rows : List RootRow = c.loop-k.rows.items in
     let more = event-pushed dump log k c.added_row.result rows c.match-added_row.rows.items lt c.added_row.ensures c.loop-k.invariant in
     elim c.match-added_row.branch [
-      | in-Some+in_ok-push w ↦ more (ap (λ v. v.items) w.rows-is ∙ w.in_ok-push.ensures.items ∙ ap (λ (o : Option RootRow). rows ++ cons_option o []) (sym w.in-Some.is))
+      | in-Some+in_ok-push w ↦
+          more (ap (λ v. v.items) w.rows-is ∙ w.in_ok-push.ensures.items ∙ ap (λ (o : Option RootRow). rows ++ cons_option o []) (sym w.in-Some.is))
       | in_default w ↦ more (ap (λ v. v.items) w.rows-is ∙ sym (append-nil rows) ∙ ap (λ (o : Option RootRow). rows ++ cons_option o []) (sym w.in_default.is))
     ]
 
 pub returns : goal.returns
-returns c = c.loop-k.invariant ∙ all-rows c.args.edited.graph.now c.args.edited.front.now c.loop-k.k (omega (arith, c.len-k-end.ensures.len, c.loop-k-test.false))
+returns c = c.loop-k.invariant ∙ all-rows c.args.edited.graph.now c.args.edited.front.now c.loop-k.k
+    (omega (arith, c.len-k-end.ensures.len, c.loop-k-test.false))

@@ -4,4 +4,5 @@ use Rattle.hd_queries.proofs.TotalLemmas.{both-counted}
 use Rattle.hd_queries.proofs.totals.+shares.Goals as goal
 
 pub returns : goal.returns
-returns g t c = both-counted c.args.graph.now (map only_strength c.args.strengths.now) c.args.start _ c.args.end _ _ c.join.ensures.first c.join.ensures.second c.sum.result c.sum.ensures
+returns g t c = both-counted c.args.graph.now (map only_strength c.args.strengths.now) c.args.start _ c.args.end _ _ c.join.ensures.first c.join.ensures.second
+    c.sum.result c.sum.ensures

@@ -19,5 +19,7 @@ loop-o-preserved c =
     let within : c.loop-o.o < length dump.objects = omega arith in
     let small = subst (λ (n : ℕ). n ≤ largest_file) c.bytes_of.ensures.bytes c.bytes_of.ensures.small in
     let is : c.add.new.self ≡ plus_one old (reached_at ks c.loop-o.o).strength (object_at dump c.loop-o.o).bytes =
-    c.add.ensures ∙ ap (λ (s : Strength). plus_one old s c.bytes_of.result) (sym (only-at ss c.loop-o.o _ (omega (arith, c.requires.count)))) ∙ ap (λ (n : ℕ). plus_one old (reached_at ks c.loop-o.o).strength n) c.bytes_of.ensures.bytes in
-    subst (λ (totals : StrengthTotals). AreCounted dump ks c.args.start (c.loop-o.o + 1) totals) (sym is) (one-more-counted dump ks c.args.start c.loop-o.o old c.loop-o.invariant within small)
+    c.add.ensures ∙ ap (λ (s : Strength). plus_one old s c.bytes_of.result) (sym (only-at ss c.loop-o.o _ (omega (arith, c.requires.count))))
+    ∙ ap (λ (n : ℕ). plus_one old (reached_at ks c.loop-o.o).strength n) c.bytes_of.ensures.bytes in
+    subst (λ (totals : StrengthTotals). AreCounted dump ks c.args.start (c.loop-o.o + 1) totals) (sym is)
+    (one-more-counted dump ks c.args.start c.loop-o.o old c.loop-o.invariant within small)

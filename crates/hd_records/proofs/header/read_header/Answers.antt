@@ -1,3 +1,5 @@
+-- One check after another, in the order of the definition: each early return is the fault of one of them,
+-- and no check before it failed.
 use Rattle.std.proofs.Common.{◌≡◌, ◌≤◌, true, false, List, ℕ, length, inl, inr, refl, sym, ◌∙◌, arith}
 use Rattle.std.proofs.lemmas.Bool.{cases_lt}
 use Rattle.std.proofs.lemmas.Result.{err_from_is_err_and}
@@ -45,4 +47,5 @@ returns-in-8-clause-ok c = record {
 pub returns-in_default-clause-err : goal.returns-in_default-clause-err
 returns-in_default-clause-err c =
     other_id_size (c.in_ok-check_size.ensures.ok.0 refl) c.if-bytes-lt-HEADER_LEN.false (sym c.has_magic.ensures ∙ c.if-not-has_magic.false)
-    (λ e. let is : c.number_at.result ≡ 4 = c.number_at.ensures ∙ e in absurd (omega arith)) (λ e. let is : c.number_at.result ≡ 8 = c.number_at.ensures ∙ e in absurd (omega arith))
+    (λ e. let is : c.number_at.result ≡ 4 = c.number_at.ensures ∙ e in absurd (omega arith)) (λ e. let is : c.number_at.result ≡ 8 = c.number_at.ensures ∙ e in
+    absurd (omega arith))

@@ -12,7 +12,13 @@ loop-i-preserved g c =
       same = c.root-mark.ensures.same ∙ c.loop-i.invariant.same;
       looks = omega (arith, c.root-mark.ensures.counted, c.loop-i.invariant.looks);
       best = elim c.if-mark.branch [
-        | then-mark w ↦ rw w.best-is (root_stands (rows c.args.edges.now) (rows c.loop-i.edges) c.loop-i.invariant.same (g.met.E.Edges.lawful c.loop-i.edges) c.args.kept.now c.args.o c.loop-i.i (marked_root c.root-mark.result) lt c.root-mark.ensures.value c.loop-i.best c.loop-i.invariant.best w.if-mark.true)
-        | else-mark w ↦ rw w.best-is (root_falls (rows c.args.edges.now) (rows c.loop-i.edges) c.loop-i.invariant.same (g.met.E.Edges.lawful c.loop-i.edges) c.args.kept.now c.args.o c.loop-i.i (marked_root c.root-mark.result) lt c.root-mark.ensures.value c.loop-i.best c.loop-i.invariant.best w.if-mark.false)
+        | then-mark w ↦ rw w.best-is
+            (root_stands (rows c.args.edges.now) (rows c.loop-i.edges) c.loop-i.invariant.same
+            (g.met.E.Edges.lawful c.loop-i.edges) c.args.kept.now c.args.o c.loop-i.i
+            (marked_root c.root-mark.result) lt c.root-mark.ensures.value c.loop-i.best c.loop-i.invariant.best w.if-mark.true)
+        | else-mark w ↦ rw w.best-is
+            (root_falls (rows c.args.edges.now) (rows c.loop-i.edges) c.loop-i.invariant.same
+            (g.met.E.Edges.lawful c.loop-i.edges) c.args.kept.now c.args.o c.loop-i.i
+            (marked_root c.root-mark.result) lt c.root-mark.ensures.value c.loop-i.best c.loop-i.invariant.best w.if-mark.false)
       ];
     }

@@ -23,8 +23,10 @@ loop-o-preserved g c =
         | inl before ↦ c.loop-o.invariant.targets x before
         | inr here ↦ rw (here, best.target) (c.requires.objects i 0 lt)
       ];
-      spreading = one_more r laws c.args.kept.now (drop i xs) (drop (i + 1) xs) o (λ t. from_place xs i 0 t lt) c.loop-o.offers c.loop-o.invariant.spreading c.best_offer-offer.result best c.push.new.self c.in_ok-push.ensures;
+      spreading = one_more r laws c.args.kept.now (drop i xs) (drop (i + 1) xs) o
+          (λ t. from_place xs i 0 t lt) c.loop-o.offers c.loop-o.invariant.spreading c.best_offer-offer.result best c.push.new.self c.in_ok-push.ensures;
     }
 
 pub returns-clause-spreading : goal.returns-clause-spreading
-returns-clause-spreading g c = none_to_do (g.E.Edges.rows c.args.edges.now).standing c.args.kept.now c.loop-o.offers (drop c.loop-o.o-index c.args.objects.now) (λ x. past_end c.args.objects.now c.loop-o.o-index x c.loop-o-test.false) c.loop-o.invariant.spreading
+returns-clause-spreading g c = none_to_do (g.E.Edges.rows c.args.edges.now).standing c.args.kept.now c.loop-o.offers (drop c.loop-o.o-index c.args.objects.now)
+    (λ x. past_end c.args.objects.now c.loop-o.o-index x c.loop-o-test.false) c.loop-o.invariant.spreading

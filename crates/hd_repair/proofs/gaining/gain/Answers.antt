@@ -1,3 +1,5 @@
+-- The targets of what was gained are all that may lack something (`begin_gain`): each has its best offer,
+-- and spreading settles the rest. Looks are those of the targets and of what became stronger.
 use Rattle.std.proofs.Common.{◌≡◌, ◌+◌, ◌<◌, length, get_or, ap, arith}
 use Rattle.std.proofs.lemmas.List.Elements.{All-contains, Contains-get_or}
 use Rattle.hd_terms.specs.Regions.{Holding, as_target, by_change}

@@ -1,3 +1,5 @@
+-- One target after another: its best offer gives more and is spread later, or the same from an earlier source,
+-- and becomes its support at once (`none_resupported` to begin with).
 use Rattle.std.proofs.Common.{◌≡◌, ◌∙◌, ◌+◌, ◌<◌, ℕ, List, length, get_or, drop, refl, subst, arith}
 use Rattle.std.proofs.lemmas.List.{take_all}
 use Rattle.std.proofs.lemmas.List.Sums.{sum_by_more}

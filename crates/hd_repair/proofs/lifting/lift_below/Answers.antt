@@ -1,3 +1,5 @@
+-- One lifted object after another, and one of its edges after another: what an edge supports too early is lifted above it.
+-- What is late are the objects yet to come, so with none left sources come before what they support.
 use Rattle.std.proofs.Common.{◌≡◌, ◌∙◌, ◌<◌, ◌≤◌, List, Contains, length, take, get_or, sum_by, ap, subst, sym, refl, arith}
 use Rattle.std.proofs.lemmas.List.{take_all}
 use Rattle.std.proofs.lemmas.List.Sums.{sum_by_more}

@@ -1,3 +1,5 @@
+-- One object of the region after another: where its rank differs it is a change.
+-- So the changes are those of the objects so far (`AreChangesAmong`).
 use Rattle.std.proofs.Common.{◌≡◌, ◌∙◌, ℕ, ◌<◌, List, length, take, get_or, ap, subst, sym, arith}
 use Rattle.std.proofs.lemmas.List.{take_all, get_or-map}
 use Rattle.hd_terms.specs.declared.Strength.{Strength}

@@ -1,3 +1,5 @@
+-- With nothing waiting, what was detached alone lacks a support that it might have (`end_losing`), and spreading gives it.
+-- Looks, changes and stamps are those of the two halves together; all lies in the region of the loss.
 use Rattle.std.proofs.Common.{◌≡◌, ◌∙◌, ◌≤◌, length, get_or, arith}
 use Rattle.std.proofs.lemmas.List.Elements.{Contains-get_or}
 use Rattle.hd_repair.specs.Losing.{progress_of, is_gone, is_lifted}

@@ -1,3 +1,5 @@
+-- The object has its new support. Either its stamp is late enough already (`rehung_early`), or it is lifted first,
+-- and `lift_below` lifts what hangs below it.
 use Rattle.std.proofs.Common.{◌≡◌, ◌∙◌, ◌≤◌, length, arith}
 use Rattle.hd_terms.specs.EdgeRows.{AreRows}
 use Rattle.hd_repair.specs.Losing.{progress_of, LateFrom}

@@ -1,3 +1,5 @@
+-- It begins with what the lost items held (`begin_losing`), and each turn settles one object that waits.
+-- An object is touched once, so the turns are no more than the objects.
 use Rattle.std.proofs.Common.{◌∙◌, refl, sym, subst, arith}
 use Rattle.hd_terms.proofs.Lower.{Contains-first}
 use Rattle.hd_repair.specs.Hanging.{NoneLate}

@@ -1,3 +1,5 @@
+-- An object that is alone is detached; another one hangs on what `find_support` found, or is detached and sought later.
+-- Either way one more is settled, and those that wait first stay alone.
 use Rattle.std.proofs.Common.{subst}
 use Rattle.hd_terms.specs.EdgeRows.{Rows}
 use Rattle.hd_repair.specs.Alone.{AreFirst, IsFirstOr}

@@ -1,3 +1,5 @@
+-- One root or edge after another: what is known is a support that hangs on a root, or nothing (`known`).
+-- Each is looked at once at most.
 use Rattle.std.proofs.Common.{◌≡◌, ◌∙◌, ◌<◌, ◌⊎◌, inl, inr, length, ap, refl, arith, IfSome, Some, None, Option}
 use Rattle.hd_terms.specs.declared.Support.{Support}
 use Rattle.hd_terms.specs.EdgeRows.{Rows}

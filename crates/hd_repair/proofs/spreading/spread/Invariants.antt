@@ -8,7 +8,8 @@ abbrev pub invariant-loop-offer : goal.invariant-loop-offer
 invariant-loop-offer g l = record {
   count : length l.kept ≡ length l.fn.kept;
   same : g.E.Edges.rows l.edges ≡ g.E.Edges.rows l.fn.edges;
-  looks : g.E.Edges.look_count l.edges ≤ g.E.Edges.look_count l.fn.edges + sum_by (λ o. length ((g.E.Edges.rows l.fn.edges).out o)) (changed_objects l.changes.items);
+  looks : g.E.Edges.look_count l.edges ≤ g.E.Edges.look_count l.fn.edges + sum_by (λ o. length ((g.E.Edges.rows l.fn.edges).out o))
+      (changed_objects l.changes.items);
   repairing : IsRepairing (g.E.Edges.rows l.fn.edges) l.fn.kept l.kept l.offers l.changes.items;
 }
 

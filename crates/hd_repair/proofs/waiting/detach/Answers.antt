@@ -1,3 +1,5 @@
+-- Nothing is supported from the object any more (`none_from`), so it may be unreachable for the time being.
+-- Its edges and those that lead to it were looked at once each.
 use Rattle.std.proofs.Common.{◌≡◌, ◌∙◌, ℕ, inl, inr, List, ap, sym, refl}
 use Rattle.std.proofs.lemmas.Bool.{cases_eq}
 use Rattle.hd_terms.specs.declared.Slot.{Slot}

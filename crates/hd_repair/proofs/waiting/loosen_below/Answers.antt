@@ -1,3 +1,5 @@
+-- One edge of the object after another: what it supports waits from then on, before the others where it is alone.
+-- In the end no edge of the object supports anything (`none`).
 use Rattle.std.proofs.Common.{◌≡◌, ◌∙◌, ◌<◌, List, length, take, subst, sym, refl, arith}
 use Rattle.std.proofs.lemmas.List.{take_all}
 use Rattle.hd_terms.specs.declared.Support.TheVariants as supports

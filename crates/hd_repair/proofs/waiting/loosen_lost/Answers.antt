@@ -1,3 +1,5 @@
+-- One lost item after another: what it holds waits, without a support.
+-- In the end no lost item holds its target.
 use Rattle.std.proofs.Common.{◌≡◌, ◌≢◌, ◌∙◌, ◌<◌, List, [], length, take, get_or, ap, subst, sym, refl, arith}
 use Rattle.std.proofs.lemmas.List.{take_all, take_more}
 use Rattle.std.proofs.lemmas.List.Elements.{Contains-get_or, All-contains}

@@ -9,4 +9,5 @@ returns c =
     let pairs = c.args.pairs.now in
     let o = c.args.o in
     end_found pairs o c.partition_point.result c.partition_point.ensures.bound
-    (IsPartitionPoint-from_clause (λ (n : NumberOn). leb n.object o) pairs _ c.partition_point.ensures.partitioned (IsPartitionedBy-leb (λ (n : NumberOn). n.object) pairs o c.requires.rise) (λ a r q k. search rules))
+    (IsPartitionPoint-from_clause (λ (n : NumberOn). leb n.object o) pairs _ c.partition_point.ensures.partitioned
+    (IsPartitionedBy-leb (λ (n : NumberOn). n.object) pairs o c.requires.rise) (λ a r q k. search rules))

@@ -4,7 +4,8 @@ use Rattle.hd_routes.proofs.head.read_head.Goals as goal
 
 pub returns-in-Ok-Complete-clause-reading : goal.returns-in-Ok-Complete-clause-reading
 returns-in-Ok-Complete-clause-reading c =
-    whole_head c.args.port c.args.bytes.now c.front_of-front.result.now c.parse_request.new.headers c.in-Ok-Complete.request c.route.result c.front_of-front.ensures
+    whole_head c.args.port c.args.bytes.now c.front_of-front.result.now c.parse_request.new.headers c.in-Ok-Complete.request c.route.result
+    c.front_of-front.ensures
     (rw c.in-Ok-Complete.field-0-is at c.in-Ok-Complete.ensures.complete) c.route.ensures
 
 pub returns-else-bytes-lt-MOST_BYTES-clause-reading : goal.returns-else-bytes-lt-MOST_BYTES-clause-reading
@@ -20,10 +21,12 @@ returns-then-bytes-lt-MOST_BYTES-clause-reading c =
 pub returns-in-Err-clause-reading : goal.returns-in-Err-clause-reading
 returns-in-Err-clause-reading c =
     rw c.fault_refusal.ensures
-    (no_head c.args.bytes.now c.front_of-front.result.now _ _ c.in-Err.error refl c.front_of-front.ensures refl c.in-Err.ensures.invalid c.in-Err.ensures.too_many)
+    (no_head c.args.bytes.now c.front_of-front.result.now _ _ c.in-Err.error refl c.front_of-front.ensures refl c.in-Err.ensures.invalid
+    c.in-Err.ensures.too_many)
 
 pub returns-in-Ok-Complete-clause-within : goal.returns-in-Ok-Complete-clause-within
 returns-in-Ok-Complete-clause-within c =
     whole_fits c.args.port c.args.bytes.now c.route.result c.in-Ok-Complete.request.len
-    (whole_head c.args.port c.args.bytes.now c.front_of-front.result.now c.parse_request.new.headers c.in-Ok-Complete.request c.route.result c.front_of-front.ensures
+    (whole_head c.args.port c.args.bytes.now c.front_of-front.result.now c.parse_request.new.headers c.in-Ok-Complete.request c.route.result
+    c.front_of-front.ensures
     (rw c.in-Ok-Complete.field-0-is at c.in-Ok-Complete.ensures.complete) c.route.ensures)

@@ -7,4 +7,5 @@ use Rattle.hd_settled.proofs.checking.object_gives_no_more.Given as goal
 
 -- the references so far give no more than their targets have
 abbrev pub invariant-loop-index : goal.invariant-loop-index
-invariant-loop-index l = (k : ℕ) → k < l.index → (e : Edge) → edge_at l.fn.edited.graph.now l.fn.edited.front.now l.fn.o k ≡ Some e → rank (offered_strength l.fn.strengths e) ≤ rank_at l.fn.strengths e.target
+invariant-loop-index l = (k : ℕ) → k < l.index → (e : Edge) → edge_at l.fn.edited.graph.now l.fn.edited.front.now l.fn.o k ≡ Some e
+    → rank (offered_strength l.fn.strengths e) ≤ rank_at l.fn.strengths e.target

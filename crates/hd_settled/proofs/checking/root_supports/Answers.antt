@@ -3,7 +3,8 @@ use Rattle.hd_settled.proofs.Checked.{refuted, refuted_other, not_held, held_by_
 use Rattle.hd_settled.proofs.checking.root_supports.Goals as goal
 
 pub returns-in_default : goal.returns-in_default
-returns-in_default c = refuted (λ s. not_held c.args.edited.graph.now c.args.edited.front.now c.args.r c.args.o (sym c.in_default.is ∙ c.held_object.ensures.held) s.0)
+returns-in_default c = refuted
+    (λ s. not_held c.args.edited.graph.now c.args.edited.front.now c.args.r c.args.o (sym c.in_default.is ∙ c.held_object.ensures.held) s.0)
 
 pub returns-then-held-o : goal.returns-then-held-o
 returns-then-held-o c =
@@ -12,4 +13,6 @@ returns-then-held-o c =
 
 pub returns-else-held-o : goal.returns-else-held-o
 returns-else-held-o c =
-    refuted_other c.in-Some.held c.args.o c.if-held-o.false (λ s. held_by_another c.args.edited.graph.now c.args.edited.front.now c.args.r c.in-Some.held c.args.o (sym c.in-Some.is ∙ c.held_object.ensures.held) c.if-held-o.false s.0)
+    refuted_other c.in-Some.held c.args.o c.if-held-o.false
+    (λ s. held_by_another c.args.edited.graph.now c.args.edited.front.now c.args.r c.in-Some.held c.args.o
+    (sym c.in-Some.is ∙ c.held_object.ensures.held) c.if-held-o.false s.0)

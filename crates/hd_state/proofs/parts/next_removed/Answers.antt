@@ -11,4 +11,5 @@ returns-then-adds_root c =
     let after = c.args.after.now in
     let moved = c.moved_by-moved.result in
     subst (IsRemovedBy dump after) (sym c.in_ok-try_clone.ensures)
-    (removed_still dump before after moved.edit moved.done (arc_value c.args.removed.now) (sym c.adds_root.ensures ∙ c.if-adds_root.true) c.moved_by-moved.ensures.edits c.requires.removed)
+    (removed_still dump before after moved.edit moved.done (arc_value c.args.removed.now)
+    (sym c.adds_root.ensures ∙ c.if-adds_root.true) c.moved_by-moved.ensures.edits c.requires.removed)

@@ -1,3 +1,5 @@
+-- The last event does an edit, or it undoes an earlier event, which does one: the two cases of what it moves.
+-- In both the logs differ by that edit alone.
 use Rattle.std.proofs.Common.{◌≡◌, ◌∙◌, ℕ, Bool, not, List, Some, length, slice_get, sym, ap, subst}
 use Rattle.hd_terms.specs.declared.Event.{Event}
 use Rattle.hd_state.specs.Moves.{Moves}
@@ -10,7 +12,8 @@ returns-in-Do-clause-moves c =
     let later : List Event = c.args.after.now in
     let at : slice_get later (length before) ≡ Some c.event.result = ap (slice_get later) (sym c.len-last.ensures.len) ∙ c.event.ensures in
     subst (λ (n : ℕ). Moves before later (not c.adds_root.result) n c.in-Do.edit) (sym c.len-last.ensures.len)
-    (subst (λ (b : Bool). Moves before later (not b) (length before) c.in-Do.edit) (sym c.adds_root.ensures) (moves_done before later c.requires c.event.result at c.in-Do.edit c.in-Do.is))
+    (subst (λ (b : Bool). Moves before later (not b) (length before) c.in-Do.edit) (sym c.adds_root.ensures)
+    (moves_done before later c.requires c.event.result at c.in-Do.edit c.in-Do.is))
 
 pub moved_back-requires : goal.moved_back-requires
 moved_back-requires c =

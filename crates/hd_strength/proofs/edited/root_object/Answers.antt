@@ -14,4 +14,5 @@ pub returns : goal.returns
 returns c =
     let stays : is_dropped c.args.edited.front.now c.args.r ≡ false =
     sym (c.requires.removed.roots c.args.r) ∙ ap (is_root_removed c.args.edited.removed.now) (sym c.from.ensures) ∙ sym c.root.ensures ∙ c.if-root.false in
-    c.roots.ensures.object ∙ dump_held c.args.edited.graph.now c.args.edited.front.now c.args.r (record { kind = c.roots.result.kind; id = c.roots.result.id }) c.roots.ensures.entry stays
+    c.roots.ensures.object ∙ dump_held c.args.edited.graph.now c.args.edited.front.now c.args.r
+    (record { kind = c.roots.result.kind; id = c.roots.result.id }) c.roots.ensures.entry stays

@@ -8,4 +8,5 @@ returns c =
     let numbers = c.args.numbers.now in
     let number = c.args.number in
     place_found numbers number c.partition_point.result c.partition_point.ensures.bound
-    (IsPartitionPoint-from_clause (λ n. ltb n number) numbers _ c.partition_point.ensures.partitioned (IsPartitionedBy-ltb (λ n. n) numbers number c.requires) (λ a r q k. search rules))
+    (IsPartitionPoint-from_clause (λ n. ltb n number) numbers _ c.partition_point.ensures.partitioned (IsPartitionedBy-ltb (λ n. n) numbers number c.requires)
+    (λ a r q k. search rules))

@@ -8,9 +8,11 @@ use Rattle.hd_strength.proofs.relaxing.relax_edge.Goals as goal
 pub returns-then-has : goal.returns-then-has
 returns-then-has c =
     let h = c.in-Some.ensures.some in
-    let same : c.in-Some.gain.strength ≡ c.args.strength = same_rank c.in-Some.gain.strength c.args.strength (sym c.rank.ensures ∙ c.if-rank.true ∙ c.rank-2.ensures) in
+    let same : c.in-Some.gain.strength ≡ c.args.strength = same_rank c.in-Some.gain.strength c.args.strength
+    (sym c.rank.ensures ∙ c.if-rank.true ∙ c.rank-2.ensures) in
     let at = slot_at c.args.edited.graph.now c.args.o c.args.index c.requires.index in
-    let is : h.edge ≡ edge_to c.args.o at.0 h.edge.target = (at_edge c.args.edited.graph.now c.args.edited.front.now c.args.o c.args.index at.0 at.1 h.edge h.is).1 in
+    let is : h.edge ≡ edge_to c.args.o at.0 h.edge.target =
+    (at_edge c.args.edited.graph.now c.args.edited.front.now c.args.o c.args.index at.0 at.1 h.edge h.is).1 in
     let source : h.edge.source ≡ c.args.o = ap (λ (e : Edge). e.source) is in
     let slot : h.edge.slot ≡ at.0.slot = ap (λ (e : Edge). e.slot) is in
     let own = c.has.ensures.yes c.if-has.true in
@@ -21,7 +23,8 @@ returns-then-has c =
       own = rw (← h.target) own;
       unreached = h.unknown (rw (← h.target) own);
       reaches = rw (source, slot, sym h.target, sym same) (record {
-        keeps = let k = c.keep.ensures.kept at.0 at.1 in record { kept = k.kept; same_first = k.same_first; same_buckets = k.same_buckets; same_handed = k.same_handed; counted = k.counted };
+        keeps = let k = c.keep.ensures.kept at.0 at.1 in
+            record { kept = k.kept; same_first = k.same_first; same_buckets = k.same_buckets; same_handed = k.same_handed; counted = k.counted };
         queued = λ high. c.in_ok-push.ensures ∙ ap (λ (os : List ℕ). os ++ c.in-Some.gain.target ∷ []) c.keep.ensures.queue;
         not_queued = λ low. absurd (low (subst (IsPassedOn c.args.edited.graph.now.mode) (sym same) c.requires.passes_on));
       });

@@ -5,4 +5,5 @@ use Rattle.hd_strength.proofs.removed.named_slot_index.Goals as goal
 pub returns : goal.returns
 returns c =
     let slots = (object_at c.args.graph.now c.args.o).slots in
-    rw c.in_ok-name.was (some_named_slot slots c.in_ok-name.field-0 c.args.o c.slot_index.result c.slot_index.ensures.first c.slot_index.ensures.only c.in_ok-index.index c.in_ok-index.was)
+    rw c.in_ok-name.was (some_named_slot slots c.in_ok-name.field-0 c.args.o c.slot_index.result c.slot_index.ensures.first c.slot_index.ensures.only
+    c.in_ok-index.index c.in_ok-index.was)

@@ -1,3 +1,5 @@
+-- The roots of events follow those of the dump: root `length dump.roots + k` is the one that event k adds, if it adds one.
+-- An added object is one of the dump, so a part has it, and `hold` notes the root there.
 use Rattle.std.proofs.Common.{◌≡◌, ◌∙◌, ◌+◌, length, sym, subst, arith, ℕ}
 use Rattle.std.specs.Vec.{with_items}
 use Rattle.std.proofs.lemmas.List.{with_items_is}
@@ -18,7 +20,9 @@ hold-requires g c =
     let dump = c.args.edited.graph.now in
     let log = c.args.edited.front.now in
     let r : ℕ = length dump.roots + c.loop-k.k in
-    rw c.deref_mut.ensures.value (is_held_in dump log c.args.whole r c.loop-k.parts.items c.in-Some.o c.loop-k.invariant (held_within dump log r c.in-Some.o (sym c.in-Some.is ∙ c.added_object.ensures)))
+    rw c.deref_mut.ensures.value
+    (is_held_in dump log c.args.whole r c.loop-k.parts.items c.in-Some.o c.loop-k.invariant
+    (held_within dump log r c.in-Some.o (sym c.in-Some.is ∙ c.added_object.ensures)))
 
 pub loop-k-preserved : goal.loop-k-preserved
 loop-k-preserved g c =
@@ -33,9 +37,12 @@ loop-k-preserved g c =
           let some = sym w.in-Some.is ∙ c.added_object.ensures in
           let number : w.from.result + w.from-in-Some.result ≡ r = omega (arith, w.from.ensures, w.from-in-Some.ensures, w.roots_len.ensures) in
           let by : IsHeldBy parts w.hold.new.parts t r = rw (w.deref_mut.ensures.value, number) at w.hold.ensures in
-          let items : (with_items c.loop-k.parts w.hold.new.parts).items ≡ w.hold.new.parts = with_items_is c.loop-k.parts w.hold.new.parts (held_count parts w.hold.new.parts t r by ∙ sym c.loop-k.parts.ok.0) in
-          rw (w.parts-is, items, next) (one_holds dump log c.args.whole r t parts w.hold.new.parts c.loop-k.invariant (held_within dump log r t some) (root_some dump log r t some) by)
-      | in_default w ↦ rw (w.parts-is, next) (none_holds dump log c.args.whole r parts c.loop-k.invariant (root_none dump log r (sym w.in_default.is ∙ c.added_object.ensures)))
+          let items : (with_items c.loop-k.parts w.hold.new.parts).items ≡ w.hold.new.parts =
+          with_items_is c.loop-k.parts w.hold.new.parts (held_count parts w.hold.new.parts t r by ∙ sym c.loop-k.parts.ok.0) in
+          rw (w.parts-is, items, next) (one_holds dump log c.args.whole r t parts w.hold.new.parts c.loop-k.invariant (held_within dump log r t some)
+          (root_some dump log r t some) by)
+      | in_default w ↦ rw (w.parts-is, next)
+          (none_holds dump log c.args.whole r parts c.loop-k.invariant (root_none dump log r (sym w.in_default.is ∙ c.added_object.ensures)))
     ]
 
 pub returns : goal.returns

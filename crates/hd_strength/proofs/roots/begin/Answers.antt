@@ -21,5 +21,6 @@ returns-clause-searching g c =
     let new = c.begin_parts.new.parts in
     let h = c.in_ok-parts.ensures in
     let is = lent old new c.in_ok-parts.parts.len c.in_ok-parts.parts.ok.0 (c.begin_parts.ensures.count ∙ ap length c.deref_mut.ensures.value) in
-    let queued = have_queued old c.deref_mut.result.now new c.deref.result.now (length dump.objects) c.deref_mut.ensures.value (c.deref.ensures.value ∙ is) c.begin_parts.ensures.count c.begin_parts.ensures.each (c.has_failed.ensures c.if-has_failed.false) h.holds.row in
+    let queued = have_queued old c.deref_mut.result.now new c.deref.result.now (length dump.objects) c.deref_mut.ensures.value
+    (c.deref.ensures.value ∙ is) c.begin_parts.ensures.count c.begin_parts.ensures.each (c.has_failed.ensures c.if-has_failed.false) h.holds.row in
     subst (HaveComeTo dump log c.args.whole strengths.Strong) (sym is) (begins dump log c.args.whole old new h.kept h.holds queued)

@@ -6,7 +6,8 @@ use Rattle.hd_strength.proofs.Rowed.{at_place}
 use Rattle.hd_strength.proofs.roots.begin_parts.Goals as goal
 
 pub for_each_mut-requires-clause-accepts : goal.for_each_mut-requires-clause-accepts
-for_each_mut-requires-clause-accepts g c κs within = λ i p lt read. c.requires.ready i p.now (slice_get_read c.args.parts.now (length c.args.parts.now) i p.now refl lt read)
+for_each_mut-requires-clause-accepts g c κs within =
+    λ i p lt read. c.requires.ready i p.now (slice_get_read c.args.parts.now (length c.args.parts.now) i p.now refl lt read)
 
 pub returns-clause-each : goal.returns-clause-each
 returns-clause-each g c = λ k p q there here well.

@@ -9,6 +9,7 @@ loop-first-preserved c =
     let h = c.loop-first.invariant in
     record {
       blank = subst (λ (m : ℕ). AreBlank c.args.len c.args.objects c.args.whole c.push.new.self.items (first + m)) (sym c.min-first.ensures)
-          (one_part c.args.len c.args.objects c.args.whole c.loop-first.parts.items c.push.new.self.items first c.new.result h.blank c.new.ensures h.within c.in_ok-push.ensures.items);
+          (one_part c.args.len c.args.objects c.args.whole c.loop-first.parts.items c.push.new.self.items first c.new.result h.blank c.new.ensures h.within
+          c.in_ok-push.ensures.items);
       within = omega (arith, c.min-first.ensures);
     }

@@ -6,9 +6,11 @@ use Rattle.hd_strength.proofs.Rowed.{at_place}
 use Rattle.hd_strength.proofs.roots.fill_parts.Goals as goal
 
 pub for_each_mut-requires-clause-accepts : goal.for_each_mut-requires-clause-accepts
-for_each_mut-requires-clause-accepts g c κs within = λ i p lt read. c.requires.each i p.now (slice_get_read c.args.parts.now (length c.args.parts.now) i p.now refl lt read)
+for_each_mut-requires-clause-accepts g c κs within =
+    λ i p lt read. c.requires.each i p.now (slice_get_read c.args.parts.now (length c.args.parts.now) i p.now refl lt read)
 
 pub returns-clause-each : goal.returns-clause-each
 returns-clause-each g c = λ k p q there here well.
     let at = (c.for_each_mut.ensures k p (slice_get_within c.args.parts.now k p there)).1 in
-    at_place (λ (p q : Part). q.failed ≡ false → IsNew p.first (min c.args.len (c.args.objects - p.first)) c.args.whole q) c.args.parts.now c.for_each_mut.new.s k p q _ _ there here at.argument_is at.left at.call well
+    at_place (λ (p q : Part). q.failed ≡ false → IsNew p.first (min c.args.len (c.args.objects - p.first)) c.args.whole q) c.args.parts.now c.for_each_mut.new.s
+    k p q _ _ there here at.argument_is at.left at.call well

@@ -16,8 +16,10 @@ returns-then-has c = record {
 pub loop-k-preserved : goal.loop-k-preserved
 loop-k-preserved c = λ j p lt there own. elim (cases_eq j c.loop-k.k) [
   | inl same ↦
-      let here : slice_get c.args.parts.now c.loop-k.k ≡ Some c.index-parts-k.result = slice_get_read c.args.parts.now (length c.args.parts.now) c.loop-k.k c.index-parts-k.result refl (omega arith) c.index-parts-k.is in
-      let is : p ≡ c.index-parts-k.result = one_there c.args.parts.now c.loop-k.k p c.index-parts-k.result (subst (λ (j : ℕ). slice_get c.args.parts.now j ≡ Some p) same there) here in
+      let here : slice_get c.args.parts.now c.loop-k.k ≡ Some c.index-parts-k.result =
+      slice_get_read c.args.parts.now (length c.args.parts.now) c.loop-k.k c.index-parts-k.result refl (omega arith) c.index-parts-k.is in
+      let is : p ≡ c.index-parts-k.result = one_there c.args.parts.now c.loop-k.k p c.index-parts-k.result
+      (subst (λ (j : ℕ). slice_get c.args.parts.now j ≡ Some p) same there) here in
       c.has.ensures.no c.if-has.false (subst (λ (p : Part). IsOwn p c.args.o) is own)
   | inr other ↦ c.loop-k.invariant j p (omega arith) there own
 ]

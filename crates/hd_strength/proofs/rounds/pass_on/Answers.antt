@@ -5,7 +5,8 @@ use Rattle.hd_strength.proofs.Ending.{each_relaxed, all_go_on, all-no_more, all-
 use Rattle.hd_strength.proofs.rounds.pass_on.Goals as goal
 
 pub relax_parts-requires-clause-fit : goal.relax_parts-requires-clause-fit
-relax_parts-requires-clause-fit g c = λ κs within k p there. (c.requires.searching.holds.each k p (subst (λ (ps : List Part). slice_get ps k ≡ Some p) c.deref_mut.ensures.value there)).fit
+relax_parts-requires-clause-fit g c =
+    λ κs within k p there. (c.requires.searching.holds.each k p (subst (λ (ps : List Part). slice_get ps k ≡ Some p) c.deref_mut.ensures.value there)).fit
 
 pub returns : goal.returns
 returns g c =
@@ -15,9 +16,11 @@ returns g c =
     let old = c.args.search.now.parts.items in
     let new = c.relax_parts.new.parts in
     let is = lent old new c.args.search.now.parts.len c.args.search.now.parts.ok.0 (c.relax_parts.ensures.count ∙ ap length c.deref_mut.ensures.value) in
-    let each = each_relaxed dump log s old c.deref_mut.result.now new c.deref-2.result.now c.deref_mut.ensures.value (c.deref-2.ensures.value ∙ is) c.relax_parts.ensures.count c.relax_parts.ensures.each (c.has_failed.ensures c.if-has_failed.false) in
+    let each = each_relaxed dump log s old c.deref_mut.result.now new c.deref-2.result.now c.deref_mut.ensures.value
+    (c.deref-2.ensures.value ∙ is) c.relax_parts.ensures.count c.relax_parts.ensures.each (c.has_failed.ensures c.if-has_failed.false) in
     record {
-      searching = subst (HaveComeTo dump log c.args.search.now.whole s) (sym is) (all_go_on dump log c.args.search.now.whole s [] old new each c.requires.searching);
+      searching = subst (HaveComeTo dump log c.args.search.now.whole s) (sym is)
+          (all_go_on dump log c.args.search.now.whole s [] old new each c.requires.searching);
       same = record {
         whole = refl;
         count = ap length is ∙ c.relax_parts.ensures.count ∙ ap length c.deref_mut.ensures.value;

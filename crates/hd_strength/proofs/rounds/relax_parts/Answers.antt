@@ -6,9 +6,16 @@ use Rattle.hd_strength.proofs.Rowed.{at_place}
 use Rattle.hd_strength.proofs.rounds.relax_parts.Goals as goal
 
 pub for_each_mut-requires-clause-accepts : goal.for_each_mut-requires-clause-accepts
-for_each_mut-requires-clause-accepts g c κs within = λ i p lt read. (c.requires.removed, c.requires.fit i p.now (slice_get_read c.args.parts.now (length c.args.parts.now) i p.now refl lt read), c.requires.some)
+for_each_mut-requires-clause-accepts g c κs within =
+    λ i p lt read. (
+      c.requires.removed,
+      c.requires.fit i p.now
+          (slice_get_read c.args.parts.now (length c.args.parts.now) i p.now refl lt read),
+      c.requires.some,
+    )
 
 pub returns-clause-each : goal.returns-clause-each
 returns-clause-each g c = λ k p q there here well.
     let at = (c.for_each_mut.ensures k p (slice_get_within c.args.parts.now k p there)).1 in
-    at_place (λ (p q : Part). q.failed ≡ false → HasRelaxed c.args.edited.graph.now c.args.edited.front.now c.args.strength p q) c.args.parts.now c.for_each_mut.new.s k p q _ _ there here at.argument_is at.left at.call well
+    at_place (λ (p q : Part). q.failed ≡ false → HasRelaxed c.args.edited.graph.now c.args.edited.front.now c.args.strength p q) c.args.parts.now
+    c.for_each_mut.new.s k p q _ _ there here at.argument_is at.left at.call well

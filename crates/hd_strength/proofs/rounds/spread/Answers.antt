@@ -27,4 +27,5 @@ returns g c =
     ∙ c.in_ok-spread_strength-3.ensures.whole
     ∙ c.in_ok-spread_strength-2.ensures.whole
     ∙ c.in_ok-spread_strength.ensures.whole in
-    ends dump log c.args.search.whole parts (subst (λ (w : Bool). HaveComeTo dump log w strengths.Unreachable parts) whole (c.in_ok-spread_strength-5.ensures.searching strengths.Unreachable refl))
+    ends dump log c.args.search.whole parts
+    (subst (λ (w : Bool). HaveComeTo dump log w strengths.Unreachable parts) whole (c.in_ok-spread_strength-5.ensures.searching strengths.Unreachable refl))

@@ -6,7 +6,8 @@ use Rattle.hd_strength.proofs.scratch.join_kept.Goals as goal
 
 pub into_kept-list-requires : goal.into_kept-list-requires
 into_kept-list-requires c =
-    ap (λ (f : Findings). f.whole) c.into_found.ensures ∙ first_whole (into_iter_items c.loop-part.part-iterator) (into_iter_items c.next.new.self) c.in-Some.part c.loop-part.invariant.whole c.in-Some.ensures.steps.0
+    ap (λ (f : Findings). f.whole) c.into_found.ensures ∙ first_whole (into_iter_items c.loop-part.part-iterator)
+    (into_iter_items c.next.new.self) c.in-Some.part c.loop-part.invariant.whole c.in-Some.ensures.steps.0
 
 pub loop-part-preserved : goal.loop-part-preserved
 loop-part-preserved c =
@@ -16,6 +17,7 @@ loop-part-preserved c =
     record {
       can_next = tt;
       is_finite = tt;
-      joined = one_joined c.loop-part.kept.items c.append.new.self.items c.into_kept-list.result.items _ before later c.in-Some.part c.loop-part.invariant.joined c.in-Some.ensures.steps.0 found c.in_ok-append.ensures.items;
+      joined = one_joined c.loop-part.kept.items c.append.new.self.items c.into_kept-list.result.items _ before later c.in-Some.part
+          c.loop-part.invariant.joined c.in-Some.ensures.steps.0 found c.in_ok-append.ensures.items;
       whole = later_whole before later c.in-Some.part c.loop-part.invariant.whole c.in-Some.ensures.steps.0;
     }

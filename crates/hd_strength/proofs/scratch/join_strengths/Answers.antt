@@ -12,5 +12,6 @@ loop-part-preserved c =
     record {
       can_next = tt;
       is_finite = tt;
-      joined = one_strengths_joined c.loop-part.strengths.items c.append.new.self.items c.into_strengths-list.result.items _ before later c.in-Some.part c.loop-part.invariant.joined c.in-Some.ensures.steps.0 found c.in_ok-append.ensures.items;
+      joined = one_strengths_joined c.loop-part.strengths.items c.append.new.self.items c.into_strengths-list.result.items _ before later c.in-Some.part
+          c.loop-part.invariant.joined c.in-Some.ensures.steps.0 found c.in_ok-append.ensures.items;
     }

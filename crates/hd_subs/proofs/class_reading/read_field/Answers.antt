@@ -9,5 +9,6 @@ returns-in_err-code-clause-err c =
 
 pub returns-clause-ok : goal.returns-clause-ok
 returns-clause-ok c =
-    begins_field c.args.id_size c.args.from.at c.args.from.rest.now c.in_ok-code.code c.in_ok-code.field-0-1 c.in_ok-code.after.rest.now c.in_ok-code.after.at c.read.result
+    begins_field c.args.id_size c.args.from.at c.args.from.rest.now c.in_ok-code.code c.in_ok-code.field-0-1 c.in_ok-code.after.rest.now c.in_ok-code.after.at
+    c.read.result
     (rw (← c.bytes.ensures) c.in_ok-code.ensures.ok) c.read.ensures

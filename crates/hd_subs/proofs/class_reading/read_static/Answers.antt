@@ -9,4 +9,5 @@ returns-in_err-typed-clause-err c =
 
 pub returns-clause-ok : goal.returns-clause-ok
 returns-clause-ok c =
-    begins_static c.args.id_size c.args.from.at c.args.from.rest.now _ c.in_ok-typed.after.rest.now c.in_ok-typed.after.at c.read.result (rw (← c.bytes.ensures) c.in_ok-typed.ensures.ok) c.read.ensures
+    begins_static c.args.id_size c.args.from.at c.args.from.rest.now _ c.in_ok-typed.after.rest.now c.in_ok-typed.after.at c.read.result
+    (rw (← c.bytes.ensures) c.in_ok-typed.ensures.ok) c.read.ensures

@@ -9,10 +9,12 @@ returns-in_err-code-clause-err c =
 
 pub returns-in_default-clause-err : goal.returns-in_default-clause-err
 returns-in_default-clause-err c =
-    short_typed c.args.id_size c.args.key_len c.args.from.at c.args.from.rest.now c.in_ok-code.code c.in_ok-code.len c.in_ok-code.value.rest.now c.in_ok-code.value.at c.in_ok-code.ensures.ok c.in_default.ensures
+    short_typed c.args.id_size c.args.key_len c.args.from.at c.args.from.rest.now c.in_ok-code.code c.in_ok-code.len c.in_ok-code.value.rest.now
+    c.in_ok-code.value.at c.in_ok-code.ensures.ok c.in_default.ensures
 
 pub returns-clause-ok : goal.returns-clause-ok
 returns-clause-ok c =
     rw (c.in-Some.ensures.1, c.in-Some.ensures.2) (
-    begins_typed c.args.id_size c.args.key_len c.args.from.at c.args.from.rest.now c.in_ok-code.code c.in_ok-code.len c.in_ok-code.value.rest.now c.in_ok-code.value.at c.in_ok-code.ensures.ok c.in-Some.ensures.0
+    begins_typed c.args.id_size c.args.key_len c.args.from.at c.args.from.rest.now c.in_ok-code.code c.in_ok-code.len c.in_ok-code.value.rest.now
+    c.in_ok-code.value.at c.in_ok-code.ensures.ok c.in-Some.ensures.0
     )

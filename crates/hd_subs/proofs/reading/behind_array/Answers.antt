@@ -16,5 +16,10 @@ returns-then-fields-len c =
 pub returns : goal.returns
 returns c =
     let count : c.read_count.result ≡ count_in (id_len c.args.id_size) c.args.fields.now = rw (← c.bytes-id_len.ensures) c.read_count.ensures in
-    let len : 2 * c.bytes-id_len.result + 8 + c.bytes-id_len.result * c.read_count.result ≡ array_len c.args.id_size c.args.fields.now = rw (count, c.bytes-id_len.ensures) refl in
-    record { within = rw (← len) c.if-fields-len.false; after_is = rw (← len) (take_rest c.args.fields.now (2 * c.bytes-id_len.result + 8 + c.bytes-id_len.result * c.read_count.result)) }
+    let len : 2 * c.bytes-id_len.result + 8 + c.bytes-id_len.result * c.read_count.result ≡ array_len c.args.id_size c.args.fields.now =
+    rw (count, c.bytes-id_len.ensures) refl in
+    record {
+      within = rw (← len) c.if-fields-len.false;
+      after_is =
+          rw (← len) (take_rest c.args.fields.now (2 * c.bytes-id_len.result + 8 + c.bytes-id_len.result * c.read_count.result));
+    }

@@ -17,4 +17,8 @@ pub returns : goal.returns
 returns c =
     let count : c.read_count.result ≡ values_in (id_len c.args.id_size) c.args.fields.now = rw (← c.bytes-id_len.ensures) c.read_count.ensures in
     let len : 2 * c.bytes-id_len.result + 8 + c.read_count.result ≡ instance_len c.args.id_size c.args.fields.now = rw (count, c.bytes-id_len.ensures) refl in
-    record { within = rw (← len) c.if-fields-len.false; after_is = rw (← len) (take_rest c.args.fields.now (2 * c.bytes-id_len.result + 8 + c.read_count.result)) }
+    record {
+      within = rw (← len) c.if-fields-len.false;
+      after_is =
+          rw (← len) (take_rest c.args.fields.now (2 * c.bytes-id_len.result + 8 + c.read_count.result));
+    }

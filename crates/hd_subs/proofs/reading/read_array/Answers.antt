@@ -12,4 +12,5 @@ returns c =
     let class : c.read-2.result ≡ big_number (id_len c.args.id_size) (drop (id_len c.args.id_size + 8) c.args.fields.now) =
     c.read-2.ensures ∙ rw (take_rest c.args.fields.now (c.bytes-id_len.result + 8), c.bytes-id_len.ensures) refl in
     rw (behind.after_is, ← count, c.kind_of_array.ensures)
-    (begins_array c.args.id_size c.args.offset c.args.fields.now c.read.result c.read-2.result c.read_count.result (rw count behind.within) c.read.ensures class count)
+    (begins_array c.args.id_size c.args.offset c.args.fields.now c.read.result c.read-2.result c.read_count.result
+    (rw count behind.within) c.read.ensures class count)

@@ -1,3 +1,5 @@
+-- Each example is the classes of a file, with the chain, the layout or the fault that they have.
+-- What isn't computed alone is that nothing else can be read.
 use Rattle.std.proofs.Common.{◌≡◌, ◌≢◌, ℕ, ◌≤◌, false, List, [], ◌∷◌, ◌++◌, length, lit<, lit≤, sym, ap, refl, ◌∙◌, ◌+◌, arith}
 use Rattle.std.proofs.lemmas.List.{length-append, append-nil}
 use Rattle.std.specs.Prelude.{codes}
@@ -8,7 +10,8 @@ use Rattle.hd_terms.specs.declared.RootKind.TheVariants as roots
 use Rattle.hd_terms.specs.declared.errors.Cause.TheVariants as causes
 use Rattle.hd_terms.specs.Records.{Record}
 use Rattle.hd_terms.specs.Types.{is_type}
-use Rattle.hd_terms.specs.SubRecords.{SubRecord, RootOf, ClassDump, ObjectArray, PrimitiveArray, sub_record_text, IsSubRecord, Counted, IsCounted, ClassValue, IsClassValue, ClassField, IsClassField, ClassHead, IsClassHead, class_head_text, value_text}
+use Rattle.hd_terms.specs.SubRecords.{SubRecord, RootOf, ClassDump, ObjectArray, PrimitiveArray, sub_record_text, IsSubRecord, Counted, IsCounted, ClassValue}
+use Rattle.hd_terms.specs.SubRecords.{IsClassValue, ClassField, IsClassField, ClassHead, IsClassHead, class_head_text, value_text}
 use Rattle.hd_terms.specs.ReadFaults.{IsReadFault, fault, IsBeforeType, IsStuck, in_sub_records}
 use Rattle.hd_terms.specs.Examples.{head_of, segment_head, four, narrow, two, name, class_front, class_constants, class_statics}
 use Rattle.hd_terms.proofs.examples.class_examples.Goals as goal
@@ -120,7 +123,8 @@ load class name = record { tag = 0x02; time = four 0; size = four 16; body = fou
 pub returns-clause-named_statics : goal.returns-clause-named_statics
 returns-clause-named_statics c = record {
   size = sizes.Four;
-  records = text 0x201 (codes "size") ∷ text 0x202 (codes "cache") ∷ text 0x301 (codes "Store") ∷ load 0x11 0x301 ∷ segment 0x92 (flat_map sub_record_text class_subs) ∷ [];
+  records = text 0x201 (codes "size") ∷ text 0x202 (codes "cache") ∷ text 0x301 (codes "Store") ∷ load 0x11 0x301 ∷ segment 0x92
+      (flat_map sub_record_text class_subs) ∷ [];
   segments = class_subs ∷ [];
   reads = record {
     header = record { fits = lit≤ tt; long = lit≤ tt; magic = refl; id_size = refl };
@@ -132,7 +136,10 @@ returns-clause-named_statics c = record {
           record { framed = record { time = refl; size = refl; body = refl }; fields = lit≤ tt },
           (
             record { framed = record { time = refl; size = refl; body = refl }; fields = lit≤ tt },
-            (record { framed = record { time = refl; size = refl; body = refl }; fields = lit≤ tt }, (record { framed = record { time = refl; size = refl; body = refl }; fields = lit≤ tt }, tt)),
+            (
+              record { framed = record { time = refl; size = refl; body = refl }; fields = lit≤ tt },
+              (record { framed = record { time = refl; size = refl; body = refl }; fields = lit≤ tt }, tt),
+            ),
           ),
         ),
       );
@@ -189,7 +196,8 @@ returns-clause-short_class c =
     })
 
 -- a segment that begins with a class up to an unknown type
-of_other_type : (n : ℕ) (before : List ℕ) (code : ℕ) (more : List ℕ) → length (0x20 ∷ before ++ code ∷ more) ≡ n → n ≡ big_number 4 (four n) → n ≤ 255 → IsBeforeType sizes.Four before → is_type code ≡ false
+of_other_type : (n : ℕ) (before : List ℕ) (code : ℕ) (more : List ℕ) → length (0x20 ∷ before ++ code ∷ more) ≡ n → n ≡ big_number 4 (four n) → n ≤ 255
+    → IsBeforeType sizes.Four before → is_type code ≡ false
     → IsReadFault (head_of 4 ++ segment_head n ++ 0x20 ∷ before ++ code ∷ more) (fault causes.UnknownType 40)
 of_other_type n before code more long reads low front other =
     let body : List ℕ = 0x20 ∷ before ++ code ∷ more in
@@ -217,7 +225,8 @@ abbrev before_constant : List ℕ
 before_constant = class_head_text head ++ two 1 ++ two 1
 
 is_before_constant : IsBeforeType sizes.Four before_constant
-is_before_constant = IsBeforeType.of_constant head (record { count = two 1; items = [] }) (two 1) head_is (record { count = refl; more = lit< tt; each = tt }) refl
+is_before_constant = IsBeforeType.of_constant head (record { count = two 1; items = [] }) (two 1) head_is
+    (record { count = refl; more = lit< tt; each = tt }) refl
 
 pub returns-clause-unknown_constant : goal.returns-clause-unknown_constant
 returns-clause-unknown_constant c = of_other_type 68 before_constant 3 (four 2 ++ class_statics ++ two 0) refl refl (lit≤ tt) is_before_constant refl
@@ -231,7 +240,8 @@ before_static = class_head_text head ++ class_constants ++ two 2 ++ value_text n
 
 is_before_static : IsBeforeType sizes.Four before_static
 is_before_static =
-    IsBeforeType.of_static head constants (record { count = two 2; items = number ∷ [] }) (name 2) head_is constants_are (record { count = refl; more = lit< tt; each = (number_is, tt) }) refl
+    IsBeforeType.of_static head constants (record { count = two 2; items = number ∷ [] }) (name 2) head_is constants_are
+    (record { count = refl; more = lit< tt; each = (number_is, tt) }) refl
 
 pub returns-clause-unknown_static : goal.returns-clause-unknown_static
 returns-clause-unknown_static c = of_other_type 62 before_static 0 [] refl refl (lit≤ tt) is_before_static refl
@@ -242,7 +252,8 @@ before_field = class_head_text head ++ class_constants ++ class_statics ++ two 1
 
 is_before_field : IsBeforeType sizes.Four before_field
 is_before_field =
-    IsBeforeType.of_field head constants statics (record { count = two 1; items = [] }) (name 3) head_is constants_are statics_are (record { count = refl; more = lit< tt; each = tt }) refl
+    IsBeforeType.of_field head constants statics (record { count = two 1; items = [] }) (name 3) head_is constants_are statics_are
+    (record { count = refl; more = lit< tt; each = tt }) refl
 
 pub returns-clause-unknown_field : goal.returns-clause-unknown_field
 returns-clause-unknown_field c = of_other_type 73 before_field 12 [] refl refl (lit≤ tt) is_before_field refl

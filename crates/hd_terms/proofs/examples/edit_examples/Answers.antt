@@ -1,3 +1,5 @@
+-- Each example is a dump under a log, with settled supports for what stands then.
+-- By the law of settled supports these are the strengths of the objects.
 use Rattle.std.proofs.Common.{◌≡◌, ◌<◌, ℕ, zero, suc, true, List, [], ◌∷◌, take, refl, arith}
 use Rattle.hd_terms.specs.declared.Slot.{Slot}
 use Rattle.hd_terms.specs.declared.Slot.TheVariants as slots
@@ -76,7 +78,8 @@ returns-clause-direct_fell c =
 
 pub returns-clause-closure_fell : goal.returns-clause-closure_fell
 returns-clause-closure_fell c =
-    fell examples.phantom_closure [] cleared (phantom_with (by strengths.Phantom 7 (slots.Field 0) 4) (by strengths.Phantom 8 (slots.Element 0) 5)) (phantom_with unreached unreached) refl refl
+    fell examples.phantom_closure [] cleared (phantom_with (by strengths.Phantom 7 (slots.Field 0) 4) (by strengths.Phantom 8 (slots.Element 0) 5))
+    (phantom_with unreached unreached) refl refl
 
 -- what is reached of `soft_then_weak`, by what is kept of 0x13, 0x22, 0x3, 0x5 and 0x4
 abbrev soft_with : (r13 r22 r3 r5 r4 : Reached) → List Reached
@@ -86,7 +89,8 @@ soft_with r13 r22 r3 r5 r4 =
 
 -- before, with no soft reference, and with one
 abbrev all_soft : List Reached
-all_soft = soft_with (by strengths.Soft 8 slots.OfClass 6) (by strengths.Soft 7 (slots.Field 0) 5) (by strengths.Weak 8 (slots.Field 0) 7) (by strengths.Soft 10 (slots.Field 0) 8) (by strengths.Soft 11 (slots.Element 0) 9)
+all_soft = soft_with (by strengths.Soft 8 slots.OfClass 6) (by strengths.Soft 7 (slots.Field 0) 5) (by strengths.Weak 8 (slots.Field 0) 7)
+    (by strengths.Soft 10 (slots.Field 0) 8) (by strengths.Soft 11 (slots.Element 0) 9)
 
 abbrev no_soft : List Reached
 no_soft = soft_with unreached unreached unreached unreached unreached
@@ -98,7 +102,8 @@ pub returns-clause-clear_all : goal.returns-clause-clear_all
 returns-clause-clear_all c = fell examples.soft_then_weak [] (take 1 examples.clears_of_soft) all_soft no_soft refl refl
 
 pub returns-clause-clear_behind_clear_all : goal.returns-clause-clear_behind_clear_all
-returns-clause-clear_behind_clear_all c = fell examples.soft_then_weak (take 1 examples.clears_of_soft) (take 2 examples.clears_of_soft) no_soft no_soft refl refl
+returns-clause-clear_behind_clear_all c = fell examples.soft_then_weak (take 1 examples.clears_of_soft)
+    (take 2 examples.clears_of_soft) no_soft no_soft refl refl
 
 pub returns-clause-clear_is_left : goal.returns-clause-clear_is_left
 returns-clause-clear_is_left c = fell examples.soft_then_weak (take 3 examples.clears_of_soft) (take 2 examples.clears_of_soft) one_soft no_soft refl refl
@@ -108,7 +113,8 @@ returns-clause-no_clear_is_left c = fell examples.soft_then_weak examples.clears
 
 pub returns-clause-clear_all_phantom : goal.returns-clause-clear_all_phantom
 returns-clause-clear_all_phantom c =
-    fell examples.phantom_referent [] (examples.does 0 (edits.ClearAll references.Phantom) ∷ []) (phantom_with (by strengths.Phantom 7 (slots.Field 0) 4) unreached) (phantom_with unreached unreached) refl refl
+    fell examples.phantom_referent [] (examples.does 0 (edits.ClearAll references.Phantom) ∷ [])
+    (phantom_with (by strengths.Phantom 7 (slots.Field 0) 4) unreached) (phantom_with unreached unreached) refl refl
 
 pub returns-clause-clear_all_of_none : goal.returns-clause-clear_all_of_none
 returns-clause-clear_all_of_none c = fell examples.two_arrays [] (examples.does 0 (edits.ClearAll references.Weak) ∷ []) both both refl refl

@@ -1,3 +1,5 @@
+-- Each example is a file, spelled field by field, with the dump or the fault that it has.
+-- Records and sub-records are given, and `cc` compares what they spell with the bytes.
 use Rattle.std.proofs.Common.{◌≡◌, ◌≢◌, ◌∙◌, ℕ, suc, ◌+◌, ◌-◌, ◌≤◌, List, [], ◌∷◌, ◌++◌, length, take, drop, lit≤, subst, sym, ap, refl, arith}
 use Rattle.std.proofs.lemmas.List.{length-take, length-drop, length-append, take-append-drop}
 use Rattle.std.specs.List.{flat_map}
@@ -6,7 +8,8 @@ use Rattle.hd_terms.specs.declared.RootKind.TheVariants as roots
 use Rattle.hd_terms.specs.declared.errors.Cause.TheVariants as causes
 use Rattle.hd_terms.specs.Records.{Record, IsFramed, IsRecord, record_text}
 use Rattle.hd_terms.specs.SubRecords.{SubRecord, RootOf, ObjectArray, PrimitiveArray, sub_record_text}
-use Rattle.hd_terms.specs.ReadFaults.{IsReadFault, fault, no_header, other_text, other_id_size, in_a_record, IsStuckRecord, IsStuck, in_records, in_sub_records, in_objects}
+use Rattle.hd_terms.specs.ReadFaults.{IsReadFault, fault, no_header, other_text, other_id_size, in_a_record, IsStuckRecord, IsStuck, in_records, in_sub_records}
+use Rattle.hd_terms.specs.ReadFaults.{in_objects}
 use Rattle.hd_terms.specs.Examples.{head_of, four}
 use Rattle.hd_terms.specs.Examples as examples
 use Rattle.hd_terms.proofs.examples.file_examples.Goals as goal
@@ -94,7 +97,10 @@ returns-clause-two_arrays c = record {
         whole = refl;
         each = (
           (refl, refl),
-          ((refl, refl, refl, refl, record { many = refl; each = (refl, (refl, (refl, tt))) }), ((refl, refl, refl, refl, record { many = refl; each = tt }), tt)),
+          (
+            (refl, refl, refl, refl, record { many = refl; each = (refl, (refl, (refl, tt))) }),
+            ((refl, refl, refl, refl, record { many = refl; each = tt }), tt),
+          ),
         );
       },
       tt,
@@ -141,7 +147,8 @@ returns-clause-cut_record c =
       rest = four 0 ++ four 0;
       whole = refl;
       each = tt;
-      stuck = IsStuckRecord.cut zeros (record { time = refl; size = refl; body = refl }) (record { some = some _ _; missing = 0 ∷ []; lacks = some _ _; whole = refl });
+      stuck = IsStuckRecord.cut zeros (record { time = refl; size = refl; body = refl })
+          (record { some = some _ _; missing = 0 ∷ []; lacks = some _ _; whole = refl });
       place = refl;
     }))
 
@@ -181,7 +188,8 @@ returns-clause-two_mistakes c =
       rest = 0 ∷ 0 ∷ 0 ∷ [];
       whole = refl;
       each = (record { framed = record { time = refl; size = refl; body = refl }; fields = lit≤ tt }, tt);
-      stuck = IsStuckRecord.cut zeros (record { time = refl; size = refl; body = refl }) (record { some = some _ _; missing = 0 ∷ 0 ∷ four 0; lacks = some _ _; whole = refl });
+      stuck = IsStuckRecord.cut zeros (record { time = refl; size = refl; body = refl })
+          (record { some = some _ _; missing = 0 ∷ 0 ∷ four 0; lacks = some _ _; whole = refl });
       place = refl;
     }))
 
@@ -197,7 +205,8 @@ returns-clause-cut_body c =
       rest = 0x1c ∷ four 0 ++ four 5 ++ 0xff ∷ 0 ∷ 0 ∷ 0 ∷ [];
       whole = refl;
       each = tt;
-      stuck = IsStuckRecord.cut (segment 5 (0xff ∷ four 0)) (record { time = refl; size = refl; body = refl }) (record { some = some _ _; missing = 0 ∷ []; lacks = some _ _; whole = refl });
+      stuck = IsStuckRecord.cut (segment 5 (0xff ∷ four 0)) (record { time = refl; size = refl; body = refl })
+          (record { some = some _ _; missing = 0 ∷ []; lacks = some _ _; whole = refl });
       place = refl;
     }))
 
@@ -281,7 +290,11 @@ returns-clause-first_names c = record {
   segments = [];
   reads = record {
     header = record { fits = lit≤ tt; long = lit≤ tt; magic = refl; id_size = refl };
-    whole = record { whole = refl; each = (text_is 0xc1 0x41, (text_is 0xc1 0x42, (text_is 0xc2 0x43, (load_is 0x11 0xc1, (load_is 0x11 0xc2, (load_is 0x12 0xc3, tt)))))) };
+    whole = record {
+      whole = refl;
+      each =
+          (text_is 0xc1 0x41, (text_is 0xc1 0x42, (text_is 0xc2 0x43, (load_is 0x11 0xc1, (load_is 0x11 0xc2, (load_is 0x12 0xc3, tt))))));
+    };
     bodies = tt;
     classes = refl;
     objects = refl;
@@ -299,13 +312,22 @@ returns-clause-skipped_record c = record {
   segments = two_arrays_subs ∷ [];
   reads = record {
     header = record { fits = lit≤ tt; long = lit≤ tt; magic = refl; id_size = refl };
-    whole = record { whole = refl; each = (record { framed = record { time = refl; size = refl; body = refl }; fields = lit≤ tt }, (record { framed = record { time = refl; size = refl; body = refl }; fields = lit≤ tt }, tt)) };
+    whole = record {
+      whole = refl;
+      each = (
+        record { framed = record { time = refl; size = refl; body = refl }; fields = lit≤ tt },
+        (record { framed = record { time = refl; size = refl; body = refl }; fields = lit≤ tt }, tt),
+      );
+    };
     bodies = (
       record {
         whole = refl;
         each = (
           (refl, refl),
-          ((refl, refl, refl, refl, record { many = refl; each = (refl, (refl, (refl, tt))) }), ((refl, refl, refl, refl, record { many = refl; each = tt }), tt)),
+          (
+            (refl, refl, refl, refl, record { many = refl; each = (refl, (refl, (refl, tt))) }),
+            ((refl, refl, refl, refl, record { many = refl; each = tt }), tt),
+          ),
         );
       },
       tt,
@@ -357,7 +379,8 @@ pub returns-clause-prefixes_of_the_header : goal.returns-clause-prefixes_of_the_
 returns-clause-prefixes_of_the_header c n le = in_records (no_header (simp length-take (omega arith)))
 
 -- what a header and the front of one record are read as
-front_of_a_record : (m : ℕ) (text missing : List ℕ) (r : Record) → length (take (m + 1) text) ≡ m + 1 → m ≤ 100 → IsFramed r → take (m + 1) text ++ missing ≡ record_text r → missing ≢ []
+front_of_a_record : (m : ℕ) (text missing : List ℕ) (r : Record) → length (take (m + 1) text) ≡ m + 1 → m ≤ 100 → IsFramed r → take (m + 1) text
+    ++ missing ≡ record_text r → missing ≢ []
     → IsReadFault (head_of 4 ++ take (m + 1) text) (fault causes.Truncated 31)
 front_of_a_record m text missing r long le is whole lacks =
     let size : length (head_of 4 ++ take (m + 1) text) ≡ 31 + (m + 1) = length-append (head_of 4) (take (m + 1) text) ∙ ap (λ (k : ℕ). 31 + k) long in
@@ -368,7 +391,8 @@ front_of_a_record m text missing r long le is whole lacks =
       rest = take (m + 1) text;
       whole = refl;
       each = tt;
-      stuck = IsStuckRecord.cut r is (record { some = λ e. (let none : m + 1 ≡ 0 = sym long ∙ ap length e in omega arith); missing = missing; lacks = lacks; whole = whole });
+      stuck = IsStuckRecord.cut r is
+          (record { some = λ e. (let none : m + 1 ≡ 0 = sym long ∙ ap length e in omega arith); missing = missing; lacks = lacks; whole = whole });
       place = refl;
     }))
 
@@ -378,9 +402,11 @@ returns-clause-prefixes_of_the_record c n low high =
     let long : length (take ((n - 32) + 1) text) ≡ (n - 32) + 1 = simp length-take (omega arith) in
     let same : n ≡ 31 + ((n - 32) + 1) = omega arith in
     let cut : take (31 + ((n - 32) + 1)) (head_of 4 ++ text) ≡ head_of 4 ++ take ((n - 32) + 1) text = take-append-add (head_of 4) text ((n - 32) + 1) in
-    let left : drop ((n - 32) + 1) text ≢ [] = λ e. (let none : length text - ((n - 32) + 1) ≡ 0 = sym (length-drop ((n - 32) + 1) text) ∙ ap length e in omega arith) in
+    let left : drop ((n - 32) + 1) text ≢ [] = λ e. (let none : length text - ((n - 32) + 1) ≡ 0 = sym (length-drop ((n - 32) + 1) text) ∙ ap length e in
+    omega arith) in
     subst (λ (xs : List ℕ). IsReadFault xs (fault causes.Truncated 31)) (sym (ap (λ (k : ℕ). take k examples.two_arrays_file) same ∙ cut))
-    (front_of_a_record (n - 32) text (drop ((n - 32) + 1) text) one_record long (omega arith) (record { time = refl; size = refl; body = refl }) (take-append-drop ((n - 32) + 1) text) left)
+    (front_of_a_record (n - 32) text (drop ((n - 32) + 1) text) one_record long (omega arith) (record { time = refl; size = refl; body = refl })
+    (take-append-drop ((n - 32) + 1) text) left)
 
 -- a primitive array of no elements of a type 2
 abbrev other_elements : List ℕ

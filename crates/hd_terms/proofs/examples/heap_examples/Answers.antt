@@ -1,3 +1,5 @@
+-- Each example is a dump with settled supports, which give the strengths; each support is one edge or root of it.
+-- By the law of settled supports these are the strengths of the objects.
 use Rattle.std.proofs.Common.{◌≡◌, ℕ, zero, suc, ◌≤◌, List, [], ◌∷◌, take, Contains, ◌==◌, ◌∙◌, true, not, lit<, lit≤, subst, sym, ap, refl, eq-eqb, arith}
 use Rattle.std.specs.List.{list_all}
 use Rattle.hd_terms.specs.declared.Slot.{Slot}
@@ -31,19 +33,22 @@ pub returns-clause-one_cut_is_left : goal.returns-clause-one_cut_is_left
 returns-clause-one_cut_is_left c = strengths_of (standing examples.two_arrays (take 3 examples.two_cuts_of_one_slot)) (held ∷ []) refl 1
 
 pub returns-clause-no_cut_is_left : goal.returns-clause-no_cut_is_left
-returns-clause-no_cut_is_left c = strengths_of (standing examples.two_arrays examples.two_cuts_of_one_slot) (held ∷ by strengths.Strong 0 (slots.Element 0) 1 ∷ []) refl 1
+returns-clause-no_cut_is_left c = strengths_of (standing examples.two_arrays examples.two_cuts_of_one_slot)
+    (held ∷ by strengths.Strong 0 (slots.Element 0) 1 ∷ []) refl 1
 
 -- weak_and_final_referents: what is kept of all objects, with that of 0x5 last
 abbrev weak_or_final : Reached → List Reached
 weak_or_final referent =
-    by strengths.Strong 2 slots.Super 5 ∷ unreached ∷ by strengths.Strong 7 slots.OfClass 3 ∷ by strengths.Strong 5 slots.Super 6 ∷ unreached ∷ by strengths.Strong 8 slots.OfClass 4
+    by strengths.Strong 2 slots.Super 5 ∷ unreached ∷ by strengths.Strong 7 slots.OfClass 3 ∷ by strengths.Strong 5 slots.Super 6 ∷ unreached
+    ∷ by strengths.Strong 8 slots.OfClass 4
     ∷ held ∷ by strengths.Strong 6 (slots.Element 0) 1 ∷ by strengths.Strong 6 (slots.Element 1) 2 ∷ referent ∷ []
 
 pub returns-clause-weak_referent : goal.returns-clause-weak_referent
 returns-clause-weak_referent c = strengths_of (standing examples.weak_and_final_referents []) (weak_or_final (by strengths.Weak 7 (slots.Field 0) 7)) refl 9
 
 pub returns-clause-final_referent : goal.returns-clause-final_referent
-returns-clause-final_referent c = strengths_of (standing examples.weak_and_final_referents (take 1 examples.clears)) (weak_or_final (by strengths.Final 8 (slots.Field 0) 7)) refl 9
+returns-clause-final_referent c = strengths_of (standing examples.weak_and_final_referents (take 1 examples.clears))
+    (weak_or_final (by strengths.Final 8 (slots.Field 0) 7)) refl 9
 
 pub returns-clause-no_referent : goal.returns-clause-no_referent
 returns-clause-no_referent c = strengths_of (standing examples.weak_and_final_referents examples.clears) (weak_or_final unreached) refl 9

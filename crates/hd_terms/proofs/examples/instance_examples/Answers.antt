@@ -1,3 +1,5 @@
+-- Each example is a file, spelled field by field, and what it reads as: all facts of `IsSubRecord` and `Objects` on it.
+-- Lists are computed, and each number is compared.
 use Rattle.std.proofs.Common.{◌≡◌, ℕ, ◌+◌, ◌*◌, true, List, [], ◌∷◌, ◌++◌, length, map, drop, lit≤, refl, ◌∙◌, arith}
 use Rattle.std.specs.Prelude.{codes}
 use Rattle.std.specs.List.{flat_map, AllByRecursion}
@@ -8,7 +10,8 @@ use Rattle.hd_terms.specs.declared.IdSize.TheVariants as sizes
 use Rattle.hd_terms.specs.declared.RootKind.TheVariants as roots
 use Rattle.hd_terms.specs.Records.{id_len, Record, IsRecord, record_text, HasHeader, AreRecords}
 use Rattle.hd_terms.specs.Types.{is_type}
-use Rattle.hd_terms.specs.SubRecords.{SubRecord, RootOf, ClassDump, InstanceDump, ObjectArray, sub_record_text, IsSubRecord, Counted, ClassValue, ClassField, IsClassField, AreDumpSubRecords}
+use Rattle.hd_terms.specs.SubRecords.{SubRecord, RootOf, ClassDump, InstanceDump, ObjectArray, sub_record_text, IsSubRecord, Counted, ClassValue, ClassField}
+use Rattle.hd_terms.specs.SubRecords.{IsClassField, AreDumpSubRecords}
 use Rattle.hd_terms.specs.ReadFaults.{IsStuck, in_sub_records, in_classes, in_objects}
 use Rattle.hd_terms.specs.Examples.{four, two, narrow, wide}
 use Rattle.hd_terms.specs.Examples as examples
@@ -49,11 +52,13 @@ module _ (size : IdSize) (spell : ℕ → List ℕ) (long : (id : ℕ) → lengt
   root_is : (id : ℕ) → IsSubRecord size (root_sub spell id)
   root_is id = (long id, refl)
 
-  fields_are : (fields : List (ℕ × ℕ)) → AllByRecursion (λ (f : ℕ × ℕ). is_type f.1 ≡ true) fields → AllByRecursion (IsClassField size) (map (field_sub spell) fields)
+  fields_are : (fields : List (ℕ × ℕ)) → AllByRecursion (λ (f : ℕ × ℕ). is_type f.1 ≡ true) fields
+      → AllByRecursion (IsClassField size) (map (field_sub spell) fields)
   fields_are [] h = tt
   fields_are (f ∷ fs) h = (record { name = long f.0; known = h.0 }, fields_are fs h.1)
 
-  class_is : (id super : ℕ) (fields : List (ℕ × ℕ)) → length fields ≡ big_number 2 (two (length fields)) → AllByRecursion (λ (f : ℕ × ℕ). is_type f.1 ≡ true) fields
+  class_is : (id super : ℕ) (fields : List (ℕ × ℕ)) → length fields ≡ big_number 2 (two (length fields))
+      → AllByRecursion (λ (f : ℕ × ℕ). is_type f.1 ≡ true) fields
       → IsSubRecord size (class_sub spell id super fields)
   class_is id super fields many h =
       let both : length (spell 0 ++ spell 0) ≡ 2 * id_len size = omega (arith, length-append (spell 0) (spell 0), long 0) in (
@@ -73,16 +78,20 @@ module _ (size : IdSize) (spell : ℕ → List ℕ) (long : (id : ℕ) → lengt
   array_is : (id class : ℕ) (elements : List ℕ) → length elements ≡ big_number 4 (four (length elements)) → IsSubRecord size (array_sub spell id class elements)
   array_is id class elements many = (long id, refl, refl, long class, record { many = length-map elements spell ∙ many; each = elements_are elements })
 
-narrow_class : (id super : ℕ) (fields : List (ℕ × ℕ)) → length fields ≡ big_number 2 (two (length fields)) → AllByRecursion (λ (f : ℕ × ℕ). is_type f.1 ≡ true) fields → IsSubRecord sizes.Four (class_sub narrow id super fields)
+narrow_class : (id super : ℕ) (fields : List (ℕ × ℕ)) → length fields ≡ big_number 2 (two (length fields))
+    → AllByRecursion (λ (f : ℕ × ℕ). is_type f.1 ≡ true) fields → IsSubRecord sizes.Four (class_sub narrow id super fields)
 narrow_class = class_is sizes.Four narrow (λ id. refl)
 
-narrow_instance : (id class : ℕ) (values : List ℕ) → length values ≡ big_number 4 (four (length values)) → IsSubRecord sizes.Four (instance_sub narrow id class values)
+narrow_instance : (id class : ℕ) (values : List ℕ) → length values ≡ big_number 4 (four (length values))
+    → IsSubRecord sizes.Four (instance_sub narrow id class values)
 narrow_instance = instance_is sizes.Four narrow (λ id. refl)
 
-narrow_array : (id class : ℕ) (elements : List ℕ) → length elements ≡ big_number 4 (four (length elements)) → IsSubRecord sizes.Four (array_sub narrow id class elements)
+narrow_array : (id class : ℕ) (elements : List ℕ) → length elements ≡ big_number 4 (four (length elements))
+    → IsSubRecord sizes.Four (array_sub narrow id class elements)
 narrow_array = array_is sizes.Four narrow (λ id. refl)
 
-wide_class : (id super : ℕ) (fields : List (ℕ × ℕ)) → length fields ≡ big_number 2 (two (length fields)) → AllByRecursion (λ (f : ℕ × ℕ). is_type f.1 ≡ true) fields → IsSubRecord sizes.Eight (class_sub wide id super fields)
+wide_class : (id super : ℕ) (fields : List (ℕ × ℕ)) → length fields ≡ big_number 2 (two (length fields))
+    → AllByRecursion (λ (f : ℕ × ℕ). is_type f.1 ≡ true) fields → IsSubRecord sizes.Eight (class_sub wide id super fields)
 wide_class = class_is sizes.Eight wide (λ id. refl)
 
 -- a segment with a length below 65536
@@ -102,7 +111,8 @@ record IsRead (bytes : List ℕ) (size : IdSize) (subs : List SubRecord) : Type 
   bodies : AreDumpSubRecords size (segment_with subs ∷ []) (subs ∷ [])
 
 alone : (bytes : List ℕ) (size : IdSize) (subs : List SubRecord) → HasHeader size bytes → drop 31 bytes ≡ record_text (segment_with subs) ++ []
-    → length (flat_map sub_record_text subs) ≡ big_number 4 (narrow (length (flat_map sub_record_text subs))) → AllByRecursion (IsSubRecord size) subs → IsRead bytes size subs
+    → length (flat_map sub_record_text subs) ≡ big_number 4 (narrow (length (flat_map sub_record_text subs))) → AllByRecursion (IsSubRecord size) subs
+    → IsRead bytes size subs
 alone bytes size subs header whole reads each = record {
   header = header;
   whole = record { whole = whole; each = (segment_is size (flat_map sub_record_text subs) reads, tt) };
@@ -252,7 +262,13 @@ returns-clause-repeated_size_mismatch c = record {
   size = sizes.Four;
   records = segment_with repeated_size_mismatch_subs ∷ [];
   segments = repeated_size_mismatch_subs ∷ [];
-  reads = record { header = repeated_size_mismatch_read.header; whole = repeated_size_mismatch_read.whole; bodies = repeated_size_mismatch_read.bodies; classes = refl; objects = refl };
+  reads = record {
+    header = repeated_size_mismatch_read.header;
+    whole = repeated_size_mismatch_read.whole;
+    bodies = repeated_size_mismatch_read.bodies;
+    classes = refl;
+    objects = refl;
+  };
   is = refl;
 }
 
@@ -321,21 +337,33 @@ returns-clause-wide_size_mismatch c =
 -- classes that aren't there
 
 abbrev opaque_and_repeated_subs : List SubRecord
-opaque_and_repeated_subs = root_sub narrow 1 ∷ array_sub narrow 1 0x99 (2 ∷ 3 ∷ []) ∷ class_sub narrow 0x11 0 [] ∷ instance_sub narrow 2 0x11 [] ∷ instance_sub narrow 2 0x11 [] ∷ instance_sub narrow 3 0x98 (four 5) ∷ []
+opaque_and_repeated_subs = root_sub narrow 1 ∷ array_sub narrow 1 0x99 (2 ∷ 3 ∷ []) ∷ class_sub narrow 0x11 0 [] ∷ instance_sub narrow 2 0x11 []
+    ∷ instance_sub narrow 2 0x11 [] ∷ instance_sub narrow 3 0x98 (four 5) ∷ []
 
 opaque_and_repeated_read : IsRead examples.opaque_and_repeated_file sizes.Four opaque_and_repeated_subs
 opaque_and_repeated_read =
     alone examples.opaque_and_repeated_file sizes.Four opaque_and_repeated_subs
     (record { fits = lit≤ tt; long = lit≤ tt; magic = refl; id_size = refl })
-    refl refl
-    (root_is sizes.Four narrow (λ id. refl) 1, (narrow_array 1 0x99 (2 ∷ 3 ∷ []) refl, (narrow_class 0x11 0 [] refl tt, (narrow_instance 2 0x11 [] refl, (narrow_instance 2 0x11 [] refl, (narrow_instance 3 0x98 (four 5) refl, tt))))))
+    refl refl (
+      root_is sizes.Four narrow (λ id. refl) 1,
+      (
+        narrow_array 1 0x99 (2 ∷ 3 ∷ []) refl,
+        (narrow_class 0x11 0 [] refl tt, (narrow_instance 2 0x11 [] refl, (narrow_instance 2 0x11 [] refl, (narrow_instance 3 0x98 (four 5) refl, tt)))),
+      ),
+    )
 
 pub returns-clause-opaque_and_repeated : goal.returns-clause-opaque_and_repeated
 returns-clause-opaque_and_repeated c = record {
   size = sizes.Four;
   records = segment_with opaque_and_repeated_subs ∷ [];
   segments = opaque_and_repeated_subs ∷ [];
-  reads = record { header = opaque_and_repeated_read.header; whole = opaque_and_repeated_read.whole; bodies = opaque_and_repeated_read.bodies; classes = refl; objects = refl };
+  reads = record {
+    header = opaque_and_repeated_read.header;
+    whole = opaque_and_repeated_read.whole;
+    bodies = opaque_and_repeated_read.bodies;
+    classes = refl;
+    objects = refl;
+  };
   is = refl;
 }
 
@@ -364,11 +392,19 @@ named reference weak subs =
     text 0x101 reference ∷ text 0x103 weak ∷ text 0x107 (codes "referent") ∷ load 0x11 0x101 ∷ load 0x13 0x103 ∷ segment_with subs ∷ []
 
 -- all of them can be read
-named_are : (reference weak : List ℕ) (subs : List SubRecord) → 4 + length reference ≡ big_number 4 (four (4 + length reference)) → 4 + length weak ≡ big_number 4 (four (4 + length weak))
-    → length (flat_map sub_record_text subs) ≡ big_number 4 (narrow (length (flat_map sub_record_text subs))) → AllByRecursion (IsRecord sizes.Four) (named reference weak subs)
+named_are : (reference weak : List ℕ) (subs : List SubRecord) → 4 + length reference ≡ big_number 4 (four (4 + length reference))
+    → 4 + length weak ≡ big_number 4 (four (4 + length weak))
+    → length (flat_map sub_record_text subs) ≡ big_number 4 (narrow (length (flat_map sub_record_text subs)))
+    → AllByRecursion (IsRecord sizes.Four) (named reference weak subs)
 named_are reference weak subs a b reads = (
   text_is 0x101 reference a,
-  (text_is 0x103 weak b, (text_is 0x107 (codes "referent") refl, (load_is 0x11 0x101, (load_is 0x13 0x103, (segment_is sizes.Four (flat_map sub_record_text subs) reads, tt))))),
+  (
+    text_is 0x103 weak b,
+    (
+      text_is 0x107 (codes "referent") refl,
+      (load_is 0x11 0x101, (load_is 0x13 0x103, (segment_is sizes.Four (flat_map sub_record_text subs) reads, tt))),
+    ),
+  ),
 )
 
 -- a weak reference and its referent
@@ -376,7 +412,10 @@ abbrev weak_subs : List SubRecord
 weak_subs = class_sub narrow 0x11 0 ((0x107, 2) ∷ []) ∷ class_sub narrow 0x13 0x11 [] ∷ instance_sub narrow 0x21 0x13 (four 5) ∷ array_sub narrow 5 0 [] ∷ []
 
 weak_are : AllByRecursion (IsSubRecord sizes.Four) weak_subs
-weak_are = (narrow_class 0x11 0 ((0x107, 2) ∷ []) refl (refl, tt), (narrow_class 0x13 0x11 [] refl tt, (narrow_instance 0x21 0x13 (four 5) refl, (narrow_array 5 0 [] refl, tt))))
+weak_are = (
+  narrow_class 0x11 0 ((0x107, 2) ∷ []) refl (refl, tt),
+  (narrow_class 0x13 0x11 [] refl tt, (narrow_instance 0x21 0x13 (four 5) refl, (narrow_array 5 0 [] refl, tt))),
+)
 
 -- a weak reference with a field of its own, and what both refer to
 abbrev two_subs : List SubRecord
@@ -438,7 +477,11 @@ returns-clause-other_name_first c = record {
   segments = weak_subs ∷ [];
   reads = record {
     header = record { fits = lit≤ tt; long = lit≤ tt; magic = refl; id_size = refl };
-    whole = record { whole = refl; each = (load_is 0x13 0x107, named_are (codes "java/lang/ref/Reference") (codes "java/lang/ref/WeakReference") weak_subs refl refl refl) };
+    whole = record {
+      whole = refl;
+      each =
+          (load_is 0x13 0x107, named_are (codes "java/lang/ref/Reference") (codes "java/lang/ref/WeakReference") weak_subs refl refl refl);
+    };
     bodies = (record { whole = refl; each = weak_are }, tt);
     classes = refl;
     objects = refl;

@@ -1,3 +1,5 @@
+-- Each example is a dump with settled supports, whose strengths are counted by group.
+-- The counts are computed.
 use Rattle.std.proofs.Common.{ℕ, List, [], ◌∷◌, take, refl}
 use Rattle.hd_terms.specs.declared.Slot.{Slot}
 use Rattle.hd_terms.specs.declared.Slot.TheVariants as slots

@@ -8,7 +8,8 @@ pub returns-clause-told : goal.returns-clause-told
 returns-clause-told c = λ board s r a told _. never_apart board s (kept_after board s r) a told
 
 pub returns-clause-learned : goal.returns-clause-learned
-returns-clause-learned c = λ board s r a b _ member. never_apart board s (kept_after board s r) a (s.desk b).seen ((one_history board s (kept_after board s r)).seen b member).begins
+returns-clause-learned c = λ board s r a b _ member. never_apart board s (kept_after board s r) a (s.desk b).seen
+    ((one_history board s (kept_after board s r)).seen b member).begins
 
 pub returns-clause-closed : goal.returns-clause-closed
 returns-clause-closed c = λ board s r. closes board s (kept_after board s r)

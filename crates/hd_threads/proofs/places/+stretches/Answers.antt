@@ -7,7 +7,8 @@ pub stretches_from-stretch_and_rest-requires-clause-back : goal.stretches_from-s
 stretches_from-stretch_and_rest-requires-clause-back g t c κs within =
     let cut = c.split_at_mut-a in
     record {
-      each = holds_back (AcceptsAt g.F.Fn c.args.f.now) c.args.base _ c.args.s.now cut.result.0.now cut.result.1.now cut.ensures.value (omega (arith, cut.ensures.front_len)) c.requires.accepts.each;
+      each = holds_back (AcceptsAt g.F.Fn c.args.f.now) c.args.base _ c.args.s.now cut.result.0.now cut.result.1.now cut.ensures.value
+          (omega (arith, cut.ensures.front_len)) c.requires.accepts.each;
     }
 
 pub stretches_from-returns : goal.stretches_from-returns
@@ -16,5 +17,6 @@ stretches_from-returns g t c =
     let xs = cut.result.0.now in
     let ys = cut.result.1.now in
     record {
-      each = at_both (ChangesAt g.F.Fn c.args.f.now) c.args.base _ c.args.s.now xs ys c.stretch_and_rest.new.a c.stretch_and_rest.new.b cut.ensures.value c.stretch_and_rest.auto.a (omega (arith, cut.ensures.front_len)) c.stretch_and_rest.ensures.front.each c.stretch_and_rest.ensures.back.each;
+      each = at_both (ChangesAt g.F.Fn c.args.f.now) c.args.base _ c.args.s.now xs ys c.stretch_and_rest.new.a c.stretch_and_rest.new.b cut.ensures.value
+          c.stretch_and_rest.auto.a (omega (arith, cut.ensures.front_len)) c.stretch_and_rest.ensures.front.each c.stretch_and_rest.ensures.back.each;
     }

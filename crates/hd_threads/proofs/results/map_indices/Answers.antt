@@ -7,4 +7,5 @@ pub returns-clause-len : goal.returns-clause-len
 returns-clause-len g c = IfOk-weaker c.calls_from.result _ _ (λ v h. search rules) c.calls_from.ensures
 
 pub returns-clause-each : goal.returns-clause-each
-returns-clause-each g c = IfOk-weaker c.calls_from.result _ _ (λ v h i d l. (refl, record { met = gives-all g.F.Fn c.args.f.now _ v.items h i d l })) c.calls_from.ensures
+returns-clause-each g c =
+    IfOk-weaker c.calls_from.result _ _ (λ v h i d l. (refl, record { met = gives-all g.F.Fn c.args.f.now _ v.items h i d l })) c.calls_from.ensures

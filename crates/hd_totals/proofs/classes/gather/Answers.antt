@@ -25,7 +25,9 @@ loop-i-preserved c =
       | then-total-gt0+in_ok-push w ↦
           let row : ClassRow = record { group = c.group_of_key-group.result; count = c.of-total.result.count; bytes = c.of-total.result.bytes } in
           let rows_are : c.if-total-gt0.rows.items ≡ c.loop-i.rows.items ++ row ∷ [] = ap (λ v. v.items) w.rows-is ∙ w.in_ok-push.ensures.items in
-          subst (λ (rs : List ClassRow). AreRowsBefore t s (i + 1) rs) (sym rows_are) (step.1 row c.group_of_key-group.ensures.range c.group_of_key-group.ensures.key count_is (ap (λ total. total.bytes) c.of-total.ensures) (omega (arith, w.if-total-gt0.true)))
+          subst (λ (rs : List ClassRow). AreRowsBefore t s (i + 1) rs) (sym rows_are)
+          (step.1 row c.group_of_key-group.ensures.range c.group_of_key-group.ensures.key count_is (ap (λ total. total.bytes) c.of-total.ensures)
+          (omega (arith, w.if-total-gt0.true)))
       | else-total-gt0 w ↦
           let rows_are : c.if-total-gt0.rows.items ≡ c.loop-i.rows.items = ap (λ v. v.items) w.rows-is in
           subst (λ (rs : List ClassRow). AreRowsBefore t s (i + 1) rs) (sym rows_are) (step.0 (omega (arith, count_is, w.if-total-gt0.false)))

@@ -1,3 +1,5 @@
+-- One object after another: its group has one more in its row, and its page notes the group, by both buckets.
+-- There is room, since no count and no sum of bytes passes that of all objects.
 use Rattle.std.proofs.Common.{◌≡◌, ◌∙◌, ◌-◌, ◌/◌, ◌%◌, ◌≤◌, ◌^◌, inl, inr, ℕ, length, sym, ap, subst, arith}
 use Rattle.std.proofs.lemmas.Bool.{cases_lt}
 use Rattle.std.proofs.lemmas.List.{length-replicate, length-set}
@@ -50,8 +52,10 @@ loop-o-preserved c =
     let key_is : c.key_of-key.result ≡ group_key (object_at dump o).group = c.key_of-key.ensures.key ∙ ap group_key c.group_of-group.ensures in
     let put : IsRowPut t t' (group_key (object_at dump o).group) (plus_one (row_at t (group_key (object_at dump o).group)) (st o) (object_at dump o).bytes) =
     subst (λ (k : ℕ). IsRowPut t t' k (plus_one (row_at t k) (st o) (object_at dump o).bytes)) key_is
-    (subst (λ (s : Strength). IsRowPut t t' c.key_of-key.result (plus_one (row_at t c.key_of-key.result) s (object_at dump o).bytes)) c.strength-strength.ensures
-    (subst (λ (n : ℕ). IsRowPut t t' c.key_of-key.result (plus_one (row_at t c.key_of-key.result) c.strength-strength.result n)) c.bytes_of-bytes.ensures.bytes c.in_ok-places-2.ensures)) in
+    (subst (λ (s : Strength). IsRowPut t t' c.key_of-key.result (plus_one (row_at t c.key_of-key.result) s (object_at dump o).bytes))
+    c.strength-strength.ensures
+    (subst (λ (n : ℕ). IsRowPut t t' c.key_of-key.result (plus_one (row_at t c.key_of-key.result) c.strength-strength.result n)) c.bytes_of-bytes.ensures.bytes
+    c.in_ok-places-2.ensures)) in
     let range = subst InRange c.group_of-group.ensures c.key_of-key.ensures.range in
     let small = subst (λ (n : ℕ). n ≤ largest_file) c.bytes_of-bytes.ensures.bytes c.bytes_of-bytes.ensures.small in
     record {
@@ -59,7 +63,8 @@ loop-o-preserved c =
       room = c.note.ensures.count ∙ c.loop-o.invariant.room;
       places = length-set c.loop-o.places.items (c.buckets_of-buckets.result.0 % 256) c.in_ok-places-2.field-0 ∙ c.loop-o.invariant.places;
       noted = λ x le lt. elim (cases_lt x o) [
-        | inl earlier ↦ c.note.ensures.kept (page_of x - page_of c.args.start) (object_at dump x).group (object_at dump x).id (c.loop-o.invariant.noted x le earlier)
+        | inl earlier ↦ c.note.ensures.kept (page_of x - page_of c.args.start) (object_at dump x).group (object_at dump x).id
+            (c.loop-o.invariant.noted x le earlier)
         | inr last ↦
             let same : x ≡ o = omega (arith, lt, last) in
             let page : (o - c.args.start) / 1024 ≡ page_of o - page_of c.args.start = omega (arith, c.requires.page, c.requires.order) in
@@ -81,7 +86,8 @@ returns c =
     let dump = c.args.graph.now in
     let end : c.loop-o.o ≡ c.args.end = omega arith in
     record {
-      counted = subst (λ (k : ℕ). AreTotalsBetween dump (strength_in c.args.supports.now) c.args.start k (record { keys = c.loop-o.keys; rows = c.loop-o.rows.items })) end c.loop-o.invariant.totals;
+      counted = subst (λ (k : ℕ). AreTotalsBetween dump (strength_in c.args.supports.now) c.args.start k
+          (record { keys = c.loop-o.keys; rows = c.loop-o.rows.items })) end c.loop-o.invariant.totals;
       room = c.loop-o.invariant.room;
       noted = subst (λ (k : ℕ). AreNotedBetween dump c.args.start k c.loop-o.pages) end c.loop-o.invariant.noted;
     }

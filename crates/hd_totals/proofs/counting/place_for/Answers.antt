@@ -9,7 +9,8 @@ returns-in_ok-push c =
     let keys = c.args.keys.now in
     let rows = c.args.rows.now.items in
     let rows_are : c.push.new.self.items ≡ rows ++ no_totals ∷ [] = c.in_ok-push.ensures.items ∙ ap (λ (x : StrengthTotals). rows ++ x ∷ []) c.none.ensures in
-    is-placed keys rows c.requires.whole c.args.key c.add.new.self c.push.new.self.items c.in_ok-index.index c.in_ok-index.ensures.keys c.in_ok-index.ensures.index
+    is-placed keys rows c.requires.whole c.args.key c.add.new.self c.push.new.self.items c.in_ok-index.index c.in_ok-index.ensures.keys
+    c.in_ok-index.ensures.index
     (λ e. rows_are) (λ ne. absurd (ne (omega (arith, c.if-index-len.true, c.len.ensures, c.args.rows.now.ok))))
 
 pub returns-else-index-len : goal.returns-else-index-len

@@ -10,4 +10,5 @@ pub returns : goal.returns
 returns c = λ before after h same.
     let changes = c.args.changes.now in
     let all : length changes ≤ c.loop-change.change-index = omega arith in
-    c.loop-change.invariant ∙ ap (count_by (λ (d : StrengthChange). falls_to d.before d.after)) (take_all c.loop-change.change-index changes all) ∙ sym (fallen-counted before after changes h same)
+    c.loop-change.invariant ∙ ap (count_by (λ (d : StrengthChange). falls_to d.before d.after)) (take_all c.loop-change.change-index changes all)
+    ∙ sym (fallen-counted before after changes h same)

@@ -1,3 +1,5 @@
+-- Keys stand for groups, one for each: sorting moves them and `dedup` leaves each once, so what is left has the same keys.
+-- A list of numbers in order without repeats rises, and so do the keys of its groups.
 use Rattle.std.proofs.Common.{◌≡◌, ◌∙◌, ◌≤◌, map, sym, subst}
 use Rattle.std.specs.List.Sorted.{IsStrictlyIncreasing}
 use Rattle.std.proofs.lemmas.List.Filters.{dedup_is}

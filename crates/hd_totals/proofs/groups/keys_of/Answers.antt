@@ -21,5 +21,6 @@ loop-group-preserved c =
           ∙ ap (λ (key : ℕ). map group_key (take i gs) ++ key ∷ []) c.key_of.ensures.key
           ∙ sym (ap (map group_key) more ∙ map-append group_key (take i gs) (group ∷ []));
       range = subst (All InRange) (sym more) (All-push InRange (take i gs) group c.loop-group.invariant.range c.key_of.ensures.range);
-      small = subst (All (λ key. key ≤ 18446744073709551872)) (sym c.in_ok-push.ensures.items) (All-push (λ key. key ≤ 18446744073709551872) c.loop-group.keys.items c.key_of.result c.loop-group.invariant.small c.key_of.ensures.small);
+      small = subst (All (λ key. key ≤ 18446744073709551872)) (sym c.in_ok-push.ensures.items)
+          (All-push (λ key. key ≤ 18446744073709551872) c.loop-group.keys.items c.key_of.result c.loop-group.invariant.small c.key_of.ensures.small);
     }

@@ -7,7 +7,8 @@ use Rattle.hd_view.proofs.finding.edge_count.Goals as goal
 use Rattle.hd_view.proofs.finding.edge_count.Goals.{then-is_some, else-is_some}
 
 pub overflow_add-edges : goal.overflow_add-edges
-overflow_add-edges c = omega (arith, c.loop-i.invariant, edges_le c.args.graph.now c.args.o c.loop-i.i (omega (arith, c.loop-i-test.true, c.slots_len-i-end.ensures)))
+overflow_add-edges c = omega
+    (arith, c.loop-i.invariant, edges_le c.args.graph.now c.args.o c.loop-i.i (omega (arith, c.loop-i-test.true, c.slots_len-i-end.ensures)))
 
 pub loop-i-preserved : goal.loop-i-preserved
 loop-i-preserved c =

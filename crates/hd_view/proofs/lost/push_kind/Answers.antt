@@ -7,7 +7,8 @@ use Rattle.hd_view.proofs.lost.push_kind.Goals as goal
 
 pub returns-then-clears-clause-all : goal.returns-then-clears-clause-all
 returns-then-clears-clause-all c =
-    none_stood c.args.more.graph.now c.args.more.front.now c.args.less.front.now c.args.more.removed.now c.args.kind c.clears.result c.args.items.now.items c.requires.more
+    none_stood c.args.more.graph.now c.args.more.front.now c.args.less.front.now c.args.more.removed.now c.args.kind c.clears.result c.args.items.now.items
+    c.requires.more
     (c.clears.ensures ∙ ap (is_cleared c.args.more.removed.now.cleared) c.edge_kind.ensures) c.if-clears.true
 
 pub push_edge-requires-clause-object : goal.push_edge-requires-clause-object
@@ -27,7 +28,8 @@ loop-j-preserved c =
     let adds = c.in_ok-push_edge.ensures.adds in
     let (e, at, is) = c.kind_edge-o.ensures in (
       adds_more dump more less c.args.items.now.items before after c.loop-j.invariant.0 adds,
-      next_of_kind dump more less c.args.kind c.loop-j.j c.kind_edge-o.result.0 c.kind_edge-o.result.1 e before after at (sym (ap (λ (p : ℕ × Slot). p.0) is)) (sym (ap (λ (p : ℕ × Slot). p.1) is)) adds c.in_ok-push_edge.ensures.all c.loop-j.invariant.1,
+      next_of_kind dump more less c.args.kind c.loop-j.j c.kind_edge-o.result.0 c.kind_edge-o.result.1 e before after at (sym (ap (λ (p : ℕ × Slot). p.0) is))
+          (sym (ap (λ (p : ℕ × Slot). p.1) is)) adds c.in_ok-push_edge.ensures.all c.loop-j.invariant.1,
     )
 
 pub returns-clause-all : goal.returns-clause-all

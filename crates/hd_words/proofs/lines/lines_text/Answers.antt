@@ -14,7 +14,10 @@ returns-clause-lines g c =
     let most = c.args.most in
     c.in_ok-put_lines.ensures.lines
     ∙ ap (λ (text : List ℕ). text ++ flat_map with_newline (map line (take c.count_of-count.result rows))) c.in_ok-put_count.ensures
-    ∙ ap (λ (text : List ℕ). (text ++ with_newline (codes "ok " ++ decimal c.count_of-count.result)) ++ flat_map with_newline (map line (take c.count_of-count.result rows))) c.new-text.ensures.bytes
+    ∙ ap (λ (text : List ℕ). (text ++ with_newline (codes "ok " ++ decimal c.count_of-count.result))
+    ++ flat_map with_newline (map line (take c.count_of-count.result rows))) c.new-text.ensures.bytes
     ∙ ap (λ (n : ℕ). with_newline (codes "ok " ++ decimal n) ++ flat_map with_newline (map line (take n rows))) c.count_of-count.ensures
-    ∙ ap (λ (n : ℕ). with_newline (codes "ok " ++ decimal n) ++ flat_map with_newline (map line (take (first_count (length rows) most) rows))) (count-of-first line most rows)
-    ∙ ap (λ (lines : List (List ℕ)). with_newline (codes "ok " ++ decimal (length (first_items most (map line rows)))) ++ flat_map with_newline lines) (lines-of-first line most rows)
+    ∙ ap (λ (n : ℕ). with_newline (codes "ok " ++ decimal n) ++ flat_map with_newline (map line (take (first_count (length rows) most) rows)))
+    (count-of-first line most rows)
+    ∙ ap (λ (lines : List (List ℕ)). with_newline (codes "ok " ++ decimal (length (first_items most (map line rows)))) ++ flat_map with_newline lines)
+    (lines-of-first line most rows)

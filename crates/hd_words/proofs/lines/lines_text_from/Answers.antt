@@ -22,7 +22,8 @@ returns-clause-lines g c =
           (ap string_bytes w.text-is
           ∙ w.in_ok-put_lines.ensures.lines
           ∙ ap (λ (text : List ℕ). text ++ flat_map with_newline (map line (take (count - 1) rows)))
-          (w.in_ok-push.ensures.bytes ∙ ap (λ (newline : List ℕ). string_bytes w.push_str.new.self ++ newline) (w.in_ok-push.ensures.ascii (lit< tt)) ∙ ap (λ (text : List ℕ). text ++ 10 ∷ []) w.in_ok-push_str.ensures.bytes ∙ ap (λ (text : List ℕ). (text ++ start) ++ 10 ∷ []) begun))
+          (w.in_ok-push.ensures.bytes ∙ ap (λ (newline : List ℕ). string_bytes w.push_str.new.self ++ newline) (w.in_ok-push.ensures.ascii (lit< tt))
+          ∙ ap (λ (text : List ℕ). text ++ 10 ∷ []) w.in_ok-push_str.ensures.bytes ∙ ap (λ (text : List ℕ). (text ++ start) ++ 10 ∷ []) begun))
       | else-count-gt0 w ↦
           written-without-line line start rows most count counted (string_bytes c.if-count-gt0.text) (omega (arith, w.if-count-gt0.false))
           (ap string_bytes w.text-is ∙ begun)

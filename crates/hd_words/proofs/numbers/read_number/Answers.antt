@@ -5,7 +5,8 @@ use Rattle.hd_words.proofs.numbers.read_number.Goals as goal
 
 pub returns-in_default-clause-number : goal.returns-in_default-clause-number
 returns-in_default-clause-number c =
-    digit_none c.args.base c.args.digits.now c.loop-byte.number c.loop-byte.byte-index c.loop-byte-test.true c.loop-byte.invariant.rest (sym c.digit_of.ensures.value ∙ c.in_default.is)
+    digit_none c.args.base c.args.digits.now c.loop-byte.number c.loop-byte.byte-index c.loop-byte-test.true c.loop-byte.invariant.rest
+    (sym c.digit_of.ensures.value ∙ c.in_default.is)
 
 pub overflow_mul-number : goal.overflow_mul-number
 overflow_mul-number c =
@@ -26,6 +27,7 @@ loop-byte-preserved c =
     let grown = least_growth c.args.base c.loop-byte.number c.in-Some.digit c.requires.base c.in-Some.ensures.small in
     let grows = digits_grow c.loop-byte.number c.loop-byte.byte-index 15 c.loop-byte.invariant.small (omega arith) in
     record {
-      rest = digit_next c.args.base c.args.digits.now c.loop-byte.number c.loop-byte.byte-index c.loop-byte-test.true c.loop-byte.invariant.rest c.in-Some.digit (sym c.digit_of.ensures.value ∙ c.in-Some.is);
+      rest = digit_next c.args.base c.args.digits.now c.loop-byte.number c.loop-byte.byte-index c.loop-byte-test.true c.loop-byte.invariant.rest c.in-Some.digit
+          (sym c.digit_of.ensures.value ∙ c.in-Some.is);
       small = omega (arith, grown, grows);
     }

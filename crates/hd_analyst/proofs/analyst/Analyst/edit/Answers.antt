@@ -14,6 +14,8 @@ returns g c =
       | in-Ok w ↦ ap edit_answer w.in-Ok.is ∙ sym w.result-is
       | in-Err w ↦ ap edit_answer w.in-Err.is ∙ cc
     ] in
-    subst (EditEnds c.args.self.now (work_of (with_desk c.self.inside c.edit-ended.new.self)) (unless_refused (edit_refusal c.args.self.now.analyst.dump c.args.edit) (whats.Do c.args.edit))) is
-    (edit_ends c.args.self.now c.self.inside c.board_in-board.result.now c.edit-ended.new.self c.args.edit c.edit-ended.result c.self.view_is c.board_in-board.ensures c.self.invariant.part
+    subst (EditEnds c.args.self.now (work_of (with_desk c.self.inside c.edit-ended.new.self))
+    (unless_refused (edit_refusal c.args.self.now.analyst.dump c.args.edit) (whats.Do c.args.edit))) is
+    (edit_ends c.args.self.now c.self.inside c.board_in-board.result.now c.edit-ended.new.self c.args.edit c.edit-ended.result c.self.view_is
+    c.board_in-board.ensures c.self.invariant.part
     c.edit-ended.ensures.ok c.edit-ended.ensures.err c.lawful_seen.ensures)

@@ -12,7 +12,8 @@ use Rattle.hd_analyst.proofs.analyst.Analyst.go_back.Goals as goal
 abbrev gone : Inside → PrivatePart → Option PrivatePart → Inside
 gone a part private = record a { desk = part.home; private = private }
 
-goes_back : (old : Work) (a : Inside) (part : PrivatePart) (private : Option PrivatePart) (k : ℕ) → work_of a ≡ old → IsPartOf a.desk a.private → Some part ≡ a.private → private ≡ None
+goes_back : (old : Work) (a : Inside) (part : PrivatePart) (private : Option PrivatePart) (k : ℕ) → work_of a ≡ old → IsPartOf a.desk a.private
+    → Some part ≡ a.private → private ≡ None
     → k ≡ length a.desk.seen - length part.home.seen → GoesBack old (work_of (gone a part private)) k
 goes_back old a part private k view inv was none is =
     let p : IsPartOf a.desk (Some part) = subst (IsPartOf a.desk) (sym was) inv in
@@ -31,4 +32,5 @@ pub returns : goal.returns
 returns c =
     let k : c.saturating_sub.result ≡ length c.self.inside.desk.seen - length c.in-Some.part.home.seen =
     cc (c.saturating_sub.ensures, c.len-events.ensures.len, c.len-begun.ensures.len, c.seen.ensures, c.seen-2.ensures) in
-    goes_back c.args.self.now c.self.inside c.in-Some.part c.take.new.self c.saturating_sub.result c.self.view_is c.self.invariant.part c.in-Some.ensures.value c.in-Some.ensures.after k
+    goes_back c.args.self.now c.self.inside c.in-Some.part c.take.new.self c.saturating_sub.result c.self.view_is c.self.invariant.part c.in-Some.ensures.value
+    c.in-Some.ensures.after k

@@ -1,3 +1,5 @@
+-- The desk takes the undo of a number, or of the last own edit: two cases of one end, `undo_ends`.
+-- `put` only says such an end in other words.
 use Rattle.std.proofs.Common.{◌≡◌, ◌∙◌, ℕ, Option, None, Some, Result, sym, ap, subst}
 use Rattle.hd_lines.specs.Asking.{undo_asked}
 use Rattle.hd_terms.specs.Log.{IsLawful}
@@ -26,12 +28,15 @@ returns g c =
       | in-Err w ↦ cc (ap undo_answer w.in-Err.is)
     ] in
     elim c.match-number.branch [
-      | in-Some w ↦ put c.args.self.now c.match-number.self-inside (with_desk c.self.inside w.undo-ended.new.self) c.args.number (Some w.in-Some.number) c.match-ended.result
+      | in-Some w ↦ put c.args.self.now c.match-number.self-inside (with_desk c.self.inside w.undo-ended.new.self) c.args.number
+          (Some w.in-Some.number) c.match-ended.result
           (undo_answer w.undo-ended.result) w.self-inside-is w.in-Some.is (is ∙ ap undo_answer w.ended-is)
-          (undo_ends c.args.self.now c.self.inside c.board_in-board.result.now w.undo-ended.new.self w.in-Some.number w.undo-ended.result c.self.view_is c.board_in-board.ensures c.self.invariant.part
+          (undo_ends c.args.self.now c.self.inside c.board_in-board.result.now w.undo-ended.new.self w.in-Some.number w.undo-ended.result c.self.view_is
+          c.board_in-board.ensures c.self.invariant.part
           w.undo-ended.ensures.ok w.undo-ended.ensures.err (subst (λ (i : Inside). IsLawful i.desk.seen) w.self-inside-is c.lawful_seen.ensures))
       | in-None w ↦ put c.args.self.now c.match-number.self-inside (with_desk c.self.inside w.undo_last-ended.new.self) c.args.number None c.match-ended.result
           (undo_answer w.undo_last-ended.result) w.self-inside-is w.in-None.is (is ∙ ap undo_answer w.ended-is)
-          (last_ends c.args.self.now c.self.inside c.board_in-board.result.now w.undo_last-ended.new.self w.undo_last-ended.result c.self.view_is c.board_in-board.ensures c.self.invariant.part
+          (last_ends c.args.self.now c.self.inside c.board_in-board.result.now w.undo_last-ended.new.self w.undo_last-ended.result c.self.view_is
+          c.board_in-board.ensures c.self.invariant.part
           w.undo_last-ended.ensures.ok w.undo_last-ended.ensures.err (subst (λ (i : Inside). IsLawful i.desk.seen) w.self-inside-is c.lawful_seen.ensures))
     ]

@@ -1,3 +1,5 @@
+-- The log that the lock gives up is compared with what each desk has seen, and with the board's numbers.
+-- The first thing that differs is the fault; where nothing does, the board closes with these desks.
 use Rattle.std.proofs.Common.{◌≡◌, ℕ, List, map, drop, inr, subst, sym}
 use Rattle.std.specs.List.{All}
 use Rattle.hd_terms.specs.declared.Event.{Event}
@@ -18,7 +20,11 @@ returns-then-not-all_find-clause-err c =
     let found : IsMismatch board log (map numbered desks) = elim c.then-not-all_find.branch [
       | then-not-all_find-via-then-not-all_find w ↦ desk_differs board log desks w.if-not-all_find.ensures
       | then-not-all_find-via-else-not-all_find+then-not-are_members w ↦ inr (λ ours.
-          absurd (cc (w.are_members.ensures.members.1 (subst (λ (n : ℕ). All (is_ours board.numbers) (drop n log)) (sym w.len.ensures.len) ours), w.if-not-are_members.true)))
+          absurd (cc (
+            w.are_members.ensures.members.1
+                (subst (λ (n : ℕ). All (is_ours board.numbers) (drop n log)) (sym w.len.ensures.len) ours),
+            w.if-not-are_members.true,
+          )))
     ] in
     subst (λ (b : Board). IsMismatch b log (map numbered desks)) is found
 
@@ -28,7 +34,8 @@ returns-then-not-has_all-clause-err c =
     let is : board ≡ c.args.self = c.self.view_is in
     let log : List Event = c.into_inner-log.result in
     let desks : List Replica = c.args.desks.now in
-    let ours : AreMembers board log = subst (λ (n : ℕ). All (is_ours board.numbers) (drop n log)) c.len.ensures.len (c.are_members.ensures.members.0 c.if-not-are_members.false) in
+    let ours : AreMembers board log = subst (λ (n : ℕ). All (is_ours board.numbers) (drop n log)) c.len.ensures.len
+    (c.are_members.ensures.members.0 c.if-not-are_members.false) in
     subst (λ (b : Board). (IsMismatch b log (map numbered desks) → ⊥) × IsMissingDesk b (map numbered desks)) is
     (no_mismatch board log desks c.if-not-all_find.ensures ours, no_desk board desks c.if-not-has_all.ensures)
 
@@ -38,5 +45,6 @@ returns-clause-ok c =
     let is : board ≡ c.args.self = c.self.view_is in
     let log : List Event = c.into_inner-log.result in
     let desks : List Replica = c.args.desks.now in
-    let ours : AreMembers board log = subst (λ (n : ℕ). All (is_ours board.numbers) (drop n log)) c.len.ensures.len (c.are_members.ensures.members.0 c.if-not-are_members.false) in
+    let ours : AreMembers board log = subst (λ (n : ℕ). All (is_ours board.numbers) (drop n log)) c.len.ensures.len
+    (c.are_members.ensures.members.0 c.if-not-are_members.false) in
     subst (λ (b : Board). Closes b log (map numbered desks)) is (closes board log desks c.if-not-all_find.ensures ours c.if-not-has_all.ensures)

@@ -10,7 +10,8 @@ returns-in_err-done-clause-err c =
     let d = replica_of c.self.inside in
     let len : (c.len-last.result - 1) + 1 ≡ length log = omega (arith, c.requires.longer, c.len-last.ensures.len) in
     on_err c.from_residual-in_err-done.result c.from_residual-in_err-done.ensures.0
-    (one_behind old (seeing d log) c.step_to.new.self c.step_once.new.self log (c.len-last.result - 1) (sees_log old d log c.self.view_is) c.requires.begins c.in_ok-step_to.ensures.ok c.in_err-done.ensures.err c.requires.longer len)
+    (one_behind old (seeing d log) c.step_to.new.self c.step_once.new.self log (c.len-last.result - 1)
+    (sees_log old d log c.self.view_is) c.requires.begins c.in_ok-step_to.ensures.ok c.in_err-done.ensures.err c.requires.longer len)
 
 pub returns-clause-ok : goal.returns-clause-ok
 returns-clause-ok c =
@@ -18,4 +19,5 @@ returns-clause-ok c =
     let log = c.args.log in
     let d = replica_of c.self.inside in
     let len : (c.len-last.result - 1) + 1 ≡ length log = omega (arith, c.requires.longer, c.len-last.ensures.len) in
-    comes old (seeing d log) c.step_to.new.self c.step_once.new.self log (c.len-last.result - 1) c.in_ok-done.done (sees_log old d log c.self.view_is) c.in_ok-step_to.ensures.ok c.in_ok-done.ensures.ok len
+    comes old (seeing d log) c.step_to.new.self c.step_once.new.self log (c.len-last.result - 1) c.in_ok-done.done
+    (sees_log old d log c.self.view_is) c.in_ok-step_to.ensures.ok c.in_ok-done.ensures.ok len

@@ -11,4 +11,5 @@ loop-alloc-preserved c =
     let at = c.len.ensures.len ∙ ap length c.front.ensures in
     let lt : length c.self.inside.state.log < c.args.count = omega (arith, at) in
     let before : length c.loop-alloc.self.front < c.args.count = omega (arith, lt, ap (λ (d : Replica). length d.front) c.self.view_is) in
-    goes_on c.args.self.now c.loop-alloc.self c.step_once.new.self c.args.count c.in_ok-step_once.field-0 c.loop-alloc.invariant before c.in_ok-step_once.ensures.ok
+    goes_on c.args.self.now c.loop-alloc.self c.step_once.new.self c.args.count c.in_ok-step_once.field-0 c.loop-alloc.invariant before
+    c.in_ok-step_once.ensures.ok

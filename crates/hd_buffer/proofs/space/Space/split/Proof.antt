@@ -40,7 +40,9 @@ split_spec 𝓤 𝓛 𝓜 𝓡 wired =
     let held : Clauses 𝓤 F.ended = F.clauses 𝓛 𝓜.mem 𝓡.returns in
     let C = (tables 𝓤 H 𝓜 𝓡 𝓡.env).C in
     let Λ = (tables 𝓤 H 𝓜 𝓡 𝓡.env).Λ in
-    proved_at 𝓛 F.ended stayed held 𝓜 𝓡 (Goes-blank 𝓛 0 (plain (λ _. Space.the_row)) yes (λ κs x f. tt), (Goes-blank 𝓛 0 (plain (λ _. usize)) yes (λ κs x f. tt), tt)) #self fn (code.unfolded 𝓤 H 𝓜 𝓡 wired) (λ z _.
+    proved_at 𝓛 F.ended stayed held 𝓜 𝓡
+    (Goes-blank 𝓛 0 (plain (λ _. Space.the_row)) yes (λ κs x f. tt), (Goes-blank 𝓛 0 (plain (λ _. usize)) yes (λ κs x f. tt), tt)) #self fn
+    (code.unfolded 𝓤 H 𝓜 𝓡 wired) (λ z _.
     let Post : Val → SProp 𝓤 = (walk_of 𝓛 F.ended stayed held).post z in
     let toks : SProp 𝓤 = alive 𝓛 F.ended.signature z.0.0 z.0.1 in
     let a = z.0.3 in

@@ -8,7 +8,11 @@ returns-in_err-known-clause-err c =
     rw (p.1, p.2) (fault-of_file c.args.bytes.now c.args.records.now c.args.list.now c.in_ok-source.source c.in_ok-source.ensures _ c.in_err-known.ensures.err)
 
 pub returns-clause-ok : goal.returns-clause-ok
-returns-clause-ok c = rw c.in_ok-classes.ensures (classes-of_file c.args.bytes.now c.args.records.now c.args.list.now c.in_ok-source.source c.in_ok-source.ensures c.in_ok-known.known.entries c.in_ok-known.ensures.ok)
+returns-clause-ok c = rw c.in_ok-classes.ensures
+    (classes-of_file c.args.bytes.now c.args.records.now c.args.list.now c.in_ok-source.source c.in_ok-source.ensures c.in_ok-known.known.entries
+    c.in_ok-known.ensures.ok)
 
 pub returns-clause-no_cycle : goal.returns-clause-no_cycle
-returns-clause-no_cycle c = no-faults c.args.bytes.now c.args.records.now c.args.list.now c.in_ok-source.source c.in_ok-source.ensures c.in_ok-known.known.entries c.in_ok-known.ensures.ok
+returns-clause-no_cycle c =
+    no-faults c.args.bytes.now c.args.records.now c.args.list.now c.in_ok-source.source c.in_ok-source.ensures c.in_ok-known.known.entries
+    c.in_ok-known.ensures.ok

@@ -9,10 +9,12 @@ use Rattle.hd_classes.proofs.classes.Classes.chain.Goals as goal
 pub returns-in-Some : goal.returns-in-Some
 returns-in-Some c =
     ap (λ (k : Known). chain_at k c.args.id) (sym c.self.view_is)
-    ∙ ap (option_map (λ (x : ResolvedClass). x.chain)) (known-number c.self.inside.known.entries c.args.id c.in-Some.i c.in-Some.ensures.index c.in-Some.ensures.within)
+    ∙ ap (option_map (λ (x : ResolvedClass). x.chain))
+    (known-number c.self.inside.known.entries c.args.id c.in-Some.i c.in-Some.ensures.index c.in-Some.ensures.within)
     ∙ ap Some (sym c.new.ensures)
 
 pub returns-in-None : goal.returns-in-None
 returns-in-None c =
     ap (λ (k : Known). chain_at k c.args.id) (sym c.self.view_is)
-    ∙ ap (option_map (λ (x : ResolvedClass). x.chain)) (none-known c.self.inside.known.entries c.args.id (sym (none-from_is_some _ (sym c.in-None.ensures.found))))
+    ∙ ap (option_map (λ (x : ResolvedClass). x.chain))
+    (none-known c.self.inside.known.entries c.args.id (sym (none-from_is_some _ (sym c.in-None.ensures.found))))

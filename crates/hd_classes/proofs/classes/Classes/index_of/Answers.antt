@@ -15,7 +15,8 @@ returns c =
     let rows = c.self.inside.known.entries in
     let test = λ (x : ℕ). eqb c.args.id x in
     let entry : slice_get rows c.number-guess.result ≡ Some (c.in-Some.guessed.now, c.in-Some.field-0-1.now) =
-    sym (ap (λ (es : _). slice_get es c.number-guess.result) c.as_slice-known.ensures.entries) ∙ sym c.get_index.ensures.entry ∙ ap (option_map (λ (p : _). (p.0.now, p.1.now))) c.in-Some.is in
+    sym (ap (λ (es : _). slice_get es c.number-guess.result) c.as_slice-known.ensures.entries) ∙ sym c.get_index.ensures.entry
+    ∙ ap (option_map (λ (p : _). (p.0.now, p.1.now))) c.in-Some.is in
     let key = key-at rows c.number-guess.result _ entry in
     sym (position-of-place (keys_of rows) c.args.id c.number-guess.result c.as_slice-known.ensures.unique key.0 (key.1 ∙ c.if-guessed-id.true))
     ∙ ap (position test) (sym (views-keys rows []))

@@ -11,5 +11,6 @@ returns-in-Some c = kind-of c.self.inside.known.entries c.args.id _ c.in-Some.en
 
 pub returns-in-None : goal.returns-in-None
 returns-in-None c =
-    sym (ap (λ (o : Option ResolvedClass). option_map_or (λ (x : ResolvedClass). x.kind) o kinds.Strong) (none-known c.self.inside.known.entries c.args.id c.in-None.ensures.value))
+    sym (ap (λ (o : Option ResolvedClass). option_map_or (λ (x : ResolvedClass). x.kind) o kinds.Strong)
+    (none-known c.self.inside.known.entries c.args.id c.in-None.ensures.value))
     ∙ ap (λ (k : Known). kind_at k c.args.id) c.self.view_is

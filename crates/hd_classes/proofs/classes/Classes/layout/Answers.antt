@@ -13,8 +13,10 @@ returns-in-Some c =
     let rows = c.self.inside.known.entries in
     let at = c.in-Some.ensures.entry in
     ap (λ (k : Known). layout_at k c.args.id) (sym c.self.view_is)
-    ∙ ap (option_map (λ (x : ResolvedClass). x.layout)) (known-number rows c.args.id c.in-Some.i c.in-Some.ensures.index (slice_get_within rows c.in-Some.i _ at))
-    ∙ ap Some (sym (c.new.ensures ∙ ap (λ (n : Option ℕ). (numbered (views rows) n).layout) c.first_declaring.ensures ∙ first-layout rows c.self.invariant c.in-Some.i _ at))
+    ∙ ap (option_map (λ (x : ResolvedClass). x.layout))
+    (known-number rows c.args.id c.in-Some.i c.in-Some.ensures.index (slice_get_within rows c.in-Some.i _ at))
+    ∙ ap Some (sym (c.new.ensures ∙ ap (λ (n : Option ℕ). (numbered (views rows) n).layout) c.first_declaring.ensures
+    ∙ first-layout rows c.self.invariant c.in-Some.i _ at))
 
 pub returns-in-None : goal.returns-in-None
 returns-in-None c =

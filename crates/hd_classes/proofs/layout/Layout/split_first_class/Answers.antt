@@ -18,8 +18,10 @@ returns-in-Some-get_index c =
     sym c.self.view_is
     ∙ ap (λ (n : Option ℕ). (numbered (views rows) n).layout) c.in-Some.is
     ∙ layout-here rows c.self.invariant.linked c.in-Some.number _ at
-    ∙ ap (λ (fs : List declared_field.LayoutField). map field_view fs ++ (numbered (views rows) c.in-Some-get_index.class.now.fields_above).layout) (sym c.as_slice.ensures.value)
+    ∙ ap (λ (fs : List declared_field.LayoutField). map field_view fs ++ (numbered (views rows) c.in-Some-get_index.class.now.fields_above).layout)
+    (sym c.as_slice.ensures.value)
     ∙ ap (λ (fs : List LayoutField). map field_view own ++ fs) (sym c.new.ensures) in
     let declares : Declares rows (Some c.in-Some.number) = subst (λ (n : Option ℕ). Declares rows n) c.in-Some.is c.self.invariant.declares in
-    let some : 0 < length own = subst (λ (fs : List declared_field.LayoutField). 0 < length fs) (fields-here rows c.self.invariant.linked c.in-Some.number _ at ∙ sym c.as_slice.ensures.value) declares in
+    let some : 0 < length own = subst (λ (fs : List declared_field.LayoutField). 0 < length fs) (fields-here rows c.self.invariant.linked c.in-Some.number _ at
+    ∙ sym c.as_slice.ensures.value) declares in
     (whole, rest-shorter own c.new.result c.args.self whole some)

@@ -12,4 +12,8 @@ pub returns : goal.returns
 returns g c =
     let even = rw c.in_ok-even.was at c.join-even.ensures.first in
     let odd = rw c.in_ok-odd.was at c.join-even.ensures.second in
-    rw c.new.ensures record { texts = both-texts c.args.strings.now _ _ even.texts odd.texts; repeated = both-counts c.args.strings.now _ _ even.count odd.count }
+    rw c.new.ensures record {
+      texts = both-texts c.args.strings.now _ _ even.texts odd.texts;
+      repeated =
+          both-counts c.args.strings.now _ _ even.count odd.count;
+    }

@@ -12,14 +12,16 @@ pub returns-then-is_referent : goal.returns-then-is_referent
 returns-then-is_referent c =
     let passes : LayoutField → Bool = λ (f : LayoutField). is_referent (table_of c.args.self.now) (field_view f) in
     sym (position-map field_view (is_referent (table_of c.args.self.now)) c.args.layout.now
-    ∙ position-is passes c.args.layout.now c.loop-i.i _ (slice_get-get_or c.args.layout.now c.loop-i.i _ (omega arith)) (sym c.is_referent.ensures ∙ c.if-is_referent.true) c.loop-i.invariant)
+    ∙ position-is passes c.args.layout.now c.loop-i.i _ (slice_get-get_or c.args.layout.now c.loop-i.i _ (omega arith))
+    (sym c.is_referent.ensures ∙ c.if-is_referent.true) c.loop-i.invariant)
 
 pub loop-i-preserved : goal.loop-i-preserved
 loop-i-preserved c = λ k f lt is.
     let t = table_of c.args.self.now in
     let P : ℕ → Type 0 = λ (n : ℕ). (g : LayoutField) → slice_get c.args.layout.now n ≡ Some g → is_referent t (field_view g) ≡ false in
     below_more P c.loop-i.i (λ n below g at. c.loop-i.invariant n g below at)
-    (λ g at. ap (λ (x : LayoutField). is_referent t (field_view x)) (sym (get_or_from_slice_get c.args.layout.now c.loop-i.i g _ at)) ∙ sym c.is_referent.ensures ∙ c.if-is_referent.false) k lt f is
+    (λ g at. ap (λ (x : LayoutField). is_referent t (field_view x)) (sym (get_or_from_slice_get c.args.layout.now c.loop-i.i g _ at))
+    ∙ sym c.is_referent.ensures ∙ c.if-is_referent.false) k lt f is
 
 pub returns : goal.returns
 returns c =

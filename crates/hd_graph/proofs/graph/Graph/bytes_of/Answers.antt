@@ -21,11 +21,13 @@ returns-clause-bytes c =
     let a = c.self.inside in
     let lt : c.args.o < length (row_objects a.shapes.objects a.slot_table.ids a.slot_table.rows) = rw (← c.self.view_is) at c.requires in
     let few = length-row_objects a.shapes.objects a.slot_table.ids a.slot_table.rows c.self.invariant.columns in
-    let is : get_or a.shapes.objects c.args.o any_shape ≡ shape_view c.get.result = get_or_from_slice_get a.shapes.objects c.args.o (shape_view c.get.result) any_shape c.get.ensures in
+    let is : get_or a.shapes.objects c.args.o any_shape ≡ shape_view c.get.result =
+    get_or_from_slice_get a.shapes.objects c.args.o (shape_view c.get.result) any_shape c.get.ensures in
     c.from.ensures
     ∙ c.recorded_bytes.ensures
     ∙ ap (λ (s : ObjectShape). shape_bytes s) (sym is)
-    ∙ sym (ap (λ (x : Object). x.bytes) (row_objects-at a.shapes.objects a.slot_table.ids a.slot_table.rows c.self.invariant.columns any_shape c.args.o (omega (arith, few))))
+    ∙ sym (ap (λ (x : Object). x.bytes) (row_objects-at a.shapes.objects a.slot_table.ids a.slot_table.rows c.self.invariant.columns any_shape c.args.o
+    (omega (arith, few))))
     ∙ ap (λ (dump : Dump). (object_at dump c.args.o).bytes) c.self.view_is
 
 pub returns-clause-small : goal.returns-clause-small
@@ -33,7 +35,9 @@ returns-clause-small c =
     let a = c.self.inside in
     let lt : c.args.o < length (row_objects a.shapes.objects a.slot_table.ids a.slot_table.rows) = rw (← c.self.view_is) at c.requires in
     let few = length-row_objects a.shapes.objects a.slot_table.ids a.slot_table.rows c.self.invariant.columns in
-    let is : get_or a.shapes.objects c.args.o any_shape ≡ shape_view c.get.result = get_or_from_slice_get a.shapes.objects c.args.o (shape_view c.get.result) any_shape c.get.ensures in
+    let is : get_or a.shapes.objects c.args.o any_shape ≡ shape_view c.get.result =
+    get_or_from_slice_get a.shapes.objects c.args.o (shape_view c.get.result) any_shape c.get.ensures in
     let within : c.args.o < length a.shapes.objects = omega (arith, few, c.self.invariant.columns.shapes) in
-    let same : c.from.result ≡ shape_bytes (get_or a.shapes.objects c.args.o any_shape) = c.from.ensures ∙ c.recorded_bytes.ensures ∙ ap (λ (s : ObjectShape). shape_bytes s) (sym is) in
+    let same : c.from.result ≡ shape_bytes (get_or a.shapes.objects c.args.o any_shape) = c.from.ensures ∙ c.recorded_bytes.ensures
+    ∙ ap (λ (s : ObjectShape). shape_bytes s) (sym is) in
     subst (λ (n : ℕ). n ≤ largest_file) (sym same) (small-at a.shapes.objects any_shape c.args.o c.self.invariant.small within)

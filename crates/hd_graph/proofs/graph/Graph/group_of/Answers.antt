@@ -1,3 +1,5 @@
+-- The shape of an object tells its group: a class object or a primitive array by itself, all else by the class
+-- whose ID stands last in its row.
 use Rattle.std.proofs.Common.{◌≡◌, ◌∙◌, ℕ, ◌<◌, length, get_or, ap, sym, arith}
 use Rattle.hd_terms.specs.Dump.{Dump, object_at}
 use Rattle.hd_slots.specs.Table.{row_at}
@@ -29,7 +31,8 @@ returns-in-ObjectArray c =
     let a = c.self.inside in
     let lt : c.args.o < length (row_objects a.shapes.objects a.slot_table.ids a.slot_table.rows) = rw (← c.self.view_is) at c.requires in
     let few = length-row_objects a.shapes.objects a.slot_table.ids a.slot_table.rows c.self.invariant.columns in
-    let is : get_or a.shapes.objects c.args.o any_shape ≡ shape_view c.get.result = get_or_from_slice_get a.shapes.objects c.args.o (shape_view c.get.result) any_shape c.get.ensures in
+    let is : get_or a.shapes.objects c.args.o any_shape ≡ shape_view c.get.result =
+    get_or_from_slice_get a.shapes.objects c.args.o (shape_view c.get.result) any_shape c.get.ensures in
     ap (λ (id : ℕ). groups.Class id) c.last.ensures
     ∙ ap (λ s. shape_group (shape_view s) (row_at a.slot_table c.args.o)) (sym c.in-ObjectArray.is)
     ∙ ap (λ (s : ObjectShape). shape_group s (row_at a.slot_table c.args.o)) (sym is)
@@ -41,7 +44,8 @@ returns-in-PrimitiveArray c =
     let a = c.self.inside in
     let lt : c.args.o < length (row_objects a.shapes.objects a.slot_table.ids a.slot_table.rows) = rw (← c.self.view_is) at c.requires in
     let few = length-row_objects a.shapes.objects a.slot_table.ids a.slot_table.rows c.self.invariant.columns in
-    let is : get_or a.shapes.objects c.args.o any_shape ≡ shape_view c.get.result = get_or_from_slice_get a.shapes.objects c.args.o (shape_view c.get.result) any_shape c.get.ensures in
+    let is : get_or a.shapes.objects c.args.o any_shape ≡ shape_view c.get.result =
+    get_or_from_slice_get a.shapes.objects c.args.o (shape_view c.get.result) any_shape c.get.ensures in
     ap (λ s. shape_group (shape_view s) (row_at a.slot_table c.args.o)) (sym c.in-PrimitiveArray.is)
     ∙ ap (λ (s : ObjectShape). shape_group s (row_at a.slot_table c.args.o)) (sym is)
     ∙ group-at a.shapes.objects a.slot_table.ids a.slot_table.rows c.self.invariant.columns any_shape c.args.o lt
@@ -52,7 +56,8 @@ returns-in-Class c =
     let a = c.self.inside in
     let lt : c.args.o < length (row_objects a.shapes.objects a.slot_table.ids a.slot_table.rows) = rw (← c.self.view_is) at c.requires in
     let few = length-row_objects a.shapes.objects a.slot_table.ids a.slot_table.rows c.self.invariant.columns in
-    let is : get_or a.shapes.objects c.args.o any_shape ≡ shape_view c.get.result = get_or_from_slice_get a.shapes.objects c.args.o (shape_view c.get.result) any_shape c.get.ensures in
+    let is : get_or a.shapes.objects c.args.o any_shape ≡ shape_view c.get.result =
+    get_or_from_slice_get a.shapes.objects c.args.o (shape_view c.get.result) any_shape c.get.ensures in
     ap (λ s. shape_group (shape_view s) (row_at a.slot_table c.args.o)) (sym c.in-Class.is)
     ∙ ap (λ (s : ObjectShape). shape_group s (row_at a.slot_table c.args.o)) (sym is)
     ∙ group-at a.shapes.objects a.slot_table.ids a.slot_table.rows c.self.invariant.columns any_shape c.args.o lt
@@ -63,7 +68,8 @@ returns-in-Instance c =
     let a = c.self.inside in
     let lt : c.args.o < length (row_objects a.shapes.objects a.slot_table.ids a.slot_table.rows) = rw (← c.self.view_is) at c.requires in
     let few = length-row_objects a.shapes.objects a.slot_table.ids a.slot_table.rows c.self.invariant.columns in
-    let is : get_or a.shapes.objects c.args.o any_shape ≡ shape_view c.get.result = get_or_from_slice_get a.shapes.objects c.args.o (shape_view c.get.result) any_shape c.get.ensures in
+    let is : get_or a.shapes.objects c.args.o any_shape ≡ shape_view c.get.result =
+    get_or_from_slice_get a.shapes.objects c.args.o (shape_view c.get.result) any_shape c.get.ensures in
     ap (λ (id : ℕ). groups.Class id) c.last-in-Instance.ensures
     ∙ ap (λ s. shape_group (shape_view s) (row_at a.slot_table c.args.o)) (sym c.in-Instance.is)
     ∙ ap (λ (s : ObjectShape). shape_group s (row_at a.slot_table c.args.o)) (sym is)

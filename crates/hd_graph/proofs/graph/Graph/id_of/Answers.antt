@@ -15,5 +15,6 @@ returns c =
     let a = c.self.inside in
     let lt : c.args.o < length (row_objects a.shapes.objects a.slot_table.ids a.slot_table.rows) = rw (← c.self.view_is) at c.requires in
     c.id_of.ensures
-    ∙ sym (ap (λ (x : Object). x.id) (row_objects-at a.shapes.objects a.slot_table.ids a.slot_table.rows c.self.invariant.columns any_shape c.args.o (omega (arith, length-row_objects a.shapes.objects a.slot_table.ids a.slot_table.rows c.self.invariant.columns))))
+    ∙ sym (ap (λ (x : Object). x.id) (row_objects-at a.shapes.objects a.slot_table.ids a.slot_table.rows c.self.invariant.columns any_shape c.args.o
+    (omega (arith, length-row_objects a.shapes.objects a.slot_table.ids a.slot_table.rows c.self.invariant.columns))))
     ∙ ap (λ (dump : Dump). (object_at dump c.args.o).id) c.self.view_is

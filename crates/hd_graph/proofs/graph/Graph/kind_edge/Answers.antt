@@ -1,3 +1,5 @@
+-- A kept reference is the source and the index of an edge of its kind (`kept-at`), so it has a slot there
+-- with that target.
 use Rattle.std.proofs.Common.{◌≡◌, ◌∙◌, List, get_or, ap, sym}
 use Rattle.std.proofs.lemmas.Option.{same_Some, slice_get_within}
 use Rattle.hd_terms.specs.Dump.{SlotEntry, object_at}

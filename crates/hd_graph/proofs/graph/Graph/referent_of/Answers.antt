@@ -18,8 +18,10 @@ pub returns : goal.returns
 returns c =
     let a = c.self.inside in
     let lt : c.args.o < length (row_objects a.shapes.objects a.slot_table.ids a.slot_table.rows) = rw (← c.self.view_is) at c.requires in
-    let is : get_or a.shapes.objects c.args.o any_shape ≡ shape_view c.get.result = get_or_from_slice_get a.shapes.objects c.args.o (shape_view c.get.result) any_shape c.get.ensures in
+    let is : get_or a.shapes.objects c.args.o any_shape ≡ shape_view c.get.result =
+    get_or_from_slice_get a.shapes.objects c.args.o (shape_view c.get.result) any_shape c.get.ensures in
     c.referent_in.ensures
     ∙ ap (λ (s : ObjectShape). shape_referent s) (sym is)
-    ∙ sym (ap (λ (x : Object). x.referent) (row_objects-at a.shapes.objects a.slot_table.ids a.slot_table.rows c.self.invariant.columns any_shape c.args.o (omega (arith, length-row_objects a.shapes.objects a.slot_table.ids a.slot_table.rows c.self.invariant.columns))))
+    ∙ sym (ap (λ (x : Object). x.referent) (row_objects-at a.shapes.objects a.slot_table.ids a.slot_table.rows c.self.invariant.columns any_shape c.args.o
+    (omega (arith, length-row_objects a.shapes.objects a.slot_table.ids a.slot_table.rows c.self.invariant.columns))))
     ∙ ap (λ (dump : Dump). (object_at dump c.args.o).referent) c.self.view_is

@@ -10,4 +10,5 @@ returns-clause-first c =
     c.row_of_page-row.ensures.row ∙ ap (row_of a.pages.now.keys) c.page_of.ensures in
     let number : c.number_in.result ≡ number_of (ids_in a.pages.now.keys a.slots.now) c.args.id =
     c.number_in.ensures ∙ ap (λ (r : ℕ). slice_index a.numbers.now (r * 512 + place_of c.args.id)) row ∙ c.self.invariant.numbers_are.at c.args.id in
-    rw (← c.self.view_is) (position-by-number (ids_in a.pages.now.keys a.slots.now) c.args.id c.number_in.result c.checked_sub.result number c.checked_sub.ensures)
+    rw (← c.self.view_is) (position-by-number
+    (ids_in a.pages.now.keys a.slots.now) c.args.id c.number_in.result c.checked_sub.result number c.checked_sub.ensures)

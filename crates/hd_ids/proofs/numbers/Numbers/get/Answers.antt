@@ -1,3 +1,5 @@
+-- The block of the place tells its number, by its bits and its first number, or by its row where it is scattered.
+-- A block without numbers tells 0.
 use Rattle.std.proofs.Common.{◌≡◌, ◌∙◌, ℕ, ◌+◌, ◌-◌, ◌*◌, ◌/◌, ◌%◌, ◌<◌, ◌≤◌, ◌^◌, true, false, List, length, get_or, ap, sym, arith, refl, ne_eqb}
 use Rattle.std.proofs.lemmas.Grind.{get_or_default_zero}
 use Rattle.hd_ids.specs.declared.block.Block.{Block}
@@ -26,7 +28,8 @@ returns-then-block-ne0 c =
     let read = c.index-block.result.now in
     let lt : slot < length a.blocks.items * 32 = omega (arith, c.requires, length-numbers a.blocks.items a.scattered.items, ap length c.self.view_is) in
     let block = read-block a.blocks.items (slot / 32) read (omega (arith, lt)) c.index-block.ensures in
-    let follows : is_scattered (block_at a.blocks.items (slot / 32)) ≡ false = ap is_scattered (sym block) ∙ some-follows read.mask read.first c.if-block-ne0.true in
+    let follows : is_scattered (block_at a.blocks.items (slot / 32)) ≡ false = ap is_scattered (sym block)
+    ∙ some-follows read.mask read.first c.if-block-ne0.true in
     c.number.ensures
     ∙ ap (λ (b : Block). number_by b (slot % 32)) block
     ∙ sym (by-follows a.scattered.items (block_at a.blocks.items (slot / 32)) (slot % 32) follows)
@@ -40,7 +43,8 @@ returns-then-block-eq0 c =
     let read = c.index-block.result.now in
     let lt : slot < length a.blocks.items * 32 = omega (arith, c.requires, length-numbers a.blocks.items a.scattered.items, ap length c.self.view_is) in
     let block = read-block a.blocks.items (slot / 32) read (omega (arith, lt)) c.index-block.ensures in
-    let follows : is_scattered (block_at a.blocks.items (slot / 32)) ≡ false = ap is_scattered (sym block) ∙ rw (c.if-block-ne0.false, c.if-block-eq0.true) refl in
+    let follows : is_scattered (block_at a.blocks.items (slot / 32)) ≡ false = ap is_scattered (sym block)
+    ∙ rw (c.if-block-ne0.false, c.if-block-eq0.true) refl in
     let none : number_by read (slot % 32) ≡ 0 = rw c.if-block-ne0.false (no-number read.first (slot % 32)) in
     sym none
     ∙ ap (λ (b : Block). number_by b (slot % 32)) block
@@ -54,7 +58,8 @@ index-requires c =
     let read = c.index-block.result.now in
     let lt : c.args.slot < length a.blocks.items * 32 = omega (arith, c.requires, length-numbers a.blocks.items a.scattered.items, ap length c.self.view_is) in
     let block = read-block a.blocks.items (c.args.slot / 32) read (omega (arith, lt)) c.index-block.ensures in
-    let in_row : is_scattered (block_at a.blocks.items (c.args.slot / 32)) ≡ true = ap is_scattered (sym block) ∙ rw (c.if-block-ne0.false, ne_eqb read.first 0 c.if-block-eq0.false) refl in
+    let in_row : is_scattered (block_at a.blocks.items (c.args.slot / 32)) ≡ true = ap is_scattered (sym block)
+    ∙ rw (c.if-block-ne0.false, ne_eqb read.first 0 c.if-block-eq0.false) refl in
     omega (arith, place-within a.blocks.items a.scattered.items c.args.slot 0 lt c.self.invariant in_row, ap (λ (b : Block). b.first) block, a.scattered.ok.0)
 
 pub returns : goal.returns
@@ -64,7 +69,8 @@ returns c =
     let read = c.index-block.result.now in
     let lt : slot < length a.blocks.items * 32 = omega (arith, c.requires, length-numbers a.blocks.items a.scattered.items, ap length c.self.view_is) in
     let block = read-block a.blocks.items (slot / 32) read (omega (arith, lt)) c.index-block.ensures in
-    let in_row : is_scattered (block_at a.blocks.items (slot / 32)) ≡ true = ap is_scattered (sym block) ∙ rw (c.if-block-ne0.false, ne_eqb read.first 0 c.if-block-eq0.false) refl in
+    let in_row : is_scattered (block_at a.blocks.items (slot / 32)) ≡ true = ap is_scattered (sym block)
+    ∙ rw (c.if-block-ne0.false, ne_eqb read.first 0 c.if-block-eq0.false) refl in
     let there = place-within a.blocks.items a.scattered.items slot 0 lt c.self.invariant in_row in
     c.index.ensures
     ∙ ap (λ (b : Block). get_or a.scattered.items ((b.first - 1) * 32 + slot % 32) c.index.result.now) block

@@ -1,3 +1,5 @@
+-- Where the number follows those of its block, the block alone changes (`number-set`, `set-kept`).
+-- Else it goes into the row of the block (`set_scattered`).
 use Rattle.std.proofs.Common.{◌∙◌, ℕ, ◌*◌, ◌/◌, ◌%◌, ◌<◌, ◌≤◌, ◌^◌, List, length, slice_set, ap, subst, arith}
 use Rattle.hd_ids.specs.declared.block.Block.{Block}
 use Rattle.hd_ids.specs.Numbers.{block_at, no_numbers, IsBlockWith}
@@ -12,7 +14,8 @@ index-block-requires c =
 pub with-requires-clause-low : goal.with-requires-clause-low
 with-requires-clause-low c =
     let a = c.self.inside in
-    let lt : c.args.slot / 32 < length a.blocks.items = omega (arith, c.requires.within, length-numbers a.blocks.items a.scattered.items, ap length c.self.view_is) in
+    let lt : c.args.slot / 32 < length a.blocks.items =
+    omega (arith, c.requires.within, length-numbers a.blocks.items a.scattered.items, ap length c.self.view_is) in
     let block = read-block a.blocks.items (c.args.slot / 32) c.index-block.result.now lt c.index-block.ensures in
     let low : (block_at a.blocks.items (c.args.slot / 32)).first ≤ 2 ^ 31 = c.self.invariant.low (c.args.slot / 32) no_numbers lt in
     omega (arith, low, ap (λ (b : Block). b.first) block)

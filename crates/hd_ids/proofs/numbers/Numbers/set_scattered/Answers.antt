@@ -15,7 +15,8 @@ returns-clause-ok c =
     let slot = c.args.slot in
     let blocks = c.scatter.new.blocks.items in
     let scattered = c.scatter.new.scattered.items in
-    let lt : slot < length blocks * 32 = omega (arith, c.requires, c.scatter.ensures.count, length-numbers a.blocks.items a.scattered.items, ap length c.self.view_is) in
+    let lt : slot < length blocks * 32 =
+    omega (arith, c.requires, c.scatter.ensures.count, length-numbers a.blocks.items a.scattered.items, ap length c.self.view_is) in
     let block = read-block blocks (slot / 32) c.index.result.now (omega (arith, lt)) c.index.ensures in
     ap (λ (b : Block). numbers_of blocks (slice_set scattered ((b.first - 1) * 32 + slot % 32) c.args.number)) block
     ∙ number-changed blocks scattered slot c.args.number lt c.scatter.ensures.kept c.in_ok-scatter.ensures.scattered

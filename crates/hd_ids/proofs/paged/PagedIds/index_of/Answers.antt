@@ -8,7 +8,8 @@ returns-clause-first c =
     let a = c.self.inside in
     let number : c.number_at.result ≡ number_of (ids_in a.pages.keys a.slots.items) c.args.id =
     c.number_at.ensures ∙ c.self.invariant.slots_are.rows.numbers_are.at c.args.id in
-    rw (← c.self.view_is) (position-by-number (ids_in a.pages.keys a.slots.items) c.args.id c.number_at.result c.checked_sub.result number c.checked_sub.ensures)
+    rw (← c.self.view_is) (position-by-number
+    (ids_in a.pages.keys a.slots.items) c.args.id c.number_at.result c.checked_sub.result number c.checked_sub.ensures)
 
 pub returns-clause-distinct : goal.returns-clause-distinct
 returns-clause-distinct c o lt is =

@@ -1,3 +1,5 @@
+-- A class that isn't there has no statics, and behind its last static there is no name: the two early returns.
+-- Else the name is the text of the number in its row.
 use Rattle.std.proofs.Common.{◌∙◌, ℕ, List, sym, ap}
 use Rattle.std.specs.Option.{option_copied, option_and_then}
 use Rattle.std.specs.List.{slice_get}

@@ -21,4 +21,5 @@ returns-in-All c most all h =
     first-all most all c.in-All.ids.items c.dedup.new.self.items same (subst (AreGathered most all) c.in-All.is h)
 
 pub returns-in_ok-ids-in-Least : goal.returns-in_ok-ids-in-Least
-returns-in_ok-ids-in-Least c most all h = first-least most all c.in-Least.ids c.in_ok-ids-in-Least.ids.items c.in_ok-ids-in-Least.ensures (subst (AreGathered most all) c.in-Least.is h)
+returns-in_ok-ids-in-Least c most all h = first-least most all c.in-Least.ids c.in_ok-ids-in-Least.ids.items c.in_ok-ids-in-Least.ensures
+    (subst (AreGathered most all) c.in-Least.is h)

@@ -11,6 +11,7 @@ returns-in-Some c is_at x above =
     let last : ℕ = c.in-Some.last.now in
     let le : last ≤ c.args.id = leb-true last c.args.id is_at in
     let most : c.self.inside.most ≡ length ids = omega (arith, c.len.ensures.len, c.if-len-self.false, c.self.invariant) in
-    let behind : All (λ (y : ℕ). y ≤ x) ids = λ k d lt. let below = ge_from_not_lt last (get_or ids k d) (c.in-Some.ensures.all_up_to k d lt) in omega (arith, below, le, above) in
+    let behind : All (λ (y : ℕ). y ≤ x) ids = λ k d lt. let below = ge_from_not_lt last (get_or ids k d) (c.in-Some.ensures.all_up_to k d lt) in
+    omega (arith, below, le, above) in
     let kept : take c.self.inside.most (with_id ids x) ≡ ids = ap (λ (n : ℕ). take n (with_id ids x)) most ∙ put-behind x ids behind in
     subst (λ (l : Least). take l.most (with_id l.ids x) ≡ l.ids) c.self.view_is kept

@@ -11,4 +11,5 @@ invariant_of-result c = record {
 }
 
 pub returns : goal.returns
-returns c = same_numbers c.args.pairs.items c.sort_by_key.new.self.items (c.sort_by_key.ensures.stable (λ (n : NumberOn). n.object) (answers_always _ _ _ (λ f a r g h. search rules)))
+returns c = same_numbers c.args.pairs.items c.sort_by_key.new.self.items
+    (c.sort_by_key.ensures.stable (λ (n : NumberOn). n.object) (answers_always _ _ _ (λ f a r g h. search rules)))

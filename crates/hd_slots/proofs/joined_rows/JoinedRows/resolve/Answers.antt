@@ -1,35 +1,36 @@
-use Rattle.std.proofs.Common.{◌≡◌, ◌∙◌, arith, ap, sym}
-use Rattle.hd_slots.specs.Table.{Rows, Table}
-use Rattle.hd_slots.proofs.JobLemmas.{all_done}
+-- The resolved parts are those of the file, in order and over the same IDs, so their rows are those of all.
+use Rattle.std.proofs.Common.{◌≡◌, ◌∙◌, length, map, Ok, sym, ap, subst, arith}
+use Rattle.std.specs.Arc.{arc_value}
+use Rattle.hd_slots.specs.Table.{Table}
+use Rattle.hd_slots.specs.JoinedInside.{first_table, joined_rows, rows_in, AreOfOneDump}
+use Rattle.hd_slots.proofs.PartLemmas.{all-resolved, rows-resolved, dump-resolved}
 use Rattle.hd_slots.proofs.joined_rows.JoinedRows.resolve.Given.{Over}
 use Rattle.hd_slots.proofs.joined_rows.JoinedRows.resolve.Goals as goal
-use Rattle.hd_slots.proofs.joined_rows.JoinedRows.resolve.Goals.{In_ok-fourth}
+use Rattle.hd_slots.proofs.joined_rows.JoinedRows.resolve.Goals.{In_ok-parts}
 
--- the rows of a table, which are all that is left of it
-abbrev rows_in : Table → Rows
-rows_in t = record { ids = t.ids; rows = t.rows }
-
-all : (g : Over) (c : In_ok-fourth g)
-    → (c.in_ok-first.field-0 ≡ rows_in c.self.inside.first)
-    × (c.in_ok-second.field-0 ≡ rows_in c.self.inside.second)
-    × (c.in_ok-third.field-0 ≡ rows_in c.self.inside.third)
-    × (c.in_ok-fourth.field-0 ≡ rows_in c.self.inside.fourth)
+-- the resolved parts are those of the file
+all : (g : Over) (c : In_ok-parts g) → map rows_in c.self.inside.parts.items ≡ c.in_ok-parts.parts.items
 all g c =
-    let done = all_done _ _ _ _ _ _ _ _ _ _ _ _ _ _ _ _ _ _ _ _ c.in_ok-parts.ensures.items c.in_ok-push.ensures.items c.in_ok-push-2.ensures.items c.in_ok-push-3.ensures.items c.in_ok-push-4.ensures.items
-    (omega (arith, c.in_ok-resolved.ensures.len, c.in_ok-resolved.resolved.ok.0, c.push-4.new.self.ok.0))
-    c.in-Some.ensures.items c.in-Some-pop.ensures.items c.in-Some-pop-2.ensures.items c.in-Some-pop-3.ensures.items c.in_ok-resolved.ensures.each in
-    (rw c.in_ok-first.was at done.0, rw c.in_ok-second.was at done.1, rw c.in_ok-third.was at done.2, rw c.in_ok-fourth.was at done.3)
+    let parts = c.self.inside.parts.items in
+    let as_many : length c.in_ok-resolved.resolved.items ≡ length parts = omega (arith, c.in_ok-resolved.ensures.len, c.in_ok-resolved.resolved.ok.0) in
+    all-resolved parts c.in_ok-resolved.resolved.items c.in_ok-parts.parts.items c.in_ok-parts.ensures as_many
+    (λ i lt. let at = (c.in_ok-resolved.ensures.each i (Ok (rows_in (first_table parts))) lt).1 in (at.job, (at.job_is (first_table parts), at.call.met)))
+
+-- the IDs are those of the first part
+ids-are : (g : Over) (c : In_ok-parts g) → (first_table c.self.inside.parts.items).ids ≡ arc_value c.in_ok-ids.ids
+ids-are g c =
+    sym (c.self.invariant.file 0 c.index.result.now c.self.invariant.some).ids_are
+    ∙ ap (λ (t : Table). t.ids) (sym c.index.ensures) ∙ sym c.in_ok-ids.ensures.ids
 
 pub new-requires : goal.new-requires
 new-requires g c =
-    let done = all g c in
-    let first = sym (ap (λ (t : Rows). t.ids) done.0) in (
-      ap (λ (t : Rows). t.ids) done.1 ∙ c.self.invariant.second_is.ids_are ∙ first,
-      ap (λ (t : Rows). t.ids) done.2 ∙ c.self.invariant.third_is.ids_are ∙ first,
-      ap (λ (t : Rows). t.ids) done.3 ∙ c.self.invariant.fourth_is.ids_are ∙ first,
-    )
+    let at = (goal.at.new-requires g c).In_ok-parts in
+    let ids = arc_value c.in_ok-ids.ids in
+    subst (AreOfOneDump ids) (all g at) (dump-resolved ids c.self.inside.parts.items c.self.invariant (ids-are g at) c.in_ok-ids.ensures.few)
 
 pub returns : goal.returns
 returns g c =
-    let done = all g (goal.at.returns g c).In_ok-fourth in
-    rw c.new.ensures (rw done.0 (rw done.1 (rw done.2 (rw done.3 (ap (λ (t : Table). rows_in t) c.self.view_is)))))
+    let at = (goal.at.returns g c).In_ok-parts in
+    let ids = arc_value c.in_ok-ids.ids in
+    let same = rows-resolved ids c.self.inside.parts.items c.self.invariant (ids-are g at) in
+    c.in_ok-slot_table.ensures ∙ ap (joined_rows ids) (sym (all g at)) ∙ same ∙ ap rows_in c.self.view_is

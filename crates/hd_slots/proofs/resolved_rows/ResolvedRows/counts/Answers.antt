@@ -8,12 +8,14 @@ pub returns-clause-objects : goal.returns-clause-objects
 returns-clause-objects c =
     let a = c.self.inside in
     c.count_codes.ensures.objects
-    ∙ rw (c.deref.ensures, c.as_slice.ensures.value, c.as_slice-2.ensures.value) (sym (ids-counted (arc_value a.ids) a.starts.items a.items.items a.absent.items c.self.invariant.parts (is_known (arc_value a.ids))))
+    ∙ rw (c.deref.ensures, c.as_slice.ensures.value, c.as_slice-2.ensures.value)
+    (sym (ids-counted (arc_value a.ids) a.starts.items a.items.items a.absent.items c.self.invariant.parts (is_known (arc_value a.ids))))
     ∙ ap known_in c.self.view_is
 
 pub returns-clause-others : goal.returns-clause-others
 returns-clause-others c =
     let a = c.self.inside in
     c.count_codes.ensures.others
-    ∙ rw (c.deref.ensures, c.as_slice.ensures.value, c.as_slice-2.ensures.value) (sym (ids-counted (arc_value a.ids) a.starts.items a.items.items a.absent.items c.self.invariant.parts (is_absent (arc_value a.ids))))
+    ∙ rw (c.deref.ensures, c.as_slice.ensures.value, c.as_slice-2.ensures.value)
+    (sym (ids-counted (arc_value a.ids) a.starts.items a.items.items a.absent.items c.self.invariant.parts (is_absent (arc_value a.ids))))
     ∙ ap absent_in c.self.view_is

@@ -1,3 +1,5 @@
+-- The row of an object lies between two starts, so its slot is the number at the first of them and the index.
+-- That number stands for the ID and tells its object.
 use Rattle.std.proofs.Common.{◌≡◌, ◌∙◌, ℕ, ◌+◌, get_or, ap, sym, arith, refl, nat_eq}
 use Rattle.std.specs.List.{position}
 use Rattle.std.specs.Arc.{arc_value}
@@ -17,20 +19,24 @@ bounds-as_slice-start c =
     let a = c.self.inside in
     let lt = rw (← c.self.view_is) at c.requires.row in
     let index = rw (← c.self.view_is) at c.requires.index in
-    rw (c.as_slice.ensures.value, c.as_slice-2.ensures.value) (item-within (arc_value a.ids) a.starts.items a.items.items a.absent.items c.self.invariant.parts c.args.o lt c.args.i index)
+    rw (c.as_slice.ensures.value, c.as_slice-2.ensures.value)
+    (item-within (arc_value a.ids) a.starts.items a.items.items a.absent.items c.self.invariant.parts c.args.o lt c.args.i index)
 
 pub read_code-requires-clause-is : goal.read_code-requires-clause-is
 read_code-requires-clause-is c =
     let a = c.self.inside in
     let lt = rw (← c.self.view_is) at c.requires.row in
     let index = rw (← c.self.view_is) at c.requires.index in
-    rw (c.as_slice.ensures.value, c.as_slice-2.ensures.value, c.deref.ensures, c.as_slice-3.ensures.value) (item-code (arc_value a.ids) a.starts.items a.items.items a.absent.items c.self.invariant.parts c.args.o lt c.args.i index)
+    rw (c.as_slice.ensures.value, c.as_slice-2.ensures.value, c.deref.ensures, c.as_slice-3.ensures.value)
+    (item-code (arc_value a.ids) a.starts.items a.items.items a.absent.items c.self.invariant.parts c.args.o lt c.args.i index)
 
 -- the number at the index
-code_is : (c : goal.After-read_code) → get_or c.as_slice-2.result.now (get_or c.as_slice.result.now c.args.o 0 + c.args.i) 0 ≡ get_or c.self.inside.items.items (get_or c.self.inside.starts.items c.args.o 0 + c.args.i) 0
+code_is : (c : goal.After-read_code) → get_or c.as_slice-2.result.now (get_or c.as_slice.result.now c.args.o 0 + c.args.i) 0 ≡ get_or c.self.inside.items.items
+    (get_or c.self.inside.starts.items c.args.o 0 + c.args.i) 0
 code_is c = rw (c.as_slice.ensures.value, c.as_slice-2.ensures.value) refl
 
-id_is : (c : goal.After-read_code) → c.read_code.result.0 ≡ id_of_code (arc_value c.self.inside.ids) c.self.inside.absent.items (get_or c.self.inside.items.items (get_or c.self.inside.starts.items c.args.o 0 + c.args.i) 0)
+id_is : (c : goal.After-read_code) → c.read_code.result.0 ≡ id_of_code (arc_value c.self.inside.ids) c.self.inside.absent.items
+    (get_or c.self.inside.items.items (get_or c.self.inside.starts.items c.args.o 0 + c.args.i) 0)
 id_is c = c.read_code.ensures.id ∙ rw (c.deref.ensures, c.as_slice-3.ensures.value, code_is c) refl
 
 pub returns-clause-id : goal.returns-clause-id
@@ -38,7 +44,8 @@ returns-clause-id c =
     let a = c.self.inside in
     let lt = rw (← c.self.view_is) at c.requires.row in
     let index = rw (← c.self.view_is) at c.requires.index in
-    id_is c ∙ sym (get_or-row (arc_value a.ids) a.starts.items a.items.items a.absent.items c.self.invariant.parts c.args.o lt c.args.i index) ∙ ap (λ (t : Rows). get_or (row_at t c.args.o) c.args.i 0) c.self.view_is
+    id_is c ∙ sym (get_or-row (arc_value a.ids) a.starts.items a.items.items a.absent.items c.self.invariant.parts c.args.o lt c.args.i index)
+    ∙ ap (λ (t : Rows). get_or (row_at t c.args.o) c.args.i 0) c.self.view_is
 
 pub returns-clause-target : goal.returns-clause-target
 returns-clause-target c =
@@ -47,6 +54,8 @@ returns-clause-target c =
     let index = rw (← c.self.view_is) at c.requires.index in
     let is = item-code (arc_value a.ids) a.starts.items a.items.items a.absent.items c.self.invariant.parts c.args.o lt c.args.i index in
     let code = get_or a.items.items (get_or a.starts.items c.args.o 0 + c.args.i) 0 in
-    let read : target_of_code c.deref.result.now (get_or c.as_slice-2.result.now (get_or c.as_slice.result.now c.args.o 0 + c.args.i) 0) ≡ target_of_code (arc_value a.ids) code = rw (c.deref.ensures, code_is c) refl in
-    let found : position (λ x. nat_eq (id_of_code (arc_value a.ids) a.absent.items code) x) (arc_value a.ids) ≡ position (λ x. nat_eq c.read_code.result.0 x) (arc_value a.ids) = ap (λ (id : ℕ). position (λ x. nat_eq id x) (arc_value a.ids)) (sym (id_is c)) in
+    let read : target_of_code c.deref.result.now (get_or c.as_slice-2.result.now (get_or c.as_slice.result.now c.args.o 0 + c.args.i) 0) ≡ target_of_code
+    (arc_value a.ids) code = rw (c.deref.ensures, code_is c) refl in
+    let found : position (λ x. nat_eq (id_of_code (arc_value a.ids) a.absent.items code) x) (arc_value a.ids) ≡ position (λ x. nat_eq c.read_code.result.0 x)
+    (arc_value a.ids) = ap (λ (id : ℕ). position (λ x. nat_eq id x) (arc_value a.ids)) (sym (id_is c)) in
     c.read_code.ensures.target ∙ read ∙ sym is.target ∙ found ∙ ap (λ (t : Rows). position (λ x. nat_eq c.read_code.result.0 x) t.ids) c.self.view_is

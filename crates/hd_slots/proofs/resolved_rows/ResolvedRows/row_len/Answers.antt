@@ -7,13 +7,15 @@ pub bounds-starts-o : goal.bounds-starts-o
 bounds-starts-o c =
     let a = c.self.inside in
     let lt = rw (← c.self.view_is) at c.requires in
-    rw c.as_slice-starts.ensures.value (omega (arith, starts-before (arc_value a.ids) a.starts.items a.items.items a.absent.items c.self.invariant.parts c.args.o lt))
+    rw c.as_slice-starts.ensures.value
+    (omega (arith, starts-before (arc_value a.ids) a.starts.items a.items.items a.absent.items c.self.invariant.parts c.args.o lt))
 
 pub bounds-starts-o-2 : goal.bounds-starts-o-2
 bounds-starts-o-2 c =
     let a = c.self.inside in
     let lt = rw (← c.self.view_is) at c.requires in
-    rw c.as_slice-starts.ensures.value (omega (arith, starts-before (arc_value a.ids) a.starts.items a.items.items a.absent.items c.self.invariant.parts c.args.o lt))
+    rw c.as_slice-starts.ensures.value
+    (omega (arith, starts-before (arc_value a.ids) a.starts.items a.items.items a.absent.items c.self.invariant.parts c.args.o lt))
 
 pub returns : goal.returns
 returns c =

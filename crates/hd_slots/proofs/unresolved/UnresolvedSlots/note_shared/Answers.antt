@@ -1,3 +1,4 @@
+-- A noted ID is one more shared offset, or none (`after`): the offsets of all slots stay, and so do the rows.
 use Rattle.std.proofs.Common.{◌≡◌, ◌∙◌, List, ℕ, [], ◌∷◌, ◌++◌, ◌⊎◌, inl, inr, length, map, refl, sym, ap, subst}
 use Rattle.std.proofs.lemmas.List.{map-append}
 use Rattle.std.proofs.lemmas.List.Elements.{All-push}
@@ -16,9 +17,11 @@ abbrev IsSame : Inside → Noted → Type 0
 IsSame a noted = IsUnresolved (record a { shared = noted }) × (table_of (record a { shared = noted }) ≡ table_of a)
 
 -- one more shared ID changes no row
-after : (a : Inside) → IsUnresolved a → (noted : Noted) (id offset : ℕ) → IsIdWithin a.id_size (length a.bytes.now) offset → id ≡ id_at a.bytes.now a.id_size offset
+after : (a : Inside) → IsUnresolved a → (noted : Noted) (id offset : ℕ) → IsIdWithin a.id_size (length a.bytes.now) offset
+    → id ≡ id_at a.bytes.now a.id_size offset
     → (noted ≡ a.shared) ⊎ (noted ≡ record { ids = a.shared.ids ++ id ∷ []; offsets = a.shared.offsets ++ offset ∷ [] }) → IsSame a noted
-after a h noted id offset within is (inl same) = subst (IsSame a) (sym same) (record { rows = h.rows; kept = h.kept; shared = h.shared; ids_are = h.ids_are }, refl)
+after a h noted id offset within is (inl same) =
+    subst (IsSame a) (sym same) (record { rows = h.rows; kept = h.kept; shared = h.shared; ids_are = h.ids_are }, refl)
 after a h noted id offset within is (inr longer) =
     let as_before = offsets-same a.id_size (length a.bytes.now) a.shared.offsets (offset ∷ []) a.items.items h.kept in
     subst (IsSame a) (sym longer) (
@@ -35,7 +38,8 @@ after a h noted id offset within is (inr longer) =
 
 same : (c : After-note) → IsSame c.self.inside c.note.new.self
 same c =
-    after c.self.inside c.self.invariant c.note.new.self c.args.id c.args.offset (subst (λ (t : Table). IsIdWithin t.size (length t.bytes) c.args.offset) (sym c.self.view_is) c.requires.within)
+    after c.self.inside c.self.invariant c.note.new.self c.args.id c.args.offset
+    (subst (λ (t : Table). IsIdWithin t.size (length t.bytes) c.args.offset) (sym c.self.view_is) c.requires.within)
     (c.requires.id ∙ ap (λ (t : Table). id_at t.bytes t.size c.args.offset) (sym c.self.view_is)) c.note.ensures
 
 pub invariant_of-self : goal.invariant_of-self

@@ -1,3 +1,5 @@
+-- One more offset is one more slot, since offsets are below the mark of shared ones.
+-- By `table-push` the row that is being filled has its ID behind the others.
 use Rattle.std.proofs.Common.{◌≡◌, ◌∙◌, ◌<◌, List, ℕ, [], ◌∷◌, ◌++◌, ◌+◌, length, map, sym, ap, subst, arith, All}
 use Rattle.std.proofs.lemmas.List.Elements.{All-push}
 use Rattle.std.specs.Arc.{arc_value}
@@ -18,7 +20,8 @@ offsets : (c : In_ok-push) → map (offset_of c.self.inside.shared.offsets) c.pu
 offsets c =
     let a = c.self.inside in
     let low : c.args.offset < mark = omega (arith, within c, c.self.invariant.rows.small) in
-    ap (map (offset_of a.shared.offsets)) c.in_ok-push.ensures.items ∙ shared.offsets-push a.shared.offsets a.items.items c.args.offset c.args.offset (shared.own-offset a.shared.offsets c.args.offset low)
+    ap (map (offset_of a.shared.offsets)) c.in_ok-push.ensures.items ∙ shared.offsets-push a.shared.offsets a.items.items c.args.offset c.args.offset
+    (shared.own-offset a.shared.offsets c.args.offset low)
 
 pub returns : goal.returns
 returns c =
@@ -39,7 +42,8 @@ invariant_of-self-2 c =
       kept =
           let K = IsKept a.id_size (length a.bytes.now) (length a.shared.offsets) in
           subst (λ (xs : List ℕ). All K xs) (sym c.in_ok-push.ensures.items)
-          (All-push K a.items.items c.args.offset c.self.invariant.kept (shared.kept-own a.id_size (length a.bytes.now) (length a.shared.offsets) c.args.offset c.self.invariant.rows.small (within b)));
+          (All-push K a.items.items c.args.offset c.self.invariant.kept
+          (shared.kept-own a.id_size (length a.bytes.now) (length a.shared.offsets) c.args.offset c.self.invariant.rows.small (within b)));
       shared = c.self.invariant.shared;
       ids_are = c.self.invariant.ids_are;
     }

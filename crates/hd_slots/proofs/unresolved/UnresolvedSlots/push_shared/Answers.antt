@@ -1,3 +1,5 @@
+-- An ID that was noted is kept by its place among the shared offsets, at which the same ID lies in the file.
+-- Another one is noted, and pushed by its own offset.
 use Rattle.std.proofs.Common.{◌≡◌, ◌∙◌, List, ℕ, [], ◌∷◌, ◌++◌, ◌+◌, length, map, get_or, sym, ap, subst, arith, All}
 use Rattle.std.proofs.lemmas.List.{get_or-map}
 use Rattle.std.proofs.lemmas.List.Elements.{All-push}
@@ -19,7 +21,8 @@ at c = get_or c.self.inside.shared.offsets c.in-Some.index 0
 offsets : (c : In_ok-push) → map (offset_of c.self.inside.shared.offsets) c.push.new.self.items ≡ offsets_in c.self.inside ++ at c ∷ []
 offsets c =
     let a = c.self.inside in
-    ap (map (offset_of a.shared.offsets)) c.in_ok-push.ensures.items ∙ shared.offsets-push a.shared.offsets a.items.items (mark + c.in-Some.index) (at c) (shared.shared-offset a.shared.offsets c.in-Some.index)
+    ap (map (offset_of a.shared.offsets)) c.in_ok-push.ensures.items ∙ shared.offsets-push a.shared.offsets a.items.items (mark + c.in-Some.index) (at c)
+    (shared.shared-offset a.shared.offsets c.in-Some.index)
 
 -- the ID lies there
 id_there : (c : In_ok-push) → id_at c.self.inside.bytes.now c.self.inside.id_size (at c) ≡ c.args.id
@@ -47,12 +50,14 @@ invariant_of-self-in-Some c =
     record {
       rows =
           subst (λ (xs : List ℕ). AreOffsets a.bytes.now a.id_size (arc_value a.ids) a.starts.items xs) (sym (offsets b))
-          (offsets-push a.bytes.now a.id_size (arc_value a.ids) a.starts.items (offsets_in a) c.self.invariant.rows (at b) (c.self.invariant.shared c.in-Some.index 0 there)
+          (offsets-push a.bytes.now a.id_size (arc_value a.ids) a.starts.items (offsets_in a) c.self.invariant.rows (at b)
+          (c.self.invariant.shared c.in-Some.index 0 there)
           (omega (arith, c.requires.room, ap (λ (t : Table). length t.ids + t.count) c.self.view_is)));
       kept =
           let K = IsKept a.id_size (length a.bytes.now) (length a.shared.offsets) in
           subst (λ (xs : List ℕ). All K xs) (sym c.in_ok-push.ensures.items)
-          (All-push K a.items.items (mark + c.in-Some.index) c.self.invariant.kept (record { own = λ lt. absurd (omega (arith, lt)); shared = λ le. omega (arith, there) }));
+          (All-push K a.items.items (mark + c.in-Some.index) c.self.invariant.kept
+          (record { own = λ lt. absurd (omega (arith, lt)); shared = λ le. omega (arith, there) }));
       shared = c.self.invariant.shared;
       ids_are = c.self.invariant.ids_are;
     }

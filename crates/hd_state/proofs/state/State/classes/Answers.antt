@@ -12,5 +12,6 @@ returns c =
     let t = arc_value c.self.inside.totals in
     let kept : AreKept now.dump now.log now.kept = subst (λ (s : Solution). AreKept s.dump s.log s.kept) c.self.view_is c.self.invariant.kept in
     let totals : AreTotals now.dump now.kept t = subst (λ (s : Solution). AreTotals s.dump s.kept t) c.self.view_is c.self.invariant.totals in
-    class-rows c.settled_supports_give_strengths.ensures.strengths c.one_strength.ensures now.dump now.log now.kept kept.settled c.args.strength c.in_ok-rows.rows.items
+    class-rows c.settled_supports_give_strengths.ensures.strengths c.one_strength.ensures now.dump now.log now.kept kept.settled c.args.strength
+    c.in_ok-rows.rows.items
     (c.in_ok-rows.ensures.members now.dump now.kept (rw c.deref.ensures totals))

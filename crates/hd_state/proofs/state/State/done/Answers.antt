@@ -22,7 +22,8 @@ returns c =
     let fell : c.count_fallen.result ≡ count_by (falls_from old new) (range_with_len 0 (length new)) =
     c.count_fallen.ensures old new (rw c.deref.ensures.value c.requires.changes) lengths in
     let back : c.count_back.result ≡ count_by (falls_from new old) (range_with_len 0 (length old)) =
-    c.count_back.ensures old new (rw c.deref-2.ensures.value c.requires.changes) lengths ∙ ap (λ (n : ℕ). count_by (falls_from new old) (range_with_len 0 n)) (sym lengths) in
+    c.count_back.ensures old new (rw c.deref-2.ensures.value c.requires.changes) lengths ∙ ap (λ (n : ℕ). count_by (falls_from new old) (range_with_len 0 n))
+    (sym lengths) in
     record {
       event = c.len.ensures.len ∙ ap (λ (s : Solution). length s.log) c.self.view_is;
       fell = fell-count gives one dump before after old new was.settled kept.settled kept.count c.count_fallen.result fell;

@@ -1,3 +1,5 @@
+-- The next state has the parts that were moved, over the same graph: its invariant is what each of them ensures.
+-- Stamps rise by no more than the objects with each event, so those of all events stay bounded.
 use Rattle.std.proofs.Common.{◌≡◌, ◌∙◌, ℕ, ◌+◌, ◌*◌, ◌≤◌, List, length, ap, sym, subst, arith}
 use Rattle.std.specs.Arc.{arc_value}
 use Rattle.std.proofs.lemmas.List.{length_push}

@@ -8,4 +8,5 @@ ranked-requires c = rising-distinct (map row_key c.in_ok-rows.rows.items) c.in_o
 
 pub returns : goal.returns
 returns c =
-    top-rows c.args.self.now.dump c.args.self.now.log c.args.strength c.in_ok-rows.rows.items c.ranked.result.items c.in_ok-rows.ensures c.ranked.ensures.same c.ranked.ensures.ranked
+    top-rows c.args.self.now.dump c.args.self.now.log c.args.strength c.in_ok-rows.rows.items c.ranked.result.items c.in_ok-rows.ensures c.ranked.ensures.same
+    c.ranked.ensures.ranked

@@ -12,7 +12,8 @@ invariant_of-result c = λ is.
     let ss : c.in_ok-strengths.strengths.items ≡ replicate c.args.objects strengths.Unreachable = c.in_ok-strengths.ensures.items_if_clones_equal (λ x y. y) in
     elim c.if-whole.branch [
       | then-whole w ↦
-          let ks : c.in_ok-kept.kept.items ≡ replicate c.args.objects unreached = c.in_ok-kept.ensures.items_if_clones_equal (λ x y. y) ∙ ap (λ (n : ℕ). replicate n c.unreached.result) w.count-is ∙ ap (replicate c.args.objects) c.unreached.ensures in
+          let ks : c.in_ok-kept.kept.items ≡ replicate c.args.objects unreached = c.in_ok-kept.ensures.items_if_clones_equal (λ x y. y)
+          ∙ ap (λ (n : ℕ). replicate n c.unreached.result) w.count-is ∙ ap (replicate c.args.objects) c.unreached.ensures in
           ss ∙ sym (map-replicate strength_of c.args.objects unreached) ∙ ap (map strength_of) (sym ks)
       | else-whole w ↦ let no : false ≡ true = sym w.if-whole.false ∙ is in absurd cc
     ]
@@ -22,7 +23,8 @@ returns c =
     let ss : c.in_ok-strengths.strengths.items ≡ replicate c.args.objects strengths.Unreachable = c.in_ok-strengths.ensures.items_if_clones_equal (λ x y. y) in
     elim c.if-whole.branch [
       | then-whole w ↦
-          let ks : c.in_ok-kept.kept.items ≡ replicate c.args.objects unreached = c.in_ok-kept.ensures.items_if_clones_equal (λ x y. y) ∙ ap (λ (n : ℕ). replicate n c.unreached.result) w.count-is ∙ ap (replicate c.args.objects) c.unreached.ensures in
+          let ks : c.in_ok-kept.kept.items ≡ replicate c.args.objects unreached = c.in_ok-kept.ensures.items_if_clones_equal (λ x y. y)
+          ∙ ap (λ (n : ℕ). replicate n c.unreached.result) w.count-is ∙ ap (replicate c.args.objects) c.unreached.ensures in
           rw (w.if-whole.true, ks) refl
       | else-whole w ↦ rw (w.if-whole.false, ss) (ap (λ (ks : List Reached). record { whole = false; list = ks }) (none-seen c.args.objects))
     ]

@@ -1,7 +1,10 @@
+-- One event after another: its live edit, if it has one, adds its slot, its kind or its root to what is taken away.
+-- Each of the three lists follows the edits before event k by a lemma of its own.
 use Rattle.std.proofs.Common.{◌+◌, ◌<◌, length, subst, arith}
 use Rattle.hd_terms.specs.Log.{live_edits}
 use Rattle.hd_strength.specs.Removed.{AreSlots, AreKinds, AreRoots}
-use Rattle.hd_strength.proofs.RemovedLemmas.{no_slots, no_roots, slots_more, kinds_more, roots_more, slots_sorted, roots_sorted, one_more, no_edit, all_before, edits_before, is_removed_by}
+use Rattle.hd_strength.proofs.RemovedLemmas.{no_slots, no_roots, slots_more, kinds_more, roots_more, slots_sorted, roots_sorted, one_more, no_edit, all_before}
+use Rattle.hd_strength.proofs.RemovedLemmas.{edits_before, is_removed_by}
 use Rattle.hd_strength.proofs.removed.Removed.of.Goals as goal
 use Rattle.hd_strength.proofs.removed.Removed.of.Goals.{in-Some+in_ok-push_number+in_ok-cleared+in_ok-push_number-2, in_default}
 
@@ -21,13 +24,19 @@ loop-k-preserved c =
           let one = one_more log k r lt c.live_edit.ensures edit w.in-Some.is in
           rw (w.slots-is, w.cleared-is, w.roots-is) (record {
             slots =
-                slots_more (edits_before log k) (edits_before log (k + 1)) edit one c.args.graph.now w.edited_key.result c.loop-k.slots.items w.push_number.new.numbers.items w.edited_key.ensures w.in_ok-push_number.ensures c.loop-k.invariant.slots;
+                slots_more (edits_before log k)
+                (edits_before log (k + 1)) edit one c.args.graph.now w.edited_key.result c.loop-k.slots.items w.push_number.new.numbers.items
+                w.edited_key.ensures w.in_ok-push_number.ensures c.loop-k.invariant.slots;
             cleared =
-                kinds_more (edits_before log k) (edits_before log (k + 1)) edit one c.loop-k.cleared w.in_ok-cleared.cleared w.in_ok-cleared.ensures c.loop-k.invariant.cleared;
+                kinds_more (edits_before log k) (edits_before log (k + 1)) edit one c.loop-k.cleared w.in_ok-cleared.cleared w.in_ok-cleared.ensures
+                c.loop-k.invariant.cleared;
             roots =
-                roots_more (edits_before log k) (edits_before log (k + 1)) edit one w.dropped_root.result c.loop-k.roots.items w.push_number-in-Some.new.numbers.items w.dropped_root.ensures w.in_ok-push_number-2.ensures c.loop-k.invariant.roots;
+                roots_more (edits_before log k)
+                (edits_before log (k + 1)) edit one w.dropped_root.result c.loop-k.roots.items w.push_number-in-Some.new.numbers.items
+                w.dropped_root.ensures w.in_ok-push_number-2.ensures c.loop-k.invariant.roots;
           })
-      | in_default w ↦ rw (w.slots-is, w.cleared-is, w.roots-is, no_edit log k r lt c.live_edit.ensures w.in_default.is) (record { slots = c.loop-k.invariant.slots; cleared = c.loop-k.invariant.cleared; roots = c.loop-k.invariant.roots })
+      | in_default w ↦ rw (w.slots-is, w.cleared-is, w.roots-is, no_edit log k r lt c.live_edit.ensures w.in_default.is)
+          (record { slots = c.loop-k.invariant.slots; cleared = c.loop-k.invariant.cleared; roots = c.loop-k.invariant.roots })
     ]
 
 pub returns : goal.returns
@@ -36,6 +45,8 @@ returns c =
     let log = c.args.front.now in
     let all = all_before log c.loop-k.k (omega arith) in
     is_removed_by dump log _
-    (slots_sorted dump (live_edits log) c.loop-k.slots.items c.of.result c.of.ensures (subst (λ es. AreSlots dump es c.loop-k.slots.items) all c.loop-k.invariant.slots))
+    (slots_sorted dump (live_edits log) c.loop-k.slots.items c.of.result c.of.ensures
+    (subst (λ es. AreSlots dump es c.loop-k.slots.items) all c.loop-k.invariant.slots))
     (subst (λ es. AreKinds es c.loop-k.cleared) all c.loop-k.invariant.cleared)
-    (roots_sorted (live_edits log) c.loop-k.roots.items c.of-2.result c.of-2.ensures (subst (λ es. AreRoots es c.loop-k.roots.items) all c.loop-k.invariant.roots))
+    (roots_sorted (live_edits log) c.loop-k.roots.items c.of-2.result c.of-2.ensures
+    (subst (λ es. AreRoots es c.loop-k.roots.items) all c.loop-k.invariant.roots))

@@ -19,9 +19,11 @@ returns c before after is more =
     let slots : (n : ℕ) → multiplicity n new.slots ≡ multiplicity n old.slots + (cond (is_number key n) 1 0) =
     subst (λ (t : Removals). (n : ℕ) → multiplicity n new.slots ≡ multiplicity n t.slots + (cond (is_number key n) 1 0)) c.self.view_is c.in_ok-slots.ensures in
     let kinds : (kind : EdgeKind) → clear_count new.cleared kind ≡ clear_count old.cleared kind + (cond (clears kind edit) 1 0) =
-    subst (λ (t : Removals). (kind : EdgeKind) → clear_count new.cleared kind ≡ clear_count t.cleared kind + (cond (clears kind edit) 1 0)) c.self.view_is c.in_ok-cleared.ensures in
+    subst (λ (t : Removals). (kind : EdgeKind) → clear_count new.cleared kind ≡ clear_count t.cleared kind + (cond (clears kind edit) 1 0)) c.self.view_is
+    c.in_ok-cleared.ensures in
     let roots : (n : ℕ) → multiplicity n new.roots ≡ multiplicity n old.roots + (cond (is_number root n) 1 0) =
-    subst (λ (t : Removals). (n : ℕ) → multiplicity n new.roots ≡ multiplicity n t.roots + (cond (is_number root n) 1 0)) c.self.view_is c.in_ok-roots.ensures in
+    subst (λ (t : Removals). (n : ℕ) → multiplicity n new.roots ≡ multiplicity n t.roots + (cond (is_number root n) 1 0)) c.self.view_is
+    c.in_ok-roots.ensures in
     let es : List Edit = live_edits before in
     let fs : List Edit = live_edits after in
     is_removed_by dump after new

@@ -1,3 +1,5 @@
+-- One part after another from the last on: a part without classes is left out, with all its sub-records.
+-- So behind the place that is found there is no class.
 use Rattle.std.proofs.Common.{◌≡◌, ◌∙◌, [], List, ℕ, length, drop, sym, ap, arith}
 use Rattle.std.specs.List.{filter_map}
 use Rattle.std.proofs.lemmas.List.{drop_all}
@@ -24,34 +26,45 @@ index-part-requires c = omega (arith, c.loop-left.invariant.within, c.self.insid
 pub overflow_sub-start : goal.overflow_sub-start
 overflow_sub-start c =
     let h = c.loop-left.invariant in
-    omega (arith, c.len-start.ensures, part-fits c.self.inside.parts.items c.loop-left.left c.loop-left.start c.loop-left-test.true h.within h.place c.index-part.result.now c.index-part.ensures)
+    omega (
+      arith,
+      c.len-start.ensures,
+      part-fits c.self.inside.parts.items c.loop-left.left c.loop-left.start c.loop-left-test.true h.within h.place
+          c.index-part.result.now c.index-part.ensures,
+    )
 
 pub returns-then-end-gt0-clause-within : goal.returns-then-end-gt0-clause-within
 returns-then-end-gt0-clause-within c =
     let h = c.loop-left.invariant in
     rw (← c.self.view_is, c.len-start.ensures)
-    (end-within c.self.inside.parts.items c.loop-left.left c.loop-left.start c.loop-left-test.true h.within h.place c.index-part.result.now c.index-part.ensures c.classes_end-end.result c.classes_end-end.ensures.within)
+    (end-within c.self.inside.parts.items c.loop-left.left c.loop-left.start c.loop-left-test.true h.within h.place c.index-part.result.now c.index-part.ensures
+    c.classes_end-end.result c.classes_end-end.ensures.within)
 
 pub returns-then-end-gt0-clause-last : goal.returns-then-end-gt0-clause-last
 returns-then-end-gt0-clause-last c =
     let h = c.loop-left.invariant in
     rw (← c.self.view_is, c.len-start.ensures)
-    (λ some. class-before c.self.inside.parts.items c.loop-left.left c.loop-left.start c.loop-left-test.true h.within h.place c.index-part.result.now c.index-part.ensures c.classes_end-end.result c.classes_end-end.ensures.within c.if-end-gt0.true
+    (λ some. class-before c.self.inside.parts.items c.loop-left.left c.loop-left.start c.loop-left-test.true h.within h.place c.index-part.result.now
+    c.index-part.ensures c.classes_end-end.result c.classes_end-end.ensures.within c.if-end-gt0.true
     (c.classes_end-end.ensures.last c.if-end-gt0.true))
 
 pub returns-then-end-gt0-clause-none_after : goal.returns-then-end-gt0-clause-none_after
 returns-then-end-gt0-clause-none_after c =
     let h = c.loop-left.invariant in
     rw (← c.self.view_is, c.len-start.ensures)
-    (none-after c.self.inside.parts.items c.loop-left.left c.loop-left.start c.loop-left-test.true h.within h.place c.index-part.result.now c.index-part.ensures c.classes_end-end.result c.classes_end-end.ensures.within h.none c.classes_end-end.ensures.none_after)
+    (none-after c.self.inside.parts.items c.loop-left.left c.loop-left.start c.loop-left-test.true h.within h.place c.index-part.result.now c.index-part.ensures
+    c.classes_end-end.result c.classes_end-end.ensures.within h.none c.classes_end-end.ensures.none_after)
 
 pub loop-left-preserved : goal.loop-left-preserved
 loop-left-preserved c =
     let h = c.loop-left.invariant in
     record {
       within = omega (arith, h.within);
-      place = rw c.len-start.ensures (part-place c.self.inside.parts.items c.loop-left.left c.loop-left.start c.loop-left-test.true h.within h.place c.index-part.result.now c.index-part.ensures);
-      none = none-in-part c.self.inside.parts.items c.loop-left.left c.loop-left.start c.loop-left-test.true h.within h.place c.index-part.result.now c.index-part.ensures c.classes_end-end.result c.classes_end-end.ensures.within h.none c.classes_end-end.ensures.none_after (omega arith);
+      place = rw c.len-start.ensures
+          (part-place c.self.inside.parts.items c.loop-left.left c.loop-left.start c.loop-left-test.true h.within h.place c.index-part.result.now
+          c.index-part.ensures);
+      none = none-in-part c.self.inside.parts.items c.loop-left.left c.loop-left.start c.loop-left-test.true h.within h.place c.index-part.result.now
+          c.index-part.ensures c.classes_end-end.result c.classes_end-end.ensures.within h.none c.classes_end-end.ensures.none_after (omega arith);
     }
 
 pub returns-clause-none_after : goal.returns-clause-none_after

@@ -10,4 +10,5 @@ returns-clause-ok c =
     let a = c.self.inside in
     rw (c.push_reserved.ensures.items, c.in_ok-reserve.ensures.items, c.in_ok-push_class.ensures.ok, ← c.self.view_is)
     (ap (λ (xs : List Sub). let r : Reader = record { bytes = a.bytes.now; size = a.id_size; subs = xs } in r)
-    (push-row a.id_size a.bytes.now a.rows (record { offset = c.args.offset; item = Class (class_view c.args.class) }) a.entries.items c.in_ok-entry.entry c.self.invariant c.in_ok-entry.ensures))
+    (push-row a.id_size a.bytes.now a.rows (record { offset = c.args.offset; item = Class (class_view c.args.class) }) a.entries.items c.in_ok-entry.entry
+    c.self.invariant c.in_ok-entry.ensures))

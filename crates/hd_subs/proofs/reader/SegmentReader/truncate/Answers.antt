@@ -10,4 +10,5 @@ returns c =
     let a = c.self.inside in
     rw (← c.self.view_is)
     (ap (λ (xs : List Sub). let r : Reader = record { bytes = a.bytes.now; size = a.id_size; subs = xs } in r)
-    (ap (map (sub_of_entry a.id_size a.bytes.now a.rows)) c.truncate.ensures.items ∙ sym (take-map (sub_of_entry a.id_size a.bytes.now a.rows) c.args.len a.entries.items)))
+    (ap (map (sub_of_entry a.id_size a.bytes.now a.rows)) c.truncate.ensures.items
+    ∙ sym (take-map (sub_of_entry a.id_size a.bytes.now a.rows) c.args.len a.entries.items)))

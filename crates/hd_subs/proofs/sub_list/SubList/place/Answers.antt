@@ -21,5 +21,6 @@ loop-part-preserved c =
     let d = c.part-item.result in
     let past : length (slice_index_or parts k d) ≤ c.loop-part.index = rw (← c.part-item.is) (omega arith) in (
       omega (arith, c.loop-part.invariant.0, length-behind parts k d (omega arith), ap (λ part. length part) c.part-item.is, past),
-      ap (λ n. slice_get (joined (drop (k + 1) parts)) (c.loop-part.index - n)) (c.len-index.ensures ∙ ap (λ part. length part) c.part-item.is) ∙ sym (found-behind parts k d (omega arith) c.loop-part.index past) ∙ c.loop-part.invariant.1,
+      ap (λ n. slice_get (joined (drop (k + 1) parts)) (c.loop-part.index - n)) (c.len-index.ensures ∙ ap (λ part. length part) c.part-item.is)
+          ∙ sym (found-behind parts k d (omega arith) c.loop-part.index past) ∙ c.loop-part.invariant.1,
     )

@@ -6,4 +6,5 @@ use Rattle.hd_totals.proofs.group_totals.GroupTotals.apply.Given as goal
 
 -- the first changes are in the totals
 abbrev pub invariant-loop-change : goal.invariant-loop-change
-invariant-loop-change l = (before after : List Reached) → AreTotalsBefore l.graph l.fn.self l.changes before after → IsBetween l.graph before l.changes l.change-index l.self
+invariant-loop-change l = (before after : List Reached) → AreTotalsBefore l.graph l.fn.self l.changes before after
+    → IsBetween l.graph before l.changes l.change-index l.self

@@ -9,10 +9,12 @@ use Rattle.hd_totals.proofs.group_totals.GroupTotals.of.Goals as goal
 pub returns-clause-totals : goal.returns-clause-totals
 returns-clause-totals g c =
     rw c.in_ok-totals.ensures
-    (all-counted c.args.graph.now c.args.supports.now (totals_of c.in_ok-counted.field-0.counted) c.in_ok-counted.ensures.counted.counted c.in_ok-counted.ensures.few)
+    (all-counted c.args.graph.now c.args.supports.now
+    (totals_of c.in_ok-counted.field-0.counted) c.in_ok-counted.ensures.counted.counted c.in_ok-counted.ensures.few)
 
 pub returns-clause-pages : goal.returns-clause-pages
 returns-clause-pages g c o lt =
     let dump = c.args.graph.now in
     let page : page_of o - page_of 0 ≡ page_of o = omega arith in
-    subst (λ (n : ℕ). IsNoted c.in_ok-counted.field-0.pages n (object_at dump o).group (object_at dump o).id) page (c.in_ok-counted.ensures.counted.noted o (omega arith) lt)
+    subst (λ (n : ℕ). IsNoted c.in_ok-counted.field-0.pages n (object_at dump o).group (object_at dump o).id) page
+    (c.in_ok-counted.ensures.counted.noted o (omega arith) lt)

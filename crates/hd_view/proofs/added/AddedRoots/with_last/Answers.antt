@@ -27,6 +27,7 @@ returns c before event is are =
     let place : number + 1 ≡ length log = omega (arith, c.requires, c.len-number.ensures.len) in
     let few : length dump.roots + length log < 2 ^ 32 = omega (arith, c.len.ensures.len, c.roots_len.ensures, c.if-len-roots_len.false) in
     let more : (o : ℕ) → numbers_on new o ≡ numbers_on old o ++ (cond (object == o) (number ∷ []) []) =
-    subst (λ (ns : List NumberOn). (o : ℕ) → numbers_on new o ≡ numbers_on ns o ++ (cond (object == o) (number ∷ []) [])) (c.behind-added.view_is ∙ c.deref.ensures) c.in_ok-events.ensures in
+    subst (λ (ns : List NumberOn). (o : ℕ) → numbers_on new o ≡ numbers_on ns o ++ (cond (object == o) (number ∷ []) []))
+    (c.behind-added.view_is ∙ c.deref.ensures) c.in_ok-events.ensures in
     subst (IsAddedBy dump log) (sym c.in_ok-new.ensures.ok)
     (one_added dump before event log is number place c.event.result c.event.ensures object old new few (sym c.in-Some.ensures) more are)

@@ -1,3 +1,5 @@
+-- The entry at an index is the referrer that reverse rows have there (`is_referrer`), so its source has that slot.
+-- The mark of that slot is the edge at this index of those that lead to the object.
 use Rattle.std.proofs.Common.{◌≡◌, ◌∙◌, ◌<◌, List, Some, length, slice_get, sym, ap, subst, arith, true}
 use Rattle.std.proofs.lemmas.Option.{same_Some, slice_get_within}
 use Rattle.hd_terms.specs.Dump.{SlotEntry, object_at}

@@ -9,4 +9,5 @@ pub returns : goal.returns
 returns c =
     let dump = c.self.inside.edited.graph.now in
     let log = c.self.inside.edited.front.now in
-    c.edge_count.ensures ∙ sym (length_edges dump c.args.o log) ∙ ap (λ (v : Viewed). length (edges_of v.dump v.log (c.args.o, object_at v.dump c.args.o))) c.self.view_is
+    c.edge_count.ensures ∙ sym (length_edges dump c.args.o log)
+    ∙ ap (λ (v : Viewed). length (edges_of v.dump v.log (c.args.o, object_at v.dump c.args.o))) c.self.view_is
