@@ -6,8 +6,9 @@ that it came to nothing (`no OutOfMemory`, `no Behind`); or, for an edit or an u
 the desk hasn't come to it (`no Accepted E`), and then the lines behind it have to be right for a log with that event. Or the
 run ends with the fault OutOfMemory, and nothing is written. The sweeps are:
 
-- smaller and smaller limits of the address space, from 4,000 KiB down in steps of one page, to the first limit under which
-  the system's loader can't start the program;
+- smaller and smaller limits of the address space, in steps of one page, to the first limit under which the system's loader
+  can't start the program: over the sample, whose opening takes no more than the program held before, and over a dump of
+  10,000 objects;
 - the N-th allocation alone refused, for N = 1, 2, .. up to the first run in which nothing was left to refuse (`refuse.rs`);
 - the same over files: `stat` and two sessions over a dump with a weak reference and a finalizer, and `stat` with 1, 4 and 16
   workers over three dumps with a count of 4,294,967,295, which have to be refused for their fault or end out of memory.
@@ -34,7 +35,6 @@ from report import Report, perform, words_of
 from session import Ended, Program, native
 
 PAGE = 4  # KiB
-FIRST_LIMIT = 4000  # KiB
 SPELLED = Format()
 
 ALL, IN_PART = "answered all", "refused at a command"
@@ -196,13 +196,14 @@ class Sample(Model):
         }
 
 
-def weak_and_final() -> bytes:
-    """A weak reference 0x21 and a finalizer 0x31 on one array 0x5, and a list 0x1 of both."""
+def weak_and_final(further: int = 0) -> bytes:
+    """A weak reference 0x21 and a finalizer 0x31 on one array 0x5, and a list 0x1 of both; and further arrays that no root holds."""
     classes = ReferenceClasses(SPELLED, 0x11, 0x101)
     finalizer = [SPELLED.text(0x107, "java/lang/ref/Finalizer"), SPELLED.load_class(6, 0x16, 0x107)]
     subs = [*classes.class_dumps(), SPELLED.class_dump(0x16, classes.of_kind["final"]), SPELLED.root(1)]
     subs += [SPELLED.array(1, [0x21, 0x31]), classes.instance(0x21, classes.of_kind["weak"], 5)]
     subs += [classes.instance(0x31, 0x16, 5), SPELLED.array(5)]
+    subs += [SPELLED.array(0x100000 + 8 * number) for number in range(further)]
     return SPELLED.dump(*classes.records(), *finalizer, SPELLED.segment(*subs))
 
 
@@ -379,17 +380,35 @@ def text_of(kind: Type[Model]) -> str:
     return "".join(line + "\n" for line in kind.LINES)
 
 
-def sweep_limits(program: Program, report: Report) -> None:
+class Falling(NamedTuple):
+    """A session that is run under falling limits of the address space."""
+
+    name: str
+    words: list[str]
+    model: Type[Model]
+    first_limit: int  # KiB
+    met: list[str]
+
+
+def falling(room: str) -> Iterator[Falling]:
+    yield Falling("the sample", [], Sample, 4000, [ALL, ELSEWHERE, NOT_LOADED])
+    many = Path(room) / "many.hprof"
+    many.write_bytes(weak_and_final(10_000))
+    yield Falling("10,000 objects", ["run", str(many)], Clears, 8000, [ALL, OPENING, NOT_LOADED])
+
+
+def sweep_limits(program: Program, report: Report, session: Falling) -> None:
     """Tries smaller and smaller limits, side by side in blocks, down to a block in which nothing is loaded. Below the first limit
     under which the program isn't loaded it has not to be loaded either."""
-    outcomes, judge = Outcomes(report, "limits of the address space", [ALL, OPENING, NOT_LOADED]), judge_session(Sample)
+    outcomes, judge = Outcomes(report, f"limits of the address space, {session.name}", session.met), judge_session(session.model)
     environment = dict(os.environ, LC_ALL="C")
 
     def run(limit: int) -> Ended:
-        return program.finish(["prlimit", f"--as={limit * 1024}", program.path], text_of(Sample), env=environment)
+        words = ["prlimit", f"--as={limit * 1024}", program.path, *session.words]
+        return program.finish(words, text_of(session.model), env=environment)
 
     block, is_gone = 8 * (os.cpu_count() or 1) * PAGE, False
-    for top in range(FIRST_LIMIT, 0, -block):
+    for top in range(session.first_limit, 0, -block):
         limits = range(top, max(top - block, 0), -PAGE)
         in_block = set()
         for limit, ended in zip(limits, program.side_by_side(run, limits)):
@@ -451,7 +470,8 @@ def refuse(given: argparse.Namespace, report: Report) -> None:
     need("prlimit")
     with Program(native(given.program, given.seconds)) as program, tempfile.TemporaryDirectory() as room:
         library = build_library(room)
-        sweep_limits(program, report)
+        for session in falling(room):
+            sweep_limits(program, report, session)
         for case in cases(room):
             sweep_allocations(program, library, report, case)
 
