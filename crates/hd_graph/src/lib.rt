@@ -1,17 +1,16 @@
 //! The graph of a dump: its objects by number, their slots, and its roots.
 //!
-//! Callers open a file by `open_dump` or `open_named_dump` and see a `Graph`, which contracts see as the `Dump`. A graph
-//! never changes, and it needs no byte of the file. Only `open_named_dump` keeps the names of fields and statics.
+//! Callers see a `Graph`, which contracts see as the `Dump`. A graph never changes, and it needs no byte of the file.
 //! Here the definitions of files meet those of the heap: most crates that stand on this one speak of the dump alone.
 //!
-//! `open_dump` (`opening.rt`) runs the phases in the order records, sub-records, classes, objects. The answer is the
-//! first fault of the first phase that has one.
+//! `hd_opening` reads the records, the sub-records and the classes of a file. `Graph::build` (`building.rt`) makes the
+//! graph of these, or finds the first fault of the objects:
 //!
-//! - It reads the records, and then the sub-records by workers. Meanwhile two threads note the first text of each ID.
-//! - It builds the classes, with the names of their fields and statics or without.
-//! - `Graph::build` copies the names of classes and gives up the records and texts. It makes the numbers, rows and
-//!   shapes of the objects, gives up the list of the sub-records, and has `hd_slots` turn the file offsets in the
-//!   rows into numbers.
+//! - It copies the names of classes, and gives up the records and texts.
+//! - It makes the numbers, rows and shapes of the objects, and gives up the list of the sub-records.
+//! - It has `hd_slots` turn the file offsets in the rows into numbers.
+//!
+//! The names of fields and statics aren't in that graph. `Graph::with_classes` adds them where they are to be kept.
 //!
 //! Numbers, rows and shapes are made in one pass, by as many threads as there are workers, each of which takes a part
 //! of the sub-records (`sharing.rt`, `stretch.rt`). For each sub-record a thread does two things:

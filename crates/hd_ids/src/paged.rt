@@ -31,7 +31,7 @@ pub(crate) enum Following {
     Unserved(PagedIds),
 }
 
-/// Whether so many numbers in rows serve for so many IDs.
+/// Whether rows serve that have `numbers` numbers for `ids` IDs.
 fn serve(numbers: usize, ids: usize) -> bool
     requires { ids < 2 ^ 62 }
     ensures { result ≡ true → (numbers ≤ 2 ^ 32) × (numbers ≤ ids * 64 + 2 ^ 16) × (ids ≤ 2 ^ 31) }
