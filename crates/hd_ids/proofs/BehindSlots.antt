@@ -1,6 +1,7 @@
 -- IDs by the slots of their numbers, as those of further pages are put behind them.
-use Rattle.std.proofs.Common.{◌≡◌, ◌∙◌, ℕ, true, false, ◌+◌, ◌*◌, ◌<◌, ◌≤◌, ◌^◌, nat_eq, List, ◌++◌, length, map, get_or, sym, ap, subst, arith, All}
+use Rattle.std.proofs.Common.{◌≡◌, ◌∙◌, ℕ, Bool, true, false, ◌+◌, ◌*◌, ◌<◌, ◌≤◌, ◌^◌, nat_eq, List, ◌++◌, length, map, get_or, sym, ap, subst, arith, All}
 use Rattle.std.proofs.Common.{length-append}
+use Rattle.std.specs.Prelude.{MatchBool}
 use Rattle.std.specs.List.{IsDistinct}
 use Rattle.std.proofs.lemmas.List.{get_or_default, length-map}
 use Rattle.std.proofs.lemmas.List.Elements.{All-append, All-weaker}
@@ -8,6 +9,26 @@ use Rattle.hd_ids.specs.Noted.{are_apart}
 use Rattle.hd_ids.specs.Rows.{row_of, id_of_slot, ids_in, AreNumbers, AreRows, AreSlots}
 use Rattle.hd_ids.specs.Put.{moved_slot, AreApartRows, AreRowsPut, HaveGotRows, RowsMeet}
 use Rattle.hd_ids.proofs.BehindLemmas.{apart-rows, both-have, numbers-low, numbers-behind, are-apart, ids-behind, moved-all}
+
+-- the pages of those behind, once they are called otherwise
+pub by-pages : {pages numbers grown kept rows more : List ℕ} (others : List ℕ) → more ≡ others → HaveGotRows pages numbers grown kept rows more (length more)
+    → HaveGotRows pages numbers grown kept rows others (length others)
+by-pages {pages = pages} {numbers = numbers} {grown = grown} {kept = kept} {rows = rows} others is h =
+    subst (λ (ps : List ℕ). HaveGotRows pages numbers grown kept rows ps (length ps)) is h
+
+-- what putting rows answers, for rows that are called otherwise
+module _ (old new rows more : List ℕ) (base : ℕ) {others : List ℕ} (is : rows ≡ others) {apart : Bool}
+    (h : MatchBool apart (AreRowsPut old new rows more base (length rows)) (RowsMeet old rows more)) where
+  answer : (b : Bool) → apart ≡ b → MatchBool b (AreRowsPut old new others more base (length others)) (RowsMeet old others more)
+  answer b e =
+      subst (λ (rs : List ℕ). MatchBool b (AreRowsPut old new rs more base (length rs)) (RowsMeet old rs more)) is
+      (subst (λ (x : Bool). MatchBool x (AreRowsPut old new rows more base (length rows)) (RowsMeet old rows more)) e h)
+
+  pub put-if : apart ≡ true → AreRowsPut old new others more base (length others)
+  put-if e = answer true e
+
+  pub meet-if : apart ≡ false → RowsMeet old others more
+  meet-if e = answer false e
 
 module _ {pages numbers slots : List ℕ} {last_page last_row : ℕ} (h : AreSlots pages numbers slots last_page last_row)
     {back_pages back_numbers back_slots : List ℕ} {back_page back_row : ℕ} (k : AreSlots back_pages back_numbers back_slots back_page back_row)

@@ -412,15 +412,7 @@ empty_closure = record empty_dump { mode = modes.Closure }
 
 -- nothing, but a text and a load are repeated
 abbrev pub repeated_strings_and_loads : Dump
-repeated_strings_and_loads = record {
-  mode = modes.Direct;
-  objects = [];
-  roots = [];
-  repeated = record { objects = 0; strings = 1; loads = 1 };
-  opaque = 0;
-  names = (0x11, 0x41 ∷ []) ∷ [];
-  classes = [];
-}
+repeated_strings_and_loads = record empty_dump { repeated = record { objects = 0; strings = 1; loads = 1 }; names = (0x11, 0x41 ∷ []) ∷ [] }
 
 -- nothing but names: that of a class is the first text of the ID under which it is loaded first
 abbrev pub first_names : Dump
@@ -524,27 +516,11 @@ two_arrays = record {
 
 -- [1: 2]  [2:]
 abbrev pub repeated_id : Dump
-repeated_id = record {
-  mode = modes.Direct;
-  objects = array 1 (2 ∷ []) ∷ array 2 [] ∷ [];
-  roots = [];
-  repeated = record { objects = 1; strings = 0; loads = 0 };
-  opaque = 0;
-  names = [];
-  classes = [];
-}
+repeated_id = record empty_dump { objects = array 1 (2 ∷ []) ∷ array 2 [] ∷ []; repeated = record { objects = 1; strings = 0; loads = 0 } }
 
 -- <1: 2>  <2: 9>
 abbrev pub absent_super : Dump
-absent_super = record {
-  mode = modes.Direct;
-  objects = class_object 1 2 ∷ class_object 2 9 ∷ [];
-  roots = [];
-  repeated = none_repeated;
-  opaque = 0;
-  names = [];
-  classes = class_with 1 [] ∷ class_with 2 [] ∷ [];
-}
+absent_super = record empty_dump { objects = class_object 1 2 ∷ class_object 2 9 ∷ []; classes = class_with 1 [] ∷ class_with 2 [] ∷ [] }
 
 -- <11: 0>  (2 of 11: 5)
 abbrev pub repeated_size_mismatch : Dump
@@ -730,16 +706,7 @@ phantom_closure = record phantom_referent { mode = modes.Closure }
 
 -- root 1  root 2  [1:]  [2:]  [7:]
 abbrev pub added_and_dropped_roots : Dump
-added_and_dropped_roots = record {
-  mode = modes.Direct;
-  objects = array 1 [] ∷ array 2 [] ∷ array 7 [] ∷ [];
-  roots = root 1 ∷ root 2 ∷ [];
-  repeated =
-      none_repeated;
-  opaque = 0;
-  names = [];
-  classes = [];
-}
+added_and_dropped_roots = record empty_dump { objects = array 1 [] ∷ array 2 [] ∷ array 7 [] ∷ []; roots = root 1 ∷ root 2 ∷ [] }
 
 -- logs
 
