@@ -1,12 +1,14 @@
 #!/usr/bin/env python3
-"""Measures cuts near the roots, their undos, drops of roots and clears of kinds, one dump after the other.
+"""Measures cuts near the roots, their undos, drops of roots, clears of kinds and cuts of fields in whole classes, one dump after
+the other.
 
     bench/cuts.py [--program PATH] [--cuts N] [--seed N] DUMP..
 
 The cuts are along chains: of random members of the classes with the most bytes each of the first six links, statics among them,
 and of random roots the first slots. Each is cut and undone on a log that begins empty, and then once more behind all of these
-pairs. A second session drops roots, and clears each kind of references. It prints a row of a table for each dump, in
-milliseconds. A cut that changes nothing is one by which no object falls; it may still weaken some.
+pairs. A second session drops roots, clears each kind of references, and cuts each field of the classes with the most bytes in all
+their objects. It prints a row of a table for each dump, in milliseconds. A cut that changes nothing is one by which no object
+falls; it may still weaken some.
 """
 from __future__ import annotations
 
@@ -24,7 +26,7 @@ sys.path.insert(0, str(Path(__file__).resolve().parent.parent / "checks"))
 
 from session import Program, Session, Wrong, add_program  # noqa: E402
 
-CLASSES, MEMBERS, LINKS, SLOTS = 40, 40, 6, 4
+CLASSES, MEMBERS, LINKS, SLOTS, FIELDS = 40, 40, 6, 4, 64
 KINDS = ("soft", "weak", "final", "phantom")
 BLOCK = 65_536  # lines that are held at once
 CUTTABLE = re.compile("[fes][0-9]+")
@@ -70,6 +72,14 @@ def links_of(session: Session, rng: random.Random) -> list[tuple[str, str]]:
     return found
 
 
+def fields_of(session: Session) -> list[str]:
+    """The cuts of the fields of the classes with the most bytes, each in all objects of its class."""
+    groups = [group for group, *_ in session.rows("top STRONG") if group.startswith("0x")][:CLASSES]
+    members = [(group, session.rows(f"head 1 members {group} STRONG")[0][0]) for group in groups]
+    slots = [(group, row[0]) for group, member in members for row in session.rows(f"head {FIELDS} slots {member}")]
+    return [f"cutall {group} {slot}" for group, slot in slots if slot[0] == "f"]
+
+
 def pair(session: Session, line: str) -> Pair | None:
     """An edit and its undo, or nothing where the edit is refused."""
     reply, edit = session.timed(line)
@@ -92,6 +102,16 @@ def shown(times: list[float]) -> str:
     return f"{median(ordered):.3f} / {ordered[len(ordered) * 95 // 100]:.2f} / {ordered[-1]:.1f}"
 
 
+def slowest_of_none(done: list[Pair]) -> str:
+    """The longest edit by which nothing fell."""
+    return f"{max((each.edit for each in done if each.fell == 0), default=0.0):.1f}"
+
+
+def most(done: list[Pair]) -> str:
+    """The most objects that fell by one edit."""
+    return f"{max((each.fell for each in done), default=0):,}"
+
+
 def measure(program: Program, dump: str, cuts: int, rng: random.Random) -> str:
     """The row of a dump."""
     began = time.perf_counter()
@@ -106,12 +126,13 @@ def measure(program: Program, dump: str, cuts: int, rng: random.Random) -> str:
     roots = [f"drop {row[0]}" for row in picked(session, "roots", 2000, rng)]
     drops = pairs(session, roots)
     clears = pairs(session, [f"clearall {kind}" for kind in KINDS])
+    fields = pairs(session, fields_of(session))
     session.quit()
-    quiet = max((each.edit for each in first if each.fell == 0), default=0.0)
     cells = [
         Path(dump).name, f"{opening:.2f}", str(len(first)), shown([each.edit for each in first]), shown([each.undo for each in first]),
-        f"{quiet:.1f}", f"{max((each.fell for each in first), default=0):,}", shown([each.edit for each in again]), str(len(drops)),
-        shown([each.edit for each in drops]), shown([each.edit for each in clears]),
+        slowest_of_none(first), most(first), shown([each.edit for each in again]), str(len(drops)), shown([each.edit for each in drops]),
+        shown([each.edit for each in clears]), str(len(fields)), shown([each.edit for each in fields]),
+        shown([each.undo for each in fields]), slowest_of_none(fields), most(fields),
     ]
     return f"| {' | '.join(cells)} |"
 
@@ -124,8 +145,9 @@ def main() -> None:
     words.add_argument("dumps", metavar="DUMP", nargs="+")
     given = words.parse_args()
     print("| Dump | Opening, s | Cuts | Cut: median / 95 % / worst, ms | Undo | Worst where nothing fell | Most that fell "
-          "| Cuts again behind the pairs | Drops | Drop | Clear of a kind |")
-    print("|---|---|---|---|---|---|---|---|---|---|---|", flush=True)
+          "| Cuts again behind the pairs | Drops | Drop | Clear of a kind | Fields cut in classes | Cut of these | Undo "
+          "| Worst where nothing fell | Most that fell |")
+    print("|---" * 16 + "|", flush=True)
     with Program(given.program, wait=600) as program:
         for dump in given.dumps:
             print(measure(program, dump, min(1000, given.cuts), random.Random(given.seed)), flush=True)

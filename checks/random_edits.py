@@ -1,8 +1,9 @@
 #!/usr/bin/env python3
 """Random edits on random dumps: each answer of hdesk is compared with one computed from scratch.
 
-A dump has arrays that refer to each other at random, with cycles, doubly linked lists and a dense part, and reference
-objects of all kinds; IDs of 4 or 8 bytes, and roots of all kinds. Edits of all kinds and undos follow. After each, what the
+A dump has arrays that refer to each other at random, with cycles, doubly linked lists and a dense part, reference objects of
+all kinds, and instances of a class and of one below it, with fields that are null or absent in some; IDs of 4 or 8 bytes, and
+roots of all kinds. Edits of all kinds and undos follow. After each, what the
 event made unreachable and brought back, the strength of each object, and the totals of groups at each strength have to be
 those of the definition. The definition is computed here, by paths and by nothing else. The script ends at the first answer
 that isn't right, and keeps the dump and the lines.
@@ -18,13 +19,15 @@ from typing import Dict, Iterator, Tuple, Union
 
 sys.dont_write_bytecode = True  # the checkout stays as it is
 
-from dumps import REFERENCE_KINDS, ROOTS, Format, ReferenceClasses
+from dumps import INT, OBJECT, REFERENCE_KINDS, ROOTS, Format, ReferenceClasses
 from report import Report, perform, positive, words_of
 from session import Program, Wrong, native
 
 NAMES = ["UNREACHABLE", "PHANTOM", "FINAL", "WEAK", "SOFT", "STRONG"]
 RANK = {"soft": 4, "weak": 3, "final": 2, "phantom": 1, "strong": 5}
 MODES = ["direct", "closure"]
+ABOVE, BELOW = 0x31, 0x32  # the classes with fields: an object, an int and an object; one object more
+FIELDS = {ABOVE: ["f0", "f2"], BELOW: ["f0", "f1", "f3"]}  # those that are objects, a class's own first
 
 Edit = Tuple[Union[str, int], ...]  # the edit's name and its words
 Live = Dict[int, Edit]  # the live edits by their events
@@ -38,12 +41,14 @@ class Heap:
         self.classes = ReferenceClasses(self.spelled, 0x11, 0x101)
         self.arrays = [0x1000 + i for i in range(draw.randint(3, 24))]
         self.references = {0x2000 + i: draw.choice(REFERENCE_KINDS) for i in range(draw.randint(0, 8))}
-        everything = self.arrays + list(self.references)
+        self.instances = {0x3000 + i: draw.choice([ABOVE, BELOW]) for i in range(draw.randint(0, 8))}
+        everything = self.arrays + list(self.references) + list(self.instances)
         self.elements = {a: [draw.choice(everything) for _ in range(draw.choice([0, 1, 1, 2, 2, 3]))] for a in self.arrays}
         self.tangle(draw)
         self.referents = {r: draw.choice(everything) for r in self.references}
+        self.values = {o: [draw.choice([*everything, 0, 0x9999]) for _ in FIELDS[c]] for o, c in self.instances.items()}
         self.roots = [(draw.choice(everything), draw.choice(list(ROOTS))) for _ in range(draw.randint(1, 3))]
-        self.objects = list(self.classes.names) + everything
+        self.objects = list(self.classes.names) + [ABOVE, BELOW] + everything
 
     def tangle(self, draw: random.Random) -> None:
         """Adds doubly linked lists, a dense part, nulls and an ID that no object has."""
@@ -64,24 +69,40 @@ class Heap:
 
     def subs(self) -> Iterator[bytes]:
         yield from self.classes.class_dumps()
+        yield self.spelled.class_dump(ABOVE, 0, [(0x201, OBJECT), (0x202, INT), (0x203, OBJECT)])
+        yield self.spelled.class_dump(BELOW, ABOVE, [(0x204, OBJECT)])
         for target, kind in self.roots:
             yield self.spelled.root(target, kind)
         for a in self.arrays:
             yield self.spelled.array(a, self.elements[a])
         for r, kind in self.references.items():
             yield self.classes.instance(r, self.classes.of_kind[kind], self.referents[r])
+        for o, class_id in self.instances.items():
+            *first, last = self.values[o]
+            yield self.spelled.instance(o, class_id, self.spelled.ids(*first) + bytes(4) + self.spelled.ids(last))
+
+    def class_of(self, o: int) -> int:
+        """The ID of the class of an instance."""
+        return self.instances[o] if o in self.instances else self.classes.of_kind[self.references[o]]
+
+    def fields(self) -> list[tuple[int, str]]:
+        """The fields of all classes that have an instance, each with the ID of the class."""
+        of_references = {(self.class_of(r), "f0") for r in self.references}
+        return sorted(of_references | {(c, slot) for c in self.instances.values() for slot in FIELDS[c]})
 
     def group(self, o: int) -> tuple[int, str, str]:
         """The group of an object: where it stands among groups, its line's first word, and its name."""
         if o in self.elements:
             return 0, "0x0", "?"
-        if o in self.references:
-            class_id = self.classes.of_kind[self.references[o]]
-            return class_id, f"{class_id:#x}", self.classes.names[class_id]
+        if o in self.references or o in self.instances:
+            class_id = self.class_of(o)
+            return class_id, f"{class_id:#x}", self.classes.names.get(class_id, "?")
         return 1 << 65, "c", "classes"
 
     def size(self, o: int) -> int:
         """The recorded bytes of an object."""
+        if o in self.instances:
+            return self.spelled.id_size * len(self.values[o]) + 4
         return self.spelled.id_size * (len(self.elements[o]) if o in self.elements else int(o in self.references))
 
     def edges(self) -> Iterator[tuple[int, str, str, int]]:
@@ -89,6 +110,7 @@ class Heap:
         known = set(self.objects)
         for class_id in self.classes.of_kind.values():
             yield class_id, "super", "strong", self.classes.reference
+        yield BELOW, "super", "strong", ABOVE
         for a in self.arrays:
             for i, target in enumerate(self.elements[a]):
                 if target in known:
@@ -96,6 +118,9 @@ class Heap:
         for r, kind in self.references.items():
             yield r, "f0", kind, self.referents[r]
             yield r, "class", "strong", self.classes.of_kind[kind]
+        for o, class_id in self.instances.items():
+            yield from ((o, slot, "strong", value) for slot, value in zip(FIELDS[class_id], self.values[o]) if value in known)
+            yield o, "class", "strong", class_id
 
 
 def strengths(heap: Heap, mode: str, live: Live) -> dict[int, int]:
@@ -105,7 +130,8 @@ def strengths(heap: Heap, mode: str, live: Live) -> dict[int, int]:
     out: dict[int, list[tuple[int, int]]] = {}
     for source, slot, kind, target in heap.edges():
         is_cleared = slot == "f0" and (("clear", source) in edits or ("clearall", kind) in edits)
-        if not is_cleared and ("cut", source, slot) not in edits:
+        is_cut = ("cut", source, slot) in edits or (slot[0] == "f" and ("cutall", heap.class_of(source), slot) in edits)
+        if not is_cleared and not is_cut:
             out.setdefault(source, []).append((RANK[kind], target))
     roots = dict(enumerate(target for target, _ in heap.roots))
     roots.update({len(heap.roots) + event: edit[1] for event, edit in live.items() if edit[0] == "add"})
@@ -133,8 +159,10 @@ def random_edit(draw: random.Random, heap: Heap, live: Live) -> Edit:
         return ("cut", *draw.choice(edges))
     if what < 0.7 and heap.references:
         return "clear", draw.choice(list(heap.references))
-    if what < 0.78:
+    if what < 0.75:
         return "clearall", draw.choice(REFERENCE_KINDS)
+    if what < 0.82 and heap.fields():
+        return ("cutall", *draw.choice(heap.fields()))
     if what < 0.9:
         count = len(heap.roots)
         return "drop", draw.choice([*range(count), *(count + event for event, edit in live.items() if edit[0] == "add")])
@@ -143,7 +171,7 @@ def random_edit(draw: random.Random, heap: Heap, live: Live) -> Edit:
 
 def line_of(edit: Edit) -> str:
     """An edit as a line spells it: IDs, and no other numbers, are hexadecimal."""
-    is_id = edit[0] in ("cut", "clear", "add")
+    is_id = edit[0] in ("cut", "cutall", "clear", "add")
     return " ".join(f"{word:#x}" if is_id and isinstance(word, int) else str(word) for word in edit)
 
 

@@ -252,12 +252,12 @@ class Clears(Model):
 
 
 class Names(Clears):
-    """A session over that dump that begins with names, in which references are cleared one by one and all at once."""
+    """A session over that dump that begins with names, in which references go one by one, by kind and by class."""
 
     LINES = [
-        "slots 0x21", "chain 0x5", "into 0x5", "object 0x5", "find Weak", "top STRONG", "clear 0x21", "moved 0", "freed 0",
-        "find Finalizer", "chain 0x5", "private", "clearall final", "moved 0", "freed 0", "fell 0", "object 0x5", "head 1 into 0x5",
-        "chain 0x5", "back", "moved 0", "undo", "moved 0", "head 2 top STRONG", "members 0x16 STRONG", "quit",
+        "slots 0x21", "chain 0x5", "into 0x5", "object 0x5", "find Weak", "top STRONG", "cutall 0x13 f0", "moved 0",
+        "clear 0x21", "freed 0", "find Finalizer", "chain 0x5", "private", "clearall final", "moved 0", "freed 0", "fell 0", "object 0x5", "head 1 into 0x5",
+        "chain 0x5", "back", "moved 0", "undo", "moved 0", "undo", "moved 0", "head 2 top STRONG", "members 0x16 STRONG", "quit",
     ]
     FIELD = "java/lang/ref/Reference.referent"
     CLASSES = {"0x21": "java/lang/ref/WeakReference", "0x31": "java/lang/ref/Finalizer"}
@@ -267,11 +267,12 @@ class Names(Clears):
         self.home: list[int | str] = []  # the log before the private part
 
     def is_event(self, line: str) -> bool:
-        return line == "clearall final" or super().is_event(line)
+        return line in ("clearall final", "cutall 0x13 f0") or super().is_event(line)
 
     def stands(self, reference: str) -> bool:
         live = [self.log[number] for number in self.live()]
-        return f"clear {reference}" not in live and (reference == "0x21" or "clearall final" not in live)
+        wide = "cutall 0x13 f0" if reference == "0x21" else "clearall final"
+        return f"clear {reference}" not in live and wide not in live
 
     def query(self, line: str) -> list[str]:
         if line == "private":

@@ -67,7 +67,7 @@ class LargerDump:
 
     def edit(self, draw: random.Random) -> str:
         """A line with an edit that the dump doesn't refuse."""
-        [kind] = draw.choices(["cut", "clear", "clearall", "drop", "add"], [70, 18, 1, 8, 3])
+        [kind] = draw.choices(["cut", "clear", "clearall", "cutall", "drop", "add"], [70, 18, 1, 1, 8, 3])
         if kind == "cut":
             name = draw.choice([name for name, held in self.held.items() if held])
             return f"cut {name:#x} e{draw.randrange(len(self.held[name]))}"
@@ -75,6 +75,8 @@ class LargerDump:
             return f"clear {draw.choice(self.REFERENCES):#x}"
         if kind == "clearall":
             return f"clearall {draw.choice(REFERENCE_KINDS)}"
+        if kind == "cutall":
+            return f"cutall {draw.choice(list(self.classes.of_kind.values())):#x} f0"
         if kind == "drop":
             return f"drop {draw.randrange(len(self.roots))}"
         return f"add {draw.choice(self.ids):#x}"

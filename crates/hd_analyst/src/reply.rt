@@ -120,6 +120,7 @@ pub fn refusal_text(refusal: Refusal) -> &'static [u8]
 {
     match refusal {
         Refusal::NoSuchObject => b"NoSuchObject",
+        Refusal::NoSuchClass => b"NoSuchClass",
         Refusal::NoSuchSlot => b"NoSuchSlot",
         Refusal::NotCuttable => b"NotCuttable",
         Refusal::NotReference => b"NotReference",

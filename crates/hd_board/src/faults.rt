@@ -55,7 +55,7 @@ impl From<NoMemory> for LookFault {
 pub enum EditFault {
     /// Memory ran out as the desk caught up with what it had seen.
     Behind,
-    /// The dump refuses the edit: `NoSuchObject`, `NoSuchSlot`, `NotCuttable`, `NotReference` or `EmptySlot`.
+    /// The dump refuses the edit: `NoSuchObject`, `NoSuchClass`, `NoSuchSlot`, `NotCuttable`, `NotReference` or `EmptySlot`.
     Refused(Refusal),
     /// The edit isn't appended.
     Append(AppendFault),

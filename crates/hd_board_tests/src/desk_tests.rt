@@ -1,7 +1,7 @@
 //! Two desks in one thread: whose edits they may take back, what they learn of one another, and how a board is closed.
 use crate::boards::{Answer, CUT, closed, cut, edit, first_two, strength_at, two_desks, undo};
 use hd_board::{Board, Desk, LearnFault, RefreshFault, open};
-use hd_state_tests::dumps::{graph_of, wide_array};
+use hd_state_tests::dumps::{SOFT_THEN_WEAK, graph_of, wide_array};
 use hd_terms::{Edit, LogFault, Refusal, Slot, Strength};
 use std::alloc::Global;
 use std::process::Abort;
@@ -45,6 +45,25 @@ fn two_cuts_of_one_slot(rt: HostRuntime) {
     assert!(rt; undo_by(&rt, rt.alloc(), &board, desks, 0, 1) == not_yours);
     assert!(rt; undo_by(&rt, rt.alloc(), &board, desks, 0, 0) == Some(Ok((2, 0, 0))));
     assert!(rt; undo_by(&rt, rt.alloc(), &board, desks, 1, 1) == Some(Ok((3, 0, 1))));
+}
+
+/// The first desk cuts a field in a whole class, and the second cuts it in one object of the class. Both are taken back, first
+/// by the first desk and then in the other order.
+#[test]
+fn field_cut_in_a_class_and_in_an_object(rt: HostRuntime) {
+    let graph = graph_of(&rt, rt.alloc(), SOFT_THEN_WEAK).expect(&rt, "the dump opens");
+    let (board, mut desks) = open(&rt, rt.alloc(), graph, 2).expect(&rt, "the board opens");
+    let desks = desks.as_mut_slice();
+    let cut_all = Edit::CutAll(0x12, 0);
+    let cut = Edit::Cut(0x21, Slot::Field(0));
+    assert!(rt; edit_by(&rt, rt.alloc(), &board, desks, 0, cut_all) == Some(Ok((0, 5, 0))));
+    assert!(rt; edit_by(&rt, rt.alloc(), &board, desks, 1, cut) == Some(Ok((1, 0, 0))));
+    assert!(rt; undo_by(&rt, rt.alloc(), &board, desks, 0, 0) == Some(Ok((2, 0, 2))));
+    assert!(rt; undo_by(&rt, rt.alloc(), &board, desks, 1, 1) == Some(Ok((3, 0, 3))));
+    assert!(rt; edit_by(&rt, rt.alloc(), &board, desks, 0, cut_all) == Some(Ok((4, 5, 0))));
+    assert!(rt; edit_by(&rt, rt.alloc(), &board, desks, 1, cut) == Some(Ok((5, 0, 0))));
+    assert!(rt; undo_by(&rt, rt.alloc(), &board, desks, 1, 5) == Some(Ok((6, 0, 0))));
+    assert!(rt; undo_by(&rt, rt.alloc(), &board, desks, 0, 4) == Some(Ok((7, 0, 5))));
 }
 
 /// A board of two desks over the array of 3,000 references.

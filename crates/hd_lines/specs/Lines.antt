@@ -267,6 +267,26 @@ drop_command arguments = spelled (option_map (λ (r : ℕ). commands.Edit (edits
 abbrev pub clearall_command : List (List ℕ) → Result Command LineFault
 clearall_command arguments = spelled (option_map (λ (kind : RefKind). commands.Edit (edits.ClearAll kind)) (option_and_then kind_of_word (only_word arguments)))
 
+-- `cutall ID fN`: any other slot is a wrong argument
+abbrev pub field_of_slot : Slot → Option ℕ
+field_of_slot (slots.Field i) = Some i
+field_of_slot (slots.Element i) = None
+field_of_slot (slots.Static i) = None
+field_of_slot (slots.Const i) = None
+field_of_slot slots.OfClass = None
+field_of_slot slots.Super = None
+field_of_slot slots.Loader = None
+field_of_slot slots.Signers = None
+field_of_slot slots.Domain = None
+
+abbrev pub cutall_of : Option ℕ → Option ℕ → Option Command
+cutall_of None field = None
+cutall_of (Some id) field = option_map (λ (i : ℕ). commands.Edit (edits.CutAll id i)) field
+
+abbrev pub cutall_command : List (List ℕ) → Result Command LineFault
+cutall_command [] = Err faults.BadArgument
+cutall_command (id ∷ rest) = spelled (cutall_of (id_of_word id) (option_and_then field_of_slot (option_and_then slot_of_word (only_word rest))))
+
 -- `undo`, and `undo N`
 abbrev pub undo_command : List (List ℕ) → Result Command LineFault
 undo_command [] = Ok (commands.Undo None)
@@ -290,6 +310,7 @@ change_command word arguments =
     else if bytes_eq word (codes "drop") then drop_command arguments
     else if bytes_eq word (codes "add") then with_id (λ id. commands.Edit (edits.Add id)) arguments
     else if bytes_eq word (codes "clearall") then clearall_command arguments
+    else if bytes_eq word (codes "cutall") then cutall_command arguments
     else if bytes_eq word (codes "undo") then undo_command arguments
     else asks (query_of word arguments)
 

@@ -93,6 +93,7 @@ log_fault_name faults.OutOfMemory = codes "OutOfMemory"
 
 abbrev pub refusal_name : Refusal → List ℕ
 refusal_name refusals.NoSuchObject = codes "NoSuchObject"
+refusal_name refusals.NoSuchClass = codes "NoSuchClass"
 refusal_name refusals.NoSuchSlot = codes "NoSuchSlot"
 refusal_name refusals.NotCuttable = codes "NotCuttable"
 refusal_name refusals.NotReference = codes "NotReference"
@@ -170,6 +171,7 @@ edit_text (edits.Clear id) = codes "clear " ++ id_text id
 edit_text (edits.Drop r) = codes "drop " ++ decimal r
 edit_text (edits.Add id) = codes "add " ++ id_text id
 edit_text (edits.ClearAll kind) = codes "clearall " ++ kind_name (kind_of_references kind)
+edit_text (edits.CutAll id i) = codes "cutall " ++ id_text id ++ 32 ∷ slot_name (slots.Field i)
 
 -- whether an edit is live, as it is printed
 abbrev pub live_name : Bool → List ℕ

@@ -76,6 +76,11 @@ pub fn line_examples()
     ensures drop_of_an_id { command_of (codes "drop 0x1") ≡ Err line_faults.BadArgument }
     ensures clear_all { command_of (codes "clearall soft") ≡ Ok (commands.Edit (edits.ClearAll references.Soft)) }
     ensures clear_all_strong { command_of (codes "clearall strong") ≡ Err line_faults.BadArgument }
+    ensures cut_all { command_of (codes "cutall 0x12 f0") ≡ Ok (commands.Edit (edits.CutAll 0x12 0)) }
+    ensures cut_all_of_an_element { command_of (codes "cutall 0x12 e0") ≡ Err line_faults.BadArgument }
+    ensures cut_all_of_a_type { command_of (codes "cutall t8 f0") ≡ Err line_faults.BadArgument }
+    ensures cut_all_of_the_classes { command_of (codes "cutall c f0") ≡ Err line_faults.BadArgument }
+    ensures cut_all_without_a_field { command_of (codes "cutall 0x12") ≡ Err line_faults.BadArgument }
     ensures roots { command_of (codes "roots") ≡ Ok (commands.Ask None queries.Roots) }
     ensures events { command_of (codes "events") ≡ Ok (commands.Ask None queries.Events) }
     ensures events_of_one { command_of (codes "events 0") ≡ Err line_faults.BadArgument }
@@ -127,6 +132,8 @@ pub fn reply_examples()
         (codes "ok 2" ++ 10 ∷ codes "0 0 cut 0x1 e0 undone" ++ 10 ∷ codes "1 0 undo 0" ++ 10 ∷ []) }
     ensures first_event { IsReply examples.two_arrays (at_log (beginning false [] []) examples.cut_and_undo) (codes "head 1 events")
         (codes "ok 1" ++ 10 ∷ codes "0 0 cut 0x1 e0 undone" ++ 10 ∷ []) }
+    ensures cut_all { IsReply examples.two_arrays (at_log (beginning false [] []) (examples.does 0 (edits.CutAll 1 0) ∷ [])) (codes "events")
+        (codes "ok 1" ++ 10 ∷ codes "0 0 cutall 0x1 f0 live" ++ 10 ∷ []) }
     ensures odd_name { name_text (Some (0x41 ∷ 0x20 ∷ 0xc3 ∷ 0xa9 ∷ 0x5c ∷ [])) ≡ codes "A\\x20\\xc3\\xa9\\x5c" }
     ensures no_name { name_text None ≡ codes "?" }
     ensures empty_name { name_text (Some []) ≡ codes "?" }

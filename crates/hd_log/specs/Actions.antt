@@ -49,4 +49,5 @@ what_by actions.ClearAllSoft id number = whats.Do (edits.ClearAll references.Sof
 what_by actions.ClearAllWeak id number = whats.Do (edits.ClearAll references.Weak)
 what_by actions.ClearAllFinal id number = whats.Do (edits.ClearAll references.Final)
 what_by actions.ClearAllPhantom id number = whats.Do (edits.ClearAll references.Phantom)
+what_by actions.CutAll id number = whats.Do (edits.CutAll id number)
 what_by actions.Undo id number = whats.Undo number

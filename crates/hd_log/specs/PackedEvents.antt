@@ -21,6 +21,7 @@ packed_by who (whats.Do (edits.Clear id)) = record { id = id; number = 0; who = 
 packed_by who (whats.Do (edits.Drop root)) = record { id = root; number = 0; who = who; action = actions.Drop }
 packed_by who (whats.Do (edits.Add id)) = record { id = id; number = 0; who = who; action = actions.Add }
 packed_by who (whats.Do (edits.ClearAll kind)) = record { id = 0; number = 0; who = who; action = clear_all_of kind }
+packed_by who (whats.Do (edits.CutAll id i)) = record { id = id; number = i; who = who; action = actions.CutAll }
 packed_by who (whats.Undo k) = record { id = 0; number = k; who = who; action = actions.Undo }
 
 abbrev pub packed_of : Event → Inside

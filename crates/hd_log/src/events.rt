@@ -109,7 +109,8 @@ fn root_refusal(events: &[PackedEvent], live: &[bool], roots: u64, edit: Edit) -
 {
     match edit {
         Edit::Drop(r) if !is_root(events, live, roots, r) => Some(Refusal::NoSuchRoot),
-        Edit::Cut(_, _) | Edit::Clear(_) | Edit::Drop(_) | Edit::Add(_) | Edit::ClearAll(_) => None,
+        Edit::Cut(_, _) | Edit::Clear(_) | Edit::Drop(_) | Edit::Add(_) => None,
+        Edit::ClearAll(_) | Edit::CutAll(_, _) => None,
     }
 }
 

@@ -24,6 +24,7 @@ enum Action {
     ClearAllWeak,
     ClearAllFinal,
     ClearAllPhantom,
+    CutAll,
     Undo,
 }
 
@@ -58,7 +59,7 @@ impl Action {
     }
 
     /// What an event with this action does. `id` is the ID or the root's number that it names; `number` is that of the slot
-    /// that it cuts or of the event that it takes back.
+    /// or the field that it cuts, or of the event that it takes back.
     fn what(self, id: u64, number: u32) -> What
         ensures { result ≡ what_by self id number }
     {
@@ -79,13 +80,14 @@ impl Action {
             Action::ClearAllWeak => What::Do(Edit::ClearAll(RefKind::Weak)),
             Action::ClearAllFinal => What::Do(Edit::ClearAll(RefKind::Final)),
             Action::ClearAllPhantom => What::Do(Edit::ClearAll(RefKind::Phantom)),
+            Action::CutAll => What::Do(Edit::CutAll(id, number)),
             Action::Undo => What::Undo(number),
         }
     }
 }
 
-/// An event in 16 bytes. `id` is the ID or the root's number that it names, and `number` that of the slot that it cuts or of
-/// the event that it takes back. What an event hasn't is 0, so equal events are kept in equal fields.
+/// An event in 16 bytes. `id` is the ID or the root's number that it names, and `number` that of the slot or the field that it
+/// cuts, or of the event that it takes back. What an event hasn't is 0, so equal events are kept in equal fields.
 #[derive(Clone, Copy, PartialEq, Eq)]
 pub struct PackedEvent {
     id: u64,
@@ -126,6 +128,7 @@ impl PackedEvent {
             What::Do(Edit::Drop(root)) => (Action::Drop, root, 0),
             What::Do(Edit::Add(id)) => (Action::Add, id, 0),
             What::Do(Edit::ClearAll(kind)) => (Action::clear_all(kind), 0, 0),
+            What::Do(Edit::CutAll(id, field)) => (Action::CutAll, id, field),
             What::Undo(k) => (Action::Undo, 0, k),
         };
         PackedEvent {

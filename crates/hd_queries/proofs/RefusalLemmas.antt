@@ -1,18 +1,47 @@
 -- Lemmas on why an edit may not be made.
-use Rattle.std.proofs.Common.{◌≡◌, ◌≢◌, ◌∙◌, ℕ, inl, inr, Bool, true, false, ◌||◌, List, length, Option, None, Some, is_none, slice_get, sym, ap, eq-eqb}
-use Rattle.std.proofs.Common.{ne_eqb}
-use Rattle.std.specs.Prelude.{cond, if◌then◌else◌}
+use Rattle.std.proofs.Common.{◌≡◌, ◌≢◌, ◌∙◌, ℕ, ◌+◌, ◌<◌, ◌≤◌, inl, inr, Bool, true, false, ◌||◌, ◌&&◌, List, length, take, Option, None, Some, is_none}
+use Rattle.std.proofs.Common.{get_or, slice_get, refl, sym, ap, eq-eqb, ne_eqb, take_all}
+use Rattle.std.specs.Prelude.{cond, if◌then◌else◌, is_some}
 use Rattle.std.specs.Option.{option_and_then}
-use Rattle.std.specs.List.{find, position, position_or_len}
+use Rattle.std.specs.List.{find, list_any, position, position_or_len}
 use Rattle.std.proofs.lemmas.Bool.{cases_lt, lt-ltb, le-ltb}
-use Rattle.std.proofs.lemmas.List.Folds.{find_at}
-use Rattle.std.proofs.lemmas.Option.{slice_get_past}
+use Rattle.std.proofs.lemmas.List.Folds.{find_at, list_any_at, list_any_more, list_any_none}
+use Rattle.std.proofs.lemmas.List.Quantifiers.{position-Some}
+use Rattle.std.proofs.lemmas.Option.{slice_get_past, slice_get-get_or}
+use Rattle.hd_terms.specs.declared.EdgeKind.TheVariants as kinds
 use Rattle.hd_terms.specs.declared.Slot.{Slot}
+use Rattle.hd_terms.specs.declared.Slot.TheVariants as slots
+use Rattle.hd_terms.specs.declared.errors.Refusal.{Refusal}
 use Rattle.hd_terms.specs.declared.errors.Refusal.TheVariants as refusals
-use Rattle.hd_terms.specs.Dump.{SlotEntry, Object, Dump, object_at}
+use Rattle.hd_terms.specs.Dump.{SlotEntry, Object, Dump, no_object, object_at}
 use Rattle.hd_terms.specs.Edges.{index_of}
-use Rattle.hd_terms.specs.EditedDump.{same_slot}
+use Rattle.hd_terms.specs.EditedDump.{is_of_class, same_slot}
 use Rattle.hd_terms.specs.Refusals.{is_cuttable, is_empty_slot, empty_refusal, slot_refusal, named_slot, cut_refusal, referent_refusal, clear_refusal}
+use Rattle.hd_terms.specs.Refusals.{is_counted_under, has_field, cut_all_refusal}
+
+or_false : (a : Bool) → (a || false) ≡ a
+or_false true = refl
+or_false false = refl
+
+or_true : (a : Bool) → (a || true) ≡ true
+or_true true = refl
+or_true false = refl
+
+is-none : (index : Option ℕ) → is_some index ≡ false → index ≡ None
+is-none None h = refl
+is-none (Some j) h = absurd cc
+
+is-found : (index : Option ℕ) → is_some index ≡ true → (j : ℕ) × (index ≡ Some j)
+is-found None h = absurd cc
+is-found (Some j) h = (j, refl)
+
+-- stands past the last slot
+abbrev no_entry : SlotEntry
+no_entry = record { slot = slots.OfClass; kind = kinds.Strong; id = 0 }
+
+-- why a field that no object of a class has may not be cut
+abbrev refused_without : Dump → ℕ → Option Refusal
+refused_without dump class = if list_any (is_counted_under class) dump.objects then Some refusals.NoSuchSlot else Some refusals.NoSuchClass
 
 -- what is found stands at the position
 module _ {X : Type 0} (p : X → Bool) (xs : List X) where
@@ -108,3 +137,76 @@ module _ (dump : Dump) (s : SlotEntry) where
 
     pub refers : is_none (index_of dump.objects s.id) ≡ false → empty_refusal dump s ≡ None
     refers target = decides false (ap (λ (b : Bool). b || is_none (index_of dump.objects s.id)) (ne_eqb s.id 0 some) ∙ target)
+
+-- whether an object has a field, by the index of its slot
+module _ (x : Object) (i : ℕ) (index : Option ℕ) where
+  field-there : (j : ℕ) → index ≡ position (at_slot (slots.Field i)) x.slots → index ≡ Some j → list_any (at_slot (slots.Field i)) x.slots ≡ true
+  field-there j first is =
+      let found = position-Some (at_slot (slots.Field i)) x.slots j no_entry (sym first ∙ is) in
+      list_any_at (at_slot (slots.Field i)) x.slots j no_entry found.0 found.1
+
+  field-not-there : ((j : ℕ) (s : SlotEntry) → slice_get x.slots j ≡ Some s → same_slot s.slot (slots.Field i) ≡ true → index ≡ Some j) → index ≡ None
+      → list_any (at_slot (slots.Field i)) x.slots ≡ false
+  field-not-there only none = list_any_none (at_slot (slots.Field i)) x.slots
+      (λ j d lt. by-test j d lt (at_slot (slots.Field i) (get_or x.slots j d)) refl) where
+        by-test : (j : ℕ) (d : SlotEntry) → j < length x.slots → (b : Bool) → at_slot (slots.Field i) (get_or x.slots j d) ≡ b
+            → at_slot (slots.Field i) (get_or x.slots j d) ≡ false
+        by-test j d lt true is =
+            let clash : None ≡ Some j = sym none ∙ only j (get_or x.slots j d) (slice_get-get_or x.slots j d lt) is in
+            absurd cc
+        by-test j d lt false is = is
+
+-- the next object of a dump
+module _ (dump : Dump) (class i o : ℕ) (lt : o < length dump.objects) where
+  -- it isn't counted under the class
+  module _ (other : is_of_class (object_at dump o).group class ≡ false) where
+    pub others_class : (has : Bool) → has ≡ list_any (is_counted_under class) (take o dump.objects)
+        → has ≡ list_any (is_counted_under class) (take (o + 1) dump.objects)
+    others_class has so_far =
+        so_far ∙ sym (list_any_more (is_counted_under class) dump.objects o no_object lt
+        ∙ ap (λ (b : Bool). list_any (is_counted_under class) (take o dump.objects) || b) other
+        ∙ or_false (list_any (is_counted_under class) (take o dump.objects)))
+
+    pub others_field : list_any (has_field class i) (take o dump.objects) ≡ false → list_any (has_field class i) (take (o + 1) dump.objects) ≡ false
+    others_field none =
+        list_any_more (has_field class i) dump.objects o no_object lt
+        ∙ ap (λ (b : Bool). b || has_field class i (object_at dump o)) none
+        ∙ ap (λ (b : Bool). b && list_any (at_slot (slots.Field i)) (object_at dump o).slots) other
+
+  -- it is
+  module _ (counted : is_of_class (object_at dump o).group class ≡ true) where
+    pub one_of_class : true ≡ list_any (is_counted_under class) (take (o + 1) dump.objects)
+    one_of_class =
+        sym (list_any_more (is_counted_under class) dump.objects o no_object lt
+        ∙ ap (λ (b : Bool). list_any (is_counted_under class) (take o dump.objects) || b) counted
+        ∙ or_true (list_any (is_counted_under class) (take o dump.objects)))
+
+    field-is : has_field class i (object_at dump o) ≡ list_any (at_slot (slots.Field i)) (object_at dump o).slots
+    field-is = ap (λ (b : Bool). b && list_any (at_slot (slots.Field i)) (object_at dump o).slots) counted
+
+    module _ (index : Option ℕ) (first : index ≡ position (at_slot (slots.Field i)) (object_at dump o).slots)
+        (only : (j : ℕ) (s : SlotEntry) → slice_get (object_at dump o).slots j ≡ Some s → same_slot s.slot (slots.Field i) ≡ true → index ≡ Some j) where
+      -- and has no such field
+      pub one_without : is_some index ≡ false → list_any (has_field class i) (take o dump.objects) ≡ false
+          → list_any (has_field class i) (take (o + 1) dump.objects) ≡ false
+      one_without absent none =
+          list_any_more (has_field class i) dump.objects o no_object lt
+          ∙ ap (λ (b : Bool). b || has_field class i (object_at dump o)) none
+          ∙ field-is
+          ∙ field-not-there (object_at dump o) i index only (is-none index absent)
+
+      -- it has the field, so the edit isn't refused
+      pub one_with : is_some index ≡ true → None ≡ cut_all_refusal dump class i
+      one_with present =
+          let (j, is) = is-found index present in
+          sym (ap (λ (b : Bool). if b then None else refused_without dump class)
+          (list_any_at (has_field class i) dump.objects o no_object lt (field-is ∙ field-there (object_at dump o) i index j first is)))
+
+-- all objects were gone through, and none has the field
+module _ (dump : Dump) (class i o : ℕ) (past : length dump.objects ≤ o) (has : Bool) (class_is : has ≡ list_any (is_counted_under class) (take o dump.objects))
+    (none : list_any (has_field class i) (take o dump.objects) ≡ false) where
+  pub refused_by_class : cut_all_refusal dump class i ≡ (if has then Some refusals.NoSuchSlot else Some refusals.NoSuchClass)
+  refused_by_class =
+      ap (λ (b : Bool). if b then None else refused_without dump class) (ap (list_any (has_field class i)) (sym (take_all o dump.objects past)) ∙ none)
+      ∙ ap (λ (b : Bool). if b then Some refusals.NoSuchSlot else Some refusals.NoSuchClass)
+      (ap (list_any (is_counted_under class)) (sym (take_all o dump.objects past)) ∙ sym class_is)

@@ -82,6 +82,8 @@ by-what dump log k xs (whats.Do (edits.Drop r)) true has = refl
 by-what dump log k xs (whats.Do (edits.Drop r)) false has = refl
 by-what dump log k xs (whats.Do (edits.ClearAll references)) true has = refl
 by-what dump log k xs (whats.Do (edits.ClearAll references)) false has = refl
+by-what dump log k xs (whats.Do (edits.CutAll class i)) true has = refl
+by-what dump log k xs (whats.Do (edits.CutAll class i)) false has = refl
 by-what dump log k xs (whats.Do (edits.Add id)) true has =
     let root : RootOn = record { number = length dump.roots + k; kind = None; id = id } in
     ap (λ (b : Bool). map (root_row dump log) (cond b (root ∷ filter (has_number dump log) xs) (filter (has_number dump log) xs))) has

@@ -23,6 +23,7 @@ row_by dump log k (Some (edits.Clear id)) = None
 row_by dump log k (Some (edits.Drop r)) = None
 row_by dump log k (Some (edits.Add id)) = Some (root_row dump log (record { number = length dump.roots + k; kind = None; id = id }))
 row_by dump log k (Some (edits.ClearAll references)) = None
+row_by dump log k (Some (edits.CutAll class i)) = None
 
 -- the same of an event
 abbrev pub added_row : Dump → List Event → ℕ × Event → Option RootRow

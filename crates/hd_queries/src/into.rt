@@ -19,7 +19,7 @@ fn row_at(edited: Edited<'_>, source: u32, index: u32) -> IntoRow
         → result ≡ into_row edited.entry.front.now o (object_at edited.entry.graph.now source) s }
 {
     let read = edited.graph.slots(source, index);
-    let mode = if edited.removed.slot(source, index, read.kind) {
+    let mode = if edited.removed.slot(edited.graph, source, index, read.kind) {
         SlotMode::Cut
     } else {
         SlotMode::Stands

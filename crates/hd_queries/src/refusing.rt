@@ -2,14 +2,15 @@
 ghost use Rattle.std.specs.Prelude.{◌≡◌, ◌<◌, length, slice_get, Some};
 ghost use Rattle.hd_terms.specs.Dump.{SlotEntry, object_at};
 ghost use Rattle.hd_terms.specs.Edges.{index_of};
-ghost use Rattle.hd_terms.specs.Refusals.{add_refusal, clear_refusal, cut_refusal, edit_refusal, empty_refusal, is_cuttable};
+ghost use Rattle.hd_terms.specs.Refusals.{add_refusal, clear_refusal, cut_all_refusal, cut_refusal, edit_refusal, empty_refusal, is_cuttable};
 
 use hd_graph::Graph;
 use hd_terms::{Edit, Refusal, Slot};
+use hd_view::is_of_class;
 
-/// Why an edit may not be made over a dump, the first reason, or `None` where it may: there is no such object, the object has
-/// no such slot, the slot may not be cut, the object is no reference, or the slot is empty. Whether there is a root to drop is
-/// for the log to say. It takes no memory.
+/// Why an edit may not be made over a dump, the first reason, or `None` where it may: there is no such object or no object of
+/// such a class, the object or all objects of the class have no such slot, the slot may not be cut, the object is no reference,
+/// or the slot is empty. Whether there is a root to drop is for the log to say. It takes no memory.
 pub fn edit_refusal(graph: &Graph, edit: Edit) -> Option<Refusal>
     ensures { result ≡ edit_refusal graph.now edit }
 {
@@ -19,6 +20,7 @@ pub fn edit_refusal(graph: &Graph, edit: Edit) -> Option<Refusal>
         Edit::Drop(_) => None,
         Edit::Add(id) => refusal_of_add(graph, id),
         Edit::ClearAll(_) => None,
+        Edit::CutAll(class, field) => refusal_of_cut_all(graph, class, field),
     }
 }
 
@@ -62,6 +64,27 @@ fn refusal_of_add(graph: &Graph, id: u64) -> Option<Refusal>
     match graph.index_of(id) {
         Some(_) => None,
         None => Some(Refusal::NoSuchObject),
+    }
+}
+
+/// Why a field may not be cut in all objects that are counted under a class, if it may not: there are none, or none has the
+/// field as a slot.
+fn refusal_of_cut_all(graph: &Graph, class: u64, field: u32) -> Option<Refusal>
+    ensures { result ≡ cut_all_refusal graph.now class field }
+{
+    let mut has_class = false;
+    for o in 0..graph.objects() {
+        if is_of_class(graph, o, class) {
+            has_class = true;
+            if graph.slot_index(o, Slot::Field(field)).is_some() {
+                return None;
+            }
+        }
+    }
+    if has_class {
+        Some(Refusal::NoSuchSlot)
+    } else {
+        Some(Refusal::NoSuchClass)
     }
 }
 

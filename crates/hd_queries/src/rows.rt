@@ -45,7 +45,7 @@ pub fn rows_of(alloc: Global, edited: Edited<'_>, o: u32) -> Result<Vec<SlotRow>
     let mut rows = Vec::with_capacity(alloc, slots as usize)?;
     for i in 0..slots {
         let read = edited.graph.slots(o, i);
-        rows.push(row_of(read, edited.removed.slot(o, i, read.kind)))?;
+        rows.push(row_of(read, edited.removed.slot(edited.graph, o, i, read.kind)))?;
     }
     Ok(rows)
 }

@@ -1,4 +1,4 @@
-//! Random dumps of several shapes: dense ones, lists both ways, wide arrays, and classes near the roots.
+//! Random dumps of several shapes: dense ones, lists both ways, wide arrays, classes near the roots, and fields of two classes.
 use crate::dumps::{random_dump, random_id, reference_lines};
 use hd_state_tests::random::next_random;
 use hd_terms::NoMemory;
@@ -18,15 +18,18 @@ pub enum Shape {
     Wide,
     /// Two classes with roots, each with a loader and a static reference; arrays are of these classes.
     Classes,
+    /// Eight instances of two classes, one of which is below the other. Some of their fields are null or absent.
+    Fields,
 }
 
 /// All shapes.
-pub const SHAPES: [Shape; 5] = [
+pub const SHAPES: [Shape; 6] = [
     Shape::Mixed,
     Shape::Dense,
     Shape::List,
     Shape::Wide,
     Shape::Classes,
+    Shape::Fields,
 ];
 
 /// Random references of an array: their number.
@@ -47,7 +50,7 @@ fn count_of(shape: Shape, i: u64, random: u64) -> u64 {
         Shape::Dense => 5 + random % 4,
         Shape::List => random % 8 / 7,
         Shape::Wide => { if i == 1 { 40 } else { 1 } }
-        Shape::Mixed | Shape::Classes => random % 3,
+        Shape::Mixed | Shape::Classes | Shape::Fields => random % 3,
     }
 }
 
@@ -80,17 +83,45 @@ fn class_lines(text: &mut String, random: u64) -> Result<(), NoMemory> {
     Ok(())
 }
 
-/// The lines of ten arrays of a shape.
-fn array_lines(text: &mut String, shape: Shape, random: u64) -> Result<(), NoMemory> {
+/// The ID in a field: null, that of no object, or a random one.
+fn random_value(x: u64) -> u64 {
+    match x % 6 {
+        0 => 0,
+        1 => 0x99,
+        _ => random_id(x >> 8),
+    }
+}
+
+/// The line of an instance of one of the two classes of `Shape::Fields`, with random references in its fields.
+fn instance_line(text: &mut String, i: u64, random: u64) -> Result<(), NoMemory> {
+    let class = 0x51 + (random >> 16) % 2;
+    write!(text, "instance {i:x} of {class:x}:").map_err(|_| NoMemory)?;
+    let mut x = random;
+    if class == 0x52 {
+        x = next_random(x);
+        let own = random_value(x >> 8);
+        write!(text, " {own:08x}").map_err(|_| NoMemory)?;
+    }
+    x = next_random(x);
+    let (first, last) = (random_value(x >> 8), random_value(x >> 24));
+    writeln!(text, " {first:08x} 00000007 {last:08x}").map_err(|_| NoMemory)?;
+    Ok(())
+}
+
+/// The lines of ten objects of a shape: arrays, and where the shape has fields eight instances before two arrays.
+fn object_lines(text: &mut String, shape: Shape, random: u64) -> Result<(), NoMemory> {
     let mut x = random;
     for i in 1..11u64 {
         x = next_random(x);
-        shaped_line(text, shape, i, x)?;
+        match shape {
+            Shape::Fields if i <= 8 => instance_line(text, i, x)?,
+            _ => shaped_line(text, shape, i, x)?,
+        }
     }
     Ok(())
 }
 
-/// A random dump of a shape: ten arrays, a reference object of each kind, and roots.
+/// A random dump of a shape: ten arrays or instances, a reference object of each kind, and roots.
 pub fn shaped_dump(alloc: Global, shape: Shape, random: u64) -> Result<String, NoMemory> {
     if let Shape::Mixed = shape {
         return random_dump(alloc, random);
@@ -103,7 +134,12 @@ pub fn shaped_dump(alloc: Global, shape: Shape, random: u64) -> Result<String, N
     if let Shape::Classes = shape {
         class_lines(&mut text, x)?;
     }
-    array_lines(&mut text, shape, x)?;
+    if let Shape::Fields = shape {
+        text.push_str(
+            "class 51: 201=object 202=int 203=object\nclass 52 extends 51: 204=object\n",
+        )?;
+    }
+    object_lines(&mut text, shape, x)?;
     reference_lines(&mut text, x)?;
     Ok(text)
 }

@@ -109,6 +109,7 @@ done-by before later k (edits.Clear id) one = one
 done-by before later k (edits.Drop r) one = one
 done-by before later k (edits.Add id) one = one
 done-by before later k (edits.ClearAll kind) one = one
+done-by before later k (edits.CutAll class i) one = one
 
 -- and one that is undone the other way round
 undone-by : (before later : List Event) (k : ℕ) (edit : Edit) → HasOneMore later before k edit → Moves before later (adds_root (Some edit)) k edit
@@ -117,6 +118,7 @@ undone-by before later k (edits.Clear id) one = one
 undone-by before later k (edits.Drop r) one = one
 undone-by before later k (edits.Add id) one = one
 undone-by before later k (edits.ClearAll kind) one = one
+undone-by before later k (edits.CutAll class i) one = one
 
 -- the event of the later log
 module _ (before later : List Event) (next : IsNextLog before later) (e : Event) (at : slice_get later (length before) ≡ Some e) where

@@ -8,7 +8,7 @@ use Rattle.hd_terms.specs.Dump.{Dump, object_at}
 use Rattle.hd_terms.specs.EditedDump.{adds_root, drops}
 use Rattle.hd_terms.specs.Log.{live_edits}
 use Rattle.hd_strength.specs.Cleared.{clears}
-use Rattle.hd_strength.specs.Removed.{Removals, takes_slot, IsRemovedBy}
+use Rattle.hd_strength.specs.Removed.{Removals, cuts_field, takes_slot, IsRemovedBy}
 use Rattle.hd_strength.proofs.RemovedLemmas.{is_removed_by}
 use Rattle.hd_state.specs.Moves.{ChangesEdits}
 
@@ -26,6 +26,7 @@ unmoved dump before after id done t changes is =
     is_removed_by dump after t
     (λ o i s lt at. is.slot_counts o i s lt at ∙ same-count before after (edits.Add id) done changes (takes_slot (object_at dump o) s) refl)
     (λ kind. is.kind_counts kind ∙ same-count before after (edits.Add id) done changes (clears kind) refl)
+    (λ class i. is.field_counts class i ∙ same-count before after (edits.Add id) done changes (cuts_field class i) refl)
     (λ r. is.root_counts r ∙ same-count before after (edits.Add id) done changes (drops r) refl)
 
 pub removed_still : (dump : Dump) (before after : List Event) (edit : Edit) (done : Bool) (t : Removals) → adds_root (Some edit) ≡ true
@@ -35,6 +36,7 @@ removed_still dump before after (edits.Clear id) done t adds = absurd cc
 removed_still dump before after (edits.Drop r) done t adds = absurd cc
 removed_still dump before after (edits.Add id) done t adds = unmoved dump before after id done t
 removed_still dump before after (edits.ClearAll kind) done t adds = absurd cc
+removed_still dump before after (edits.CutAll class i) done t adds = absurd cc
 
 -- an edit that is done or taken back
 pub changes_done : (before after : List Event) (edit : Edit) (done : Bool) → done ≡ true → ChangesEdits before after done edit

@@ -42,5 +42,5 @@ mod repairing;
 mod state;
 
 pub use mark::Mark;
-pub use repairing::{Repair, repaired};
+pub use repairing::{Indexes, Repair, repaired};
 pub use state::{Done, State};

@@ -6,6 +6,7 @@ ghost use Rattle.hd_terms.specs.Regions.{AreChanges};
 ghost use Rattle.hd_terms.specs.Settled.{reached_at};
 ghost use Rattle.hd_strength.specs.Removed.{IsRemovedBy};
 ghost use Rattle.hd_reverse.specs.Reverse.{IsReverseOf};
+ghost use Rattle.hd_totals.specs.GroupPages.{AreNoted};
 ghost use Rattle.hd_view.specs.Added.{IsAddedBy};
 ghost use Rattle.hd_terms.specs.Kept.{AreKept};
 ghost use Rattle.hd_terms.specs.EditedDump.{adds_root};
@@ -18,7 +19,8 @@ use hd_repair::{Change, gain, lose};
 use hd_reverse::ReverseRows;
 use hd_supports::Supports;
 use hd_terms::{Edit, NoMemory, What};
-use hd_view::{AddedRoots, Edited, View, lost_by_edit};
+use hd_totals::GroupPages;
+use hd_view::{AddedRoots, EdgeLists, Edited, View, lost_by_edit};
 use std::alloc::Global;
 
 /// What a repair answers: the repaired supports, the objects whose strength has changed, and how many edges and roots it
@@ -81,6 +83,15 @@ pub(crate) fn moved_by(before: &Front, after: &Front) -> Moved
     }
 }
 
+/// What is found of a graph once, whatever the log: its reverse rows, and which pages of objects may have one of a group.
+#[derive(Clone, Copy)]
+pub struct Indexes<'a> {
+    /// The reverse rows.
+    pub reverse: &'a ReverseRows,
+    /// The pages.
+    pub pages: &'a GroupPages,
+}
+
 /// The supports of a graph under one log, repaired for the log with one more event. What that event takes away or gives is all
 /// by one edit (`moved_by`). The looks are at most twice the degree of its region, and what is kept of all other objects stays.
 ///
@@ -89,7 +100,7 @@ pub(crate) fn moved_by(before: &Front, after: &Front) -> Moved
 /// Memory ran out. The supports that are given stay as they are.
 pub fn repaired(
     alloc: Global,
-    reverse: &ReverseRows,
+    indexes: Indexes<'_>,
     before: Edited<'_>,
     after: Edited<'_>,
     added: &AddedRoots,
@@ -97,7 +108,8 @@ pub fn repaired(
 ) -> Result<Repair, NoMemory>
     requires same { after.graph.now ≡ before.graph.now }
     requires next { IsNextLog before.front.now after.front.now }
-    requires reverse { IsReverseOf after.graph.now reverse.now }
+    requires reverse { IsReverseOf after.graph.now indexes.reverse.now }
+    requires pages { AreNoted after.graph.now indexes.pages.now }
     requires before { IsRemovedBy before.graph.now before.front.now before.removed.now }
     requires after { IsRemovedBy after.graph.now after.front.now after.removed.now }
     requires added { IsAddedBy after.graph.now after.front.now added.now }
@@ -113,10 +125,19 @@ pub fn repaired(
 {
     let moved = moved_by(before.front, after.front);
     let mut supports = supports.share(alloc)?;
-    let mut view = View::new(after.graph, reverse, after.front, after.removed, added);
-    let kinds = reverse.kinds();
+    let mut view = View::new(
+        after.graph,
+        indexes.reverse,
+        after.front,
+        after.removed,
+        added,
+    );
+    let lists = EdgeLists {
+        kinds: indexes.reverse.kinds(),
+        pages: indexes.pages,
+    };
     if moved.loses {
-        let lost = lost_by_edit(alloc, kinds, before, after, moved.event, moved.edit)?;
+        let lost = lost_by_edit(alloc, lists, before, after, moved.event, moved.edit)?;
         let changes = lose(alloc, &mut view, &mut supports, &lost)?;
         let looks = view.looks();
         return Ok(Repair {
@@ -125,7 +146,7 @@ pub fn repaired(
             looks,
         });
     }
-    let gained = lost_by_edit(alloc, kinds, after, before, moved.event, moved.edit)?;
+    let gained = lost_by_edit(alloc, lists, after, before, moved.event, moved.edit)?;
     let changes = gain(alloc, &mut view, &mut supports, &gained)?;
     let looks = view.looks();
     Ok(Repair {

@@ -29,7 +29,7 @@ ghost use Rattle.hd_totals.specs.Totals.{AreTotals};
 
 use crate::mark::Mark;
 use crate::parts::{KeptParts, LogParts, kept_and_reverse, next_removed};
-use crate::repairing::{Repair, repaired};
+use crate::repairing::{Indexes, Repair, repaired};
 use hd_graph::Graph;
 use hd_log::Front;
 use hd_queries::{
@@ -265,14 +265,11 @@ impl State {
             front,
             removed,
         };
-        let repaired = repaired(
-            alloc,
-            &self.reverse,
-            self.edited(),
-            after,
-            added,
-            &self.supports,
-        )?;
+        let indexes = Indexes {
+            reverse: &self.reverse,
+            pages: &self.pages,
+        };
+        let repaired = repaired(alloc, indexes, self.edited(), after, added, &self.supports)?;
         Ok(repaired)
     }
 

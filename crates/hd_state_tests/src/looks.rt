@@ -6,10 +6,11 @@ ghost use Rattle.hd_strength.specs.Removed.{IsRemovedBy};
 use hd_graph::Graph;
 use hd_log::Front;
 use hd_reverse::ReverseRows;
-use hd_state::{Repair, repaired};
+use hd_state::{Indexes, Repair, repaired};
 use hd_strength::{Removed, from_scratch};
 use hd_supports::Supports;
 use hd_terms::{Event, NoMemory, Strength};
+use hd_totals::GroupTotals;
 use hd_view::{AddedRoots, Edited};
 use std::alloc::Global;
 use std::thread::Threads;
@@ -31,7 +32,12 @@ fn repair_over<R: Threads + Sync>(
     let supports = Supports::of(alloc, strengths)?;
     supports.are_few();
     let added = AddedRoots::of(alloc, after.graph, after.front)?;
-    let repair = repaired(alloc, &reverse, before, after, &added, &supports)?;
+    let (_totals, pages) = GroupTotals::of(rt, alloc, after.graph, &supports)?;
+    let indexes = Indexes {
+        reverse: &reverse,
+        pages: &pages,
+    };
+    let repair = repaired(alloc, indexes, before, after, &added, &supports)?;
     Ok(repair)
 }
 

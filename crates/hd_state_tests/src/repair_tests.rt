@@ -137,6 +137,18 @@ fn looks_of_a_cleared_kind(rt: HostRuntime) {
     assert!(rt; gained > 0 && gained <= 22);
 }
 
+/// The same two references are lost where their field is cut in their class.
+#[test]
+fn looks_of_a_field_cut_in_a_class(rt: HostRuntime) {
+    let alloc = rt.alloc();
+    let graph = graph_of(&rt, alloc, SOFT_THEN_WEAK).expect(&rt, "the dump opens");
+    let (lost, gained) = looks_of_both(&rt, alloc, &graph, cut_all(0x12, 0));
+    assert!(rt; lost > 0 && lost <= 22);
+    assert!(rt; gained > 0 && gained <= 22);
+    let (of_no_class, back) = looks_of_both(&rt, alloc, &graph, cut_all(0x99, 0));
+    assert!(rt; of_no_class == 0 && back == 0);
+}
+
 /// Whether these are all of some changes, in any order.
 fn are_all(changes: &[IdChange], expected: &[IdChange]) -> bool {
     if changes.len() != expected.len() {
@@ -180,6 +192,14 @@ fn clear_all(kind: RefKind) -> Event {
     }
 }
 
+/// A cut of a field in all objects of a class.
+fn cut_all(class: u64, field: u32) -> Event {
+    Event {
+        who: 0,
+        what: What::Do(Edit::CutAll(class, field)),
+    }
+}
+
 #[test]
 fn changes_of_a_cut(rt: HostRuntime) {
     let graph = graph_of(&rt, rt.alloc(), CYCLE).expect(&rt, "the dump opens");
@@ -204,6 +224,23 @@ fn changes_of_cleared_soft_references(rt: HostRuntime) {
         (5, Soft, Unreachable),
     ];
     assert!(rt; changes_and_back(&rt, rt.alloc(), &graph, clear_all(RefKind::Soft), &expected));
+}
+
+/// The weak reference 0x22 has the same field, and another class.
+#[test]
+fn changes_of_a_field_cut_in_a_class(rt: HostRuntime) {
+    let graph = graph_of(&rt, rt.alloc(), SOFT_THEN_WEAK).expect(&rt, "the dump opens");
+    let soft = [
+        (0x22, Soft, Unreachable),
+        (0x13, Soft, Unreachable),
+        (3, Weak, Unreachable),
+        (4, Soft, Unreachable),
+        (5, Soft, Unreachable),
+    ];
+    assert!(rt; changes_and_back(&rt, rt.alloc(), &graph, cut_all(0x12, 0), &soft));
+    let weak = [(3, Weak, Unreachable)];
+    assert!(rt; changes_and_back(&rt, rt.alloc(), &graph, cut_all(0x13, 0), &weak));
+    assert!(rt; changes_and_back(&rt, rt.alloc(), &graph, cut_all(0x12, 1), &[]));
 }
 
 /// The array 5 stays final, by the finalizer.

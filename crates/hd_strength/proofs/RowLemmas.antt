@@ -234,6 +234,7 @@ edit-entry dump log k x (Some (edits.Cut id slot)) is = absurd cc
 edit-entry dump log k x (Some (edits.Clear id)) is = absurd cc
 edit-entry dump log k x (Some (edits.Drop r)) is = absurd cc
 edit-entry dump log k x (Some (edits.ClearAll references)) is = absurd cc
+edit-entry dump log k x (Some (edits.CutAll class i)) is = absurd cc
 edit-entry dump log k x (Some (edits.Add id)) is = standing-entry dump (length dump.roots + k) id x (is_dropped log (length dump.roots + k))
     (index_of dump.objects id) refl is
 
@@ -321,6 +322,7 @@ addition dump log k (edits.Cut i slot) id is = absurd cc
 addition dump log k (edits.Clear i) id is = absurd cc
 addition dump log k (edits.Drop n) id is = absurd cc
 addition dump log k (edits.ClearAll references) id is = absurd cc
+addition dump log k (edits.CutAll class i) id is = absurd cc
 addition dump log k (edits.Add i) id is = let same : i ≡ id = cc in
     ap (λ (j : ℕ). option_map (λ (x : RootEntry). x.target) (standing_root dump log (length dump.roots + k) j)) same
 
@@ -330,6 +332,7 @@ no-addition dump log k (edits.Cut i slot) is = refl
 no-addition dump log k (edits.Clear i) is = refl
 no-addition dump log k (edits.Drop n) is = refl
 no-addition dump log k (edits.ClearAll references) is = refl
+no-addition dump log k (edits.CutAll class i) is = refl
 no-addition dump log k (edits.Add i) is = absurd cc
 
 -- what the root holds that an event adds, by its live edit
@@ -370,6 +373,7 @@ adding r (whats.Do (edits.Cut i slot)) id is = absurd cc
 adding r (whats.Do (edits.Clear i)) id is = absurd cc
 adding r (whats.Do (edits.Drop s)) id is = absurd cc
 adding r (whats.Do (edits.ClearAll references)) id is = absurd cc
+adding r (whats.Do (edits.CutAll class i)) id is = absurd cc
 adding r (whats.Do (edits.Add i)) id is = let same : i ≡ id = cc in
     ap (λ (n : ℕ). let root : RootOn = record { number = r; kind = None; id = n } in Some root) same
 adding r (whats.Undo k) id is = absurd cc
@@ -379,6 +383,7 @@ added-only r (whats.Do (edits.Cut i slot)) root is = absurd cc
 added-only r (whats.Do (edits.Clear i)) root is = absurd cc
 added-only r (whats.Do (edits.Drop s)) root is = absurd cc
 added-only r (whats.Do (edits.ClearAll references)) root is = absurd cc
+added-only r (whats.Do (edits.CutAll class i)) root is = absurd cc
 added-only r (whats.Do (edits.Add i)) root is =
     let entry : RootOn = record { number = r; kind = None; id = i } in
     let same : entry ≡ root = cc in
@@ -452,6 +457,7 @@ stands-by dump log k x event (Some (edits.Cut id slot)) at live is = absurd cc
 stands-by dump log k x event (Some (edits.Clear id)) at live is = absurd cc
 stands-by dump log k x event (Some (edits.Drop r)) at live is = absurd cc
 stands-by dump log k x event (Some (edits.ClearAll references)) at live is = absurd cc
+stands-by dump log k x event (Some (edits.CutAll class i)) at live is = absurd cc
 stands-by dump log k x event (Some (edits.Add id)) at live is =
     let root : RootOn = record { number = length dump.roots + k; kind = None; id = id } in
     let parts = standing-parts (is_dropped log (length dump.roots + k)) (held_by dump root) x is in

@@ -15,6 +15,7 @@ clears kind (edits.Clear id) = false
 clears kind (edits.Drop r) = false
 clears kind (edits.Add id) = false
 clears kind (edits.ClearAll references) = same_kind kind (kind_of_references references)
+clears kind (edits.CutAll id i) = false
 
 -- how many edits clear all references of a kind
 abbrev pub clear_count : Cleared → EdgeKind → ℕ

@@ -46,6 +46,7 @@ added_by dump log k (Some (edits.Clear id)) = None
 added_by dump log k (Some (edits.Drop r)) = None
 added_by dump log k (Some (edits.Add id)) = standing_root dump log (length dump.roots + k) id
 added_by dump log k (Some (edits.ClearAll references)) = None
+added_by dump log k (Some (edits.CutAll class i)) = None
 
 -- the same of an event
 abbrev pub standing_added_root : Dump → List Event → ℕ × Event → Option RootEntry
@@ -68,6 +69,7 @@ added_id (edits.Clear id) = None
 added_id (edits.Drop r) = None
 added_id (edits.Add id) = Some id
 added_id (edits.ClearAll references) = None
+added_id (edits.CutAll class i) = None
 
 -- how many roots there can be: those of the dump, and one for each event
 abbrev pub root_count : Dump → List Event → ℕ

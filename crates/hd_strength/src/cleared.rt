@@ -48,7 +48,8 @@ impl Cleared {
                 phantom: self.phantom.checked_add(1).ok_or(NoMemory)?,
                 ..self
             },
-            Edit::Cut(_, _) | Edit::Clear(_) | Edit::Drop(_) | Edit::Add(_) => self,
+            Edit::Cut(_, _) | Edit::Clear(_) | Edit::Drop(_) => self,
+            Edit::Add(_) | Edit::CutAll(_, _) => self,
         };
         Ok(counts)
     }
@@ -74,7 +75,8 @@ impl Cleared {
                 phantom: self.phantom.saturating_sub(1),
                 ..self
             },
-            Edit::Cut(_, _) | Edit::Clear(_) | Edit::Drop(_) | Edit::Add(_) => self,
+            Edit::Cut(_, _) | Edit::Clear(_) | Edit::Drop(_) => self,
+            Edit::Add(_) | Edit::CutAll(_, _) => self,
         }
     }
 

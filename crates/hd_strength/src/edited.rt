@@ -37,7 +37,8 @@ fn added_id(edit: Edit) -> Option<u64>
 {
     match edit {
         Edit::Add(id) => Some(id),
-        Edit::Cut(_, _) | Edit::Clear(_) | Edit::Drop(_) | Edit::ClearAll(_) => None,
+        Edit::Cut(_, _) | Edit::Clear(_) | Edit::Drop(_) => None,
+        Edit::ClearAll(_) | Edit::CutAll(_, _) => None,
     }
 }
 
@@ -116,7 +117,7 @@ pub fn standing_read(edited: Edited<'_>, o: u32, index: u32) -> Option<StandingR
 {
     let read = edited.graph.slots(o, index);
     let target = read.target?;
-    if edited.removed.slot(o, index, read.kind) {
+    if edited.removed.slot(edited.graph, o, index, read.kind) {
         return None;
     }
     Some(StandingRead {

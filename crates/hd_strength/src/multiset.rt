@@ -11,7 +11,7 @@ use std::marker::Model;
 /// Numbers with repeats, in ascending order.
 #[derive(Drop)]
 pub(crate) struct Multiset {
-    numbers: Vec<u64>,
+    numbers: Vec<u128>,
 }
 
 impl Model for Multiset {
@@ -26,7 +26,7 @@ impl Model for Multiset {
 }
 
 /// The place of a number: the first one is there, if there is any, and else it is to be inserted there.
-fn place_of(numbers: &[u64], number: u64) -> usize
+fn place_of(numbers: &[u128], number: u128) -> usize
     requires { IsNonDecreasing numbers.now }
     ensures { IsPlace numbers.now number result }
 {
@@ -34,7 +34,7 @@ fn place_of(numbers: &[u64], number: u64) -> usize
 }
 
 /// Whether a number is among some.
-fn is_among(numbers: &[u64], number: u64) -> bool
+fn is_among(numbers: &[u128], number: u128) -> bool
     requires { IsNonDecreasing numbers.now }
     ensures { result ≡ list_any (nat_eq number) numbers.now }
 {
@@ -43,7 +43,7 @@ fn is_among(numbers: &[u64], number: u64) -> bool
 }
 
 /// A copy with room for one more.
-fn copied(alloc: Global, numbers: &[u64]) -> Result<Vec<u64>, NoMemory>
+fn copied(alloc: Global, numbers: &[u128]) -> Result<Vec<u128>, NoMemory>
     ensures { IfOk result (λ v. v.items ≡ numbers.now) }
 {
     let mut copy = Vec::with_capacity(alloc, numbers.len() + 1)?;
@@ -52,7 +52,7 @@ fn copied(alloc: Global, numbers: &[u64]) -> Result<Vec<u64>, NoMemory>
 }
 
 /// Inserts a number at its place.
-fn insert_number(numbers: &mut Vec<u64>, number: u64) -> Result<(), NoMemory>
+fn insert_number(numbers: &mut Vec<u128>, number: u128) -> Result<(), NoMemory>
     requires { IsNonDecreasing numbers.old.items }
     ensures ascending { OnOk result (IsNonDecreasing numbers.new.items) }
     ensures more { OnOk result ((n : ℕ) → multiplicity n numbers.new.items ≡ multiplicity n numbers.old.items + (if nat_eq n number then 1 else 0)) }
@@ -63,7 +63,7 @@ fn insert_number(numbers: &mut Vec<u64>, number: u64) -> Result<(), NoMemory>
 }
 
 /// Takes out a number once, if it is there.
-fn remove_number(numbers: &mut Vec<u64>, number: u64)
+fn remove_number(numbers: &mut Vec<u128>, number: u128)
     requires { IsNonDecreasing numbers.old.items }
     ensures ascending { IsNonDecreasing numbers.new.items }
     ensures fewer { (n : ℕ) → multiplicity n numbers.new.items ≡ multiplicity n numbers.old.items - (if nat_eq n number then 1 else 0) }
@@ -75,7 +75,7 @@ fn remove_number(numbers: &mut Vec<u64>, number: u64)
 }
 
 /// Adds a number at the end, if one is given.
-pub(crate) fn push_number(numbers: &mut Vec<u64>, number: Option<u64>) -> Result<(), NoMemory>
+pub(crate) fn push_number(numbers: &mut Vec<u128>, number: Option<u128>) -> Result<(), NoMemory>
     ensures { OnOk result ((n : ℕ) → multiplicity n numbers.new.items ≡ multiplicity n numbers.old.items + (if is_number number n then 1 else 0)) }
 {
     if let Some(number) = number {
@@ -86,7 +86,7 @@ pub(crate) fn push_number(numbers: &mut Vec<u64>, number: Option<u64>) -> Result
 
 impl Multiset {
     /// These numbers.
-    pub(crate) fn of(numbers: Vec<u64>) -> Multiset
+    pub(crate) fn of(numbers: Vec<u128>) -> Multiset
         ensures { (n : ℕ) → multiplicity n result ≡ multiplicity n numbers.items }
     {
         let mut numbers = numbers;
@@ -94,16 +94,24 @@ impl Multiset {
         Multiset { numbers }
     }
 
+    /// Whether there are none.
+    #[inline(always)]
+    pub(crate) fn is_empty(&self) -> bool
+        ensures { result ≡ nat_eq (length self.now) 0 }
+    {
+        self.numbers.is_empty()
+    }
+
     /// Whether a number is among these.
     #[inline(always)]
-    pub(crate) fn contains(&self, number: u64) -> bool
+    pub(crate) fn contains(&self, number: u128) -> bool
         ensures { result ≡ list_any (nat_eq number) self.now }
     {
         !self.numbers.is_empty() && is_among(&self.numbers, number)
     }
 
     /// These numbers and one more, if one is given.
-    pub(crate) fn with(&self, alloc: Global, number: Option<u64>) -> Result<Multiset, NoMemory>
+    pub(crate) fn with(&self, alloc: Global, number: Option<u128>) -> Result<Multiset, NoMemory>
         ensures { IfOk result (λ m. (n : ℕ) → multiplicity n m ≡ multiplicity n self.now + (if is_number number n then 1 else 0)) }
     {
         let mut numbers = copied(alloc, &self.numbers)?;
@@ -114,7 +122,7 @@ impl Multiset {
     }
 
     /// These numbers without one, once, if one is given and it is among them.
-    pub(crate) fn without(&self, alloc: Global, number: Option<u64>) -> Result<Multiset, NoMemory>
+    pub(crate) fn without(&self, alloc: Global, number: Option<u128>) -> Result<Multiset, NoMemory>
         ensures { IfOk result (λ m. (n : ℕ) → multiplicity n m ≡ multiplicity n self.now - (if is_number number n then 1 else 0)) }
     {
         let mut numbers = copied(alloc, &self.numbers)?;

@@ -72,7 +72,7 @@ fn gain_at(
         return None;
     }
     let kind = edited.graph.slot_kind(o, index);
-    if edited.removed.slot(o, index, kind) {
+    if edited.removed.slot(edited.graph, o, index, kind) {
         return None;
     }
     Some(Gain {

@@ -27,6 +27,7 @@ root_refusal roots log (edits.Clear id) = None
 root_refusal roots log (edits.Drop r) = if is_root roots log r then None else Some refusals.NoSuchRoot
 root_refusal roots log (edits.Add id) = None
 root_refusal roots log (edits.ClearAll kind) = None
+root_refusal roots log (edits.CutAll id i) = None
 
 -- a fault of the log as a refusal
 abbrev pub by_log : Option LogFault → Option Refusal

@@ -6,6 +6,8 @@ use Rattle.std.specs.List.{filter, filter_map, flat_map, list_any, enumerate_fro
 use Rattle.hd_terms.specs.declared.Slot.{Slot}
 use Rattle.hd_terms.specs.declared.Slot.TheVariants as slots
 use Rattle.hd_terms.specs.declared.RootKind.{RootKind}
+use Rattle.hd_terms.specs.declared.Group.{Group}
+use Rattle.hd_terms.specs.declared.Group.TheVariants as groups
 use Rattle.hd_terms.specs.declared.Edit.{Edit}
 use Rattle.hd_terms.specs.declared.Edit.TheVariants as edits
 use Rattle.hd_terms.specs.declared.Event.{Event}
@@ -38,14 +40,21 @@ abbrev pub is_slot : Slot → Option Slot → Bool
 is_slot slot None = false
 is_slot slot (Some named) = same_slot slot named
 
+-- a group is that of the class of an ID
+abbrev pub is_of_class : Group → ℕ → Bool
+is_of_class (groups.Class class) id = class == id
+is_of_class (groups.Prim element) id = false
+is_of_class groups.Classes id = false
+
 -- an edit takes away the reference in a slot of an object: it cuts the slot, or clears the object whose referent the slot is,
--- or clears all references of the slot's kind
+-- or clears all references of the slot's kind, or cuts the field that the slot is in all objects of the object's class
 abbrev pub takes_away : Object → SlotEntry → Edit → Bool
 takes_away x s (edits.Cut id cut) = (x.id == id) && same_slot s.slot cut
 takes_away x s (edits.Clear id) = (x.id == id) && is_slot s.slot x.referent
 takes_away x s (edits.Drop r) = false
 takes_away x s (edits.Add id) = false
 takes_away x s (edits.ClearAll kind) = same_kind s.kind (kind_of_references kind)
+takes_away x s (edits.CutAll id i) = is_of_class x.group id && same_slot s.slot (slots.Field i)
 
 -- no live edit takes away what is in a slot of an object
 abbrev pub is_untouched : List Event → Object → SlotEntry → Bool
@@ -74,6 +83,7 @@ drops r (edits.Clear id) = false
 drops r (edits.Drop s) = s == r
 drops r (edits.Add id) = false
 drops r (edits.ClearAll kind) = false
+drops r (edits.CutAll id i) = false
 
 -- the root of a number is dropped: a live edit drops it
 abbrev pub is_dropped : List Event → ℕ → Bool
@@ -87,6 +97,7 @@ adds_root (Some (edits.Clear id)) = false
 adds_root (Some (edits.Drop r)) = false
 adds_root (Some (edits.Add id)) = true
 adds_root (Some (edits.ClearAll kind)) = false
+adds_root (Some (edits.CutAll id i)) = false
 
 -- the edit of event k of a log, where there is such an event and it is live
 abbrev pub live_edit_at : List Event → ℕ → Option Edit
@@ -117,6 +128,7 @@ root_added r (whats.Do (edits.Clear id)) = None
 root_added r (whats.Do (edits.Drop s)) = None
 root_added r (whats.Do (edits.Add id)) = Some (record { number = r; kind = None; id = id })
 root_added r (whats.Do (edits.ClearAll kind)) = None
+root_added r (whats.Do (edits.CutAll id i)) = None
 root_added r (whats.Undo k) = None
 
 -- event k adds root n + k to a dump of n roots

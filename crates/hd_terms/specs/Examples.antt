@@ -738,6 +738,10 @@ cut_and_undo = does 0 (cut 0) ∷ undoes 0 0 ∷ []
 abbrev pub clears_of_soft : List Event
 clears_of_soft = does 0 (edits.ClearAll references.Soft) ∷ does 0 (edits.Clear 0x21) ∷ undoes 0 0 ∷ undoes 0 1 ∷ []
 
+-- a field is cut in all objects of a class, and then in one of them alone; then both are taken back
+abbrev pub cuts_of_field : List Event
+cuts_of_field = does 0 (edits.CutAll 0x12 0) ∷ does 0 (edits.Cut 0x21 (slots.Field 0)) ∷ undoes 0 0 ∷ undoes 0 1 ∷ []
+
 -- an undo of an edit, and an undo of that undo
 abbrev pub undo_of_an_undo : List Event
 undo_of_an_undo = does 0 (edits.Add 1) ∷ undoes 0 0 ∷ undoes 0 1 ∷ []

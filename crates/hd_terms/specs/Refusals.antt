@@ -1,8 +1,8 @@
 -- Why the dump refuses an edit, before the log is asked.
 -- Source: this project.
-use Rattle.std.specs.Prelude.{ℕ, ◌==◌, Bool, true, false, ◌||◌, if◌then◌else◌, Option, Some, None, is_none}
+use Rattle.std.specs.Prelude.{ℕ, ◌==◌, Bool, true, false, ◌&&◌, ◌||◌, if◌then◌else◌, Option, Some, None, is_none}
 use Rattle.std.specs.Option.{option_and_then}
-use Rattle.std.specs.List.{find}
+use Rattle.std.specs.List.{find, list_any}
 use Rattle.hd_terms.specs.declared.Slot.{Slot}
 use Rattle.hd_terms.specs.declared.Slot.TheVariants as slots
 use Rattle.hd_terms.specs.declared.Edit.{Edit}
@@ -11,7 +11,7 @@ use Rattle.hd_terms.specs.declared.errors.Refusal.{Refusal}
 use Rattle.hd_terms.specs.declared.errors.Refusal.TheVariants as refusals
 use Rattle.hd_terms.specs.Dump.{SlotEntry, Object, Dump, object_at}
 use Rattle.hd_terms.specs.Edges.{index_of}
-use Rattle.hd_terms.specs.EditedDump.{same_slot}
+use Rattle.hd_terms.specs.EditedDump.{is_of_class, same_slot}
 
 -- fields, elements and statics may be cut; what makes an object what it is may not
 abbrev pub is_cuttable : Slot → Bool
@@ -66,6 +66,21 @@ abbrev pub add_refusal : Option ℕ → Option Refusal
 add_refusal None = Some refusals.NoSuchObject
 add_refusal (Some o) = None
 
+-- an object is counted under the class of an ID: an instance under its class, an object array under its array class
+abbrev pub is_counted_under : ℕ → Object → Bool
+is_counted_under id x = is_of_class x.group id
+
+-- and it has the field of a number, null or not. A field of a primitive type is no slot
+abbrev pub has_field : (id i : ℕ) → Object → Bool
+has_field id i x = is_counted_under id x && list_any (λ (s : SlotEntry). same_slot s.slot (slots.Field i)) x.slots
+
+-- why a field of a class may not be cut in all its objects: there are none, or none has the field
+abbrev pub cut_all_refusal : Dump → (id i : ℕ) → Option Refusal
+cut_all_refusal dump id i =
+    if list_any (has_field id i) dump.objects then None
+    else if list_any (is_counted_under id) dump.objects then Some refusals.NoSuchSlot
+    else Some refusals.NoSuchClass
+
 -- why an edit is refused before the log is asked, if it is
 abbrev pub edit_refusal : Dump → Edit → Option Refusal
 edit_refusal dump (edits.Cut id slot) = cut_refusal dump slot (index_of dump.objects id)
@@ -73,3 +88,4 @@ edit_refusal dump (edits.Clear id) = clear_refusal dump (index_of dump.objects i
 edit_refusal dump (edits.Drop r) = None
 edit_refusal dump (edits.Add id) = add_refusal (index_of dump.objects id)
 edit_refusal dump (edits.ClearAll kind) = None
+edit_refusal dump (edits.CutAll id i) = cut_all_refusal dump id i

@@ -59,7 +59,9 @@ impl<T: Drop> From<AllocFailed<T>> for LogFault {
 pub enum Refusal {
     /// No object of the dump has the ID.
     NoSuchObject,
-    /// The object doesn't have the slot.
+    /// No object of the dump is counted under a class of the ID.
+    NoSuchClass,
+    /// The object doesn't have the slot, or no object of the class has it.
     NoSuchSlot,
     /// The slot isn't a field, an element or a static.
     NotCuttable,

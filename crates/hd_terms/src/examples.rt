@@ -205,6 +205,20 @@ pub fn edit_examples()
     ensures clear_all_of_none { FellCount examples.two_arrays [] (examples.does 0 (edits.ClearAll references.Weak) ∷ []) 0 }
     ensures clear_all_is_taken { edit_refusal examples.two_arrays (edits.ClearAll references.Weak) ≡ None }
     ensures slots_after_clear_all { slot_rows examples.soft_then_weak (take 1 examples.clears_of_soft) (object_at examples.soft_then_weak 7) ≡ (record { slot = slots.Field 0; kind = kinds.Soft; id = 0x22; mode = modes.Cut }) ∷ examples.shown slots.OfClass 0x12 modes.Stands ∷ [] }
+    ensures cut_all { FellCount examples.soft_then_weak [] (take 1 examples.cuts_of_field) 5 }
+    ensures cut_behind_cut_all { FellCount examples.soft_then_weak (take 1 examples.cuts_of_field) (take 2 examples.cuts_of_field) 0 }
+    ensures cut_is_left { FellCount examples.soft_then_weak (take 3 examples.cuts_of_field) (take 2 examples.cuts_of_field) 2 }
+    ensures no_cut_is_left { FellCount examples.soft_then_weak examples.cuts_of_field (take 3 examples.cuts_of_field) 3 }
+    ensures slots_after_cut_all { slot_rows examples.soft_then_weak (take 1 examples.cuts_of_field) (object_at examples.soft_then_weak 7) ≡ (record { slot = slots.Field 0; kind = kinds.Soft; id = 0x22; mode = modes.Cut }) ∷ examples.shown slots.OfClass 0x12 modes.Stands ∷ [] }
+    ensures cut_all_spares_other_classes { slot_rows examples.soft_then_weak (take 1 examples.cuts_of_field) (object_at examples.soft_then_weak 8) ≡ examples.weakly_shown (slots.Field 0) 3 modes.Stands ∷ examples.shown slots.OfClass 0x13 modes.Stands ∷ [] }
+    ensures cut_all_is_taken { edit_refusal examples.soft_then_weak (edits.CutAll 0x12 0) ≡ None }
+    ensures cut_all_of_null { edit_refusal examples.empty_referents (edits.CutAll 0x13 0) ≡ None }
+    ensures no_such_class { edit_refusal examples.soft_then_weak (edits.CutAll 0x99 0) ≡ Some refusals.NoSuchClass }
+    ensures no_such_class_above { edit_refusal examples.soft_then_weak (edits.CutAll 0x11 0) ≡ Some refusals.NoSuchClass }
+    ensures no_such_field { edit_refusal examples.soft_then_weak (edits.CutAll 0x12 1) ≡ Some refusals.NoSuchSlot }
+    ensures primitive_field { edit_refusal examples.wide_instance (edits.CutAll 0x12 1) ≡ Some refusals.NoSuchSlot }
+    ensures field_of_an_opaque_instance { edit_refusal examples.opaque_and_repeated (edits.CutAll 0x98 0) ≡ Some refusals.NoSuchSlot }
+    ensures field_of_an_array { edit_refusal examples.opaque_and_repeated (edits.CutAll 0x99 0) ≡ Some refusals.NoSuchSlot }
     ensures not_reference { edit_refusal examples.weak_and_final_referents (edits.Clear 1) ≡ Some refusals.NotReference }
     ensures clear_of_no_object { edit_refusal examples.two_arrays (edits.Clear 9) ≡ Some refusals.NoSuchObject }
     ensures add { edit_refusal examples.phantom_referent (edits.Add 0x22) ≡ None }

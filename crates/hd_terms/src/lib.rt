@@ -246,7 +246,7 @@ pub struct IntoRow {
     pub mode: SlotMode,
 }
 
-/// A what-if edit. It is never written to the dump. A `u64` is an object's ID, in `Drop` a root's number.
+/// A what-if edit. It is never written to the dump. A `u64` is an object's ID, in `Drop` a root's number, in `CutAll` a class's ID.
 #[derive(Clone, Copy, Debug, PartialEq, Eq)]
 pub enum Edit {
     /// The reference in a slot of an object is taken away.
@@ -259,6 +259,9 @@ pub enum Edit {
     Add(u64),
     /// The referents of all reference objects of a kind are cleared.
     ClearAll(RefKind),
+    /// The references in a field are taken away in all objects that are counted under a class. Fields are numbered in the layout
+    /// of the class. Classes below it are counted for themselves.
+    CutAll(u64, u32),
 }
 
 /// How a root is shown under a log.

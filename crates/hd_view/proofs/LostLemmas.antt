@@ -1,6 +1,6 @@
 use Rattle.std.proofs.Common.{◌≡◌, ◌∙◌, ℕ, ◌+◌, ◌<◌, ◌⊎◌, inl, inr, List, [], ◌∷◌, ◌++◌, Contains, length, get_or, not, Bool, true, false, Option, None, Some}
 use Rattle.std.proofs.Common.{slice_get, refl, sym, ap, subst, arith}
-use Rattle.std.specs.Prelude.{◌≢◌, ◌≤◌, ◌||◌, ◌==◌, position, All}
+use Rattle.std.specs.Prelude.{◌≢◌, ◌-◌, ◌/◌, ◌%◌, ◌≤◌, ◌||◌, ◌==◌, position, All}
 use Rattle.std.specs.Option.{option_map, option_map_or}
 use Rattle.std.specs.List.{enumerate_from}
 use Rattle.std.proofs.lemmas.Bool.{cases_lt, eqb-true, eq-eqb}
@@ -9,24 +9,28 @@ use Rattle.std.proofs.lemmas.List.Quantifiers.{position-Some}
 use Rattle.std.proofs.lemmas.Option.{get_or_from_slice_get, slice_get-get_or, slice_get_within}
 use Rattle.hd_terms.specs.declared.Event.{Event}
 use Rattle.hd_terms.specs.declared.Slot.{Slot}
+use Rattle.hd_terms.specs.declared.Slot.TheVariants as slots
+use Rattle.hd_terms.specs.declared.Group.{Group}
+use Rattle.hd_terms.specs.declared.Group.TheVariants as groups
 use Rattle.hd_terms.specs.declared.RefKind.{RefKind}
 use Rattle.hd_terms.specs.declared.EdgeKind.{EdgeKind}
 use Rattle.hd_terms.specs.declared.Support.TheVariants as supports
 use Rattle.hd_terms.specs.Dump.{SlotEntry, Object, Dump, no_object, object_at}
 use Rattle.hd_terms.specs.Edges.{index_of, edge_of, edges_from, edges, kind_edges}
-use Rattle.hd_terms.specs.EditedDump.{standing, is_untouched, same_slot, slot_code}
+use Rattle.hd_terms.specs.EditedDump.{is_of_class, standing, is_untouched, same_slot, slot_code}
 use Rattle.hd_terms.specs.Paths.{Edge, RootEntry}
 use Rattle.hd_terms.specs.Ranks.{rank, given_by, kind_of_references, same_kind}
 use Rattle.hd_terms.specs.Regions.{Holding, edge_holding, root_holding}
 use Rattle.hd_strength.specs.Cleared.{is_cleared}
-use Rattle.hd_strength.specs.Removed.{Removals, has_slot, is_removed, IsRemovedBy}
+use Rattle.hd_strength.specs.Removed.{Removals, has_pair, has_field, is_removed, IsRemovedBy}
 use Rattle.hd_strength.specs.Rows.{edge_at, root_at}
 use Rattle.hd_strength.proofs.Lists.{Contains-nil, Contains-head, Contains-cons_cases, Contains-slice_get, flat_map_contains, flat_map_only}
 use Rattle.hd_strength.proofs.Lists.{filter_map_contains, filter_map_only, filter_contains, filter_only, enumerate_contains, enumerate_only}
 use Rattle.hd_strength.proofs.RowLemmas.{edge_to, entry_to, not-true, not-false, IsAt, is_at, at_some, at_cut, at_none, at_edge, at_source, edge_stands_at}
 use Rattle.hd_strength.proofs.RowLemmas.{edge_has_index, held_at, root_some, root_stands_at, root_has_number, is_entry}
 use Rattle.hd_terms.specs.Lost.{IsLostEdge, IsLostRoot, AreLost}
-use Rattle.hd_view.specs.Losing.{AddsLost, HasEdge, HasRoot, HasNamed, HasIndexed, HasKind, HasNumber, HasAllLost}
+use Rattle.hd_totals.specs.GroupPages.{PageMarks, AreNoted, IsMarked}
+use Rattle.hd_view.specs.Losing.{AddsLost, HasEdge, HasRoot, HasNamed, HasIndexed, HasKind, HasField, HasFirstFields, HasNumber, HasAllLost}
 
 -- an edge or a root that is lost, by what it holds
 abbrev pub Lost : Dump → List Event → List Event → Holding → Type 0
@@ -44,6 +48,9 @@ adds_one dump more less xs x lost = record {
     | inr new ↦ inr (subst (Lost dump more less) (last-is x h new) lost)
   ];
 }
+
+pub adds_none : (dump : Dump) (more less : List Event) (xs : List Holding) → AddsLost dump more less xs xs
+adds_none dump more less xs = record { kept = λ h c. c; only = λ h c. inl c }
 
 pub adds_more : (dump : Dump) (more less : List Event) (xs ys zs : List Holding) → AddsLost dump more less xs ys → AddsLost dump more less ys zs
     → AddsLost dump more less xs zs
@@ -80,11 +87,11 @@ some-number a b h = cc
 
 -- what is taken away doesn't stand
 pub cut_by : (dump : Dump) (log : List Event) (t : Removals) (o i : ℕ) (s : SlotEntry) (r : Bool) → IsRemovedBy dump log t → o < length dump.objects
-    → slice_get (object_at dump o).slots i ≡ Some s → r ≡ is_removed t o i s.kind → r ≡ true → is_untouched log (object_at dump o) s ≡ false
+    → slice_get (object_at dump o).slots i ≡ Some s → r ≡ is_removed t (object_at dump o) s o i → r ≡ true → is_untouched log (object_at dump o) s ≡ false
 cut_by dump log t o i s r by lt there is cut = not-true (is_untouched log (object_at dump o) s) (sym (by.slots o i s lt there) ∙ sym is ∙ cut)
 
 pub uncut_by : (dump : Dump) (log : List Event) (t : Removals) (o i : ℕ) (s : SlotEntry) (r : Bool) → IsRemovedBy dump log t → o < length dump.objects
-    → slice_get (object_at dump o).slots i ≡ Some s → r ≡ is_removed t o i s.kind → r ≡ false → is_untouched log (object_at dump o) s ≡ true
+    → slice_get (object_at dump o).slots i ≡ Some s → r ≡ is_removed t (object_at dump o) s o i → r ≡ false → is_untouched log (object_at dump o) s ≡ true
 uncut_by dump log t o i s r by lt there is stays = not-false (is_untouched log (object_at dump o) s) (sym (by.slots o i s lt there) ∙ sym is ∙ stays)
 
 -- a slot has its own name
@@ -228,10 +235,11 @@ all_of_kind dump more less kind n items le has e stood is =
     (one-kind e.kind (kind_of_references kind) is) in
     has k e (omega arith) (slice_get-get_or (kind_edges dump kind) k e lt ∙ ap (λ (x : Edge). Some x) at) stood
 
--- neither of two tests
-second-fails : (a b : Bool) → (a || b) ≡ false → b ≡ false
-second-fails true b h = absurd cc
-second-fails false b h = h
+-- the middle one of three tests
+middle-fails : (a b c : Bool) → (a || (b || c)) ≡ false → b ≡ false
+middle-fails true b c h = absurd cc
+middle-fails false true c h = absurd cc
+middle-fails false false c h = refl
 
 -- an edge that stands is of no kind that is cleared
 uncleared : (dump : Dump) (log : List Event) (t : Removals) (e : Edge) → IsRemovedBy dump log t → Contains (standing dump log).edges e
@@ -239,14 +247,65 @@ uncleared : (dump : Dump) (log : List Event) (t : Removals) (e : Edge) → IsRem
 uncleared dump log t e by stood =
     let (i, at) = edge_has_index dump log e stood in
     let known : IsAt dump log e.source i e = is_at dump log e.source i e at in
-    let kept : is_removed t e.source i known.entry.kind ≡ false = by.slots e.source i known.entry known.object known.there ∙ ap not known.stands in
-    ap (λ (x : Edge). is_cleared t.cleared x.kind) known.is ∙ second-fails (has_slot t.slots e.source i) (is_cleared t.cleared known.entry.kind) kept
+    let x : Object = object_at dump e.source in
+    let kept : is_removed t x known.entry e.source i ≡ false = by.slots e.source i known.entry known.object known.there ∙ ap not known.stands in
+    ap (λ (y : Edge). is_cleared t.cleared y.kind) known.is
+    ∙ middle-fails (has_pair t.slots e.source i) (is_cleared t.cleared known.entry.kind) (has_field t.fields x.group known.entry.slot) kept
 
 -- a kind of which none stood
 pub none_stood : (dump : Dump) (more less : List Event) (t : Removals) (kind : RefKind) (r : Bool) (items : List Holding) → IsRemovedBy dump more t
     → r ≡ is_cleared t.cleared (kind_of_references kind) → r ≡ true → HasKind dump more less kind items
 none_stood dump more less t kind r items by is set e stood one =
     let clash : true ≡ false = sym set ∙ is ∙ ap (is_cleared t.cleared) (sym one) ∙ uncleared dump more t e by stood in absurd cc
+
+-- the group of a class
+class-is : (group : Group) (class : ℕ) → is_of_class group class ≡ true → group ≡ groups.Class class
+class-is (groups.Class id) class is = ap (λ (n : ℕ). groups.Class n) (eqb-true id class is)
+class-is (groups.Prim element) class is = absurd cc
+class-is groups.Classes class is = absurd cc
+
+-- the lost edges of a field of the first objects that are counted under a class
+module _ (dump : Dump) (more less : List Event) (class i n : ℕ) where
+  -- the next object is counted under the class
+  pub next_of_class : (xs ys : List Holding) → AddsLost dump more less xs ys → HasNamed dump more less n (slots.Field i) ys
+      → HasFirstFields dump more less class i n xs → HasFirstFields dump more less class i (n + 1) ys
+  next_of_class xs ys adds here before e lt stood counted name = elim (cases_lt e.source n) [
+    | inl earlier ↦ keeps_edge dump more less xs ys adds e (before e earlier stood counted name)
+    | inr le ↦ let last : e.source ≡ n = omega arith in here e stood last name
+  ]
+
+  -- it isn't
+  pub next_of_others : (items : List Holding) → is_of_class (object_at dump n).group class ≡ false → HasFirstFields dump more less class i n items
+      → HasFirstFields dump more less class i (n + 1) items
+  next_of_others items other before e lt stood counted name = elim (cases_lt e.source n) [
+    | inl earlier ↦ before e earlier stood counted name
+    | inr le ↦
+        let last : e.source ≡ n = omega arith in
+        let clash : true ≡ false = sym counted ∙ ap (λ (o : ℕ). is_of_class (object_at dump o).group class) last ∙ other in
+        absurd cc
+  ]
+
+  -- pages that the class isn't noted at
+  pub pages_passed : (pages : PageMarks) (end : ℕ) (items : List Holding) → AreNoted dump pages → end ≤ n + (1024 - n % 1024)
+      → (IsMarked pages (n / 1024) (groups.Class class) → ⊥) → HasFirstFields dump more less class i n items → HasFirstFields dump more less class i end items
+  pages_passed pages end items noted le unmarked before e lt stood counted name = elim (cases_lt e.source n) [
+    | inl earlier ↦ before e earlier stood counted name
+    | inr after ↦
+        let (j, at) = edge_has_index dump more e stood in
+        let within : e.source < length dump.objects = (is_at dump more e.source j e at).object in
+        let page : e.source / 1024 ≡ n / 1024 = omega arith in
+        let marked : IsMarked pages (e.source / 1024) (groups.Class class) =
+        subst (λ (g : Group). IsMarked pages (e.source / 1024) g) (class-is (object_at dump e.source).group class counted) (noted e.source within).marked in
+        absurd (unmarked (subst (λ (p : ℕ). IsMarked pages p (groups.Class class)) page marked))
+  ]
+
+  -- there is no object more
+  pub all_of_class : (items : List Holding) → length dump.objects ≤ n → HasFirstFields dump more less class i n items
+      → HasField dump more less class i items
+  all_of_class items past has e stood =
+      let (j, at) = edge_has_index dump more e stood in
+      let lt : e.source < length dump.objects = (is_at dump more e.source j e at).object in
+      has e (omega (arith, past, lt)) stood
 
 -- a root by the test of its object
 on-by : (t : ℕ) (at : Option RootEntry) → option_map_or (λ (x : RootEntry). x.target == t) at false ≡ true

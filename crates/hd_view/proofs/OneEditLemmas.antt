@@ -3,7 +3,7 @@ use Rattle.std.proofs.Common.{◌≡◌, ◌∙◌, inl, inr, ℕ, zero, suc, �
 use Rattle.std.proofs.Common.{slice_get, refl, sym, ap, subst, arith}
 use Rattle.std.specs.Option.{option_map, option_and_then}
 use Rattle.std.specs.List.{list_any, enumerate_from}
-use Rattle.std.proofs.lemmas.Bool.{cases_lt, cases_eq, eqb-true, lt-leb, lt-ltb}
+use Rattle.std.proofs.lemmas.Bool.{and_parts, cases_lt, cases_eq, eqb-true, lt-leb, lt-ltb}
 use Rattle.std.proofs.lemmas.List.Folds.{Any-from_list_any, list_any-from_Any}
 use Rattle.std.proofs.lemmas.Option.{option_and_then_some, slice_get_within}
 use Rattle.hd_terms.specs.declared.Edit.{Edit}
@@ -13,9 +13,10 @@ use Rattle.hd_terms.specs.declared.EdgeKind.TheVariants as kinds
 use Rattle.hd_terms.specs.declared.Event.{Event}
 use Rattle.hd_terms.specs.declared.RefKind.{RefKind}
 use Rattle.hd_terms.specs.declared.Slot.{Slot}
+use Rattle.hd_terms.specs.declared.Slot.TheVariants as slots
 use Rattle.hd_terms.specs.Dump.{SlotEntry, Object, Root, Dump, object_at}
 use Rattle.hd_terms.specs.Edges.{index_of}
-use Rattle.hd_terms.specs.EditedDump.{standing, takes_away, is_untouched, drops, is_dropped, live_edit_at}
+use Rattle.hd_terms.specs.EditedDump.{standing, is_of_class, same_slot, takes_away, is_untouched, drops, is_dropped, live_edit_at}
 use Rattle.hd_terms.specs.Log.{live_edit, live_edits}
 use Rattle.hd_terms.specs.Paths.{Edge, RootEntry}
 use Rattle.hd_terms.specs.Ranks.{rank, given_by, kind_of_references, same_kind}
@@ -24,7 +25,7 @@ use Rattle.hd_strength.specs.Removed.{takes_slot, IsOnlySlot}
 use Rattle.hd_strength.specs.Rows.{edge_at, root_at, root_by, root_by_event, added_by, standing_root}
 use Rattle.hd_strength.proofs.Lists.{filter_map_contains, filter_map_only, enumerate_contains, enumerate_only}
 use Rattle.hd_strength.proofs.RowLemmas.{entry_to, IsAt, is_at, at_some, edge_stands_at, edge_has_index, not-true, not-false, root_stands_at, root_has_number}
-use Rattle.hd_view.specs.Losing.{HasEdge, HasRoot, HasIndexed, HasEdited, HasKind, HasNumber, HasAllLost}
+use Rattle.hd_view.specs.Losing.{HasEdge, HasRoot, HasIndexed, HasEdited, HasKind, HasField, HasNumber, HasAllLost}
 use Rattle.hd_view.specs.OneEdit.{HasOneMore, LosesBy}
 
 -- what stands under one log stands under another
@@ -136,6 +137,7 @@ module _ (dump : Dump) (before after : List Event) (r : ℕ) (undropped : is_dro
   edit-root k x (Some (edits.Clear id)) number live holds = absurd cc
   edit-root k x (Some (edits.Drop s)) number live holds = absurd cc
   edit-root k x (Some (edits.ClearAll references)) number live holds = absurd cc
+  edit-root k x (Some (edits.CutAll class i)) number live holds = absurd cc
   edit-root k x (Some (edits.Add id)) number live holds = ap (added_by dump after k) (added k id number live)
       ∙ still-held (length dump.roots + k) id x (sym number) holds
 
@@ -260,6 +262,34 @@ pub kind_lost : (dump : Dump) (more less : List Event) (k : ℕ) (kind : RefKind
     → LosesBy more less k edit → HasKind dump more less kind items → HasAllLost dump more less items
 kind_lost dump more less k kind edit items is one has = kind-lost dump more less k kind items (subst (λ (y : Edit). LosesBy more less k y) is one) has
 
+-- a slot that has the name of a field
+field-named : (slot : Slot) (i : ℕ) → same_slot slot (slots.Field i) ≡ true → slot ≡ slots.Field i
+field-named (slots.Field j) i is = ap (λ (n : ℕ). slots.Field n) (eqb-true j i is)
+field-named (slots.Element j) i is = absurd cc
+field-named (slots.Static j) i is = absurd cc
+field-named (slots.Const j) i is = absurd cc
+field-named slots.OfClass i is = absurd cc
+field-named slots.Super i is = absurd cc
+field-named slots.Loader i is = absurd cc
+field-named slots.Signers i is = absurd cc
+field-named slots.Domain i is = absurd cc
+
+-- by an edit of a field of a class
+field-lost : (dump : Dump) (more less : List Event) (k class i : ℕ) (items : List Holding) → HasOneMore more less k (edits.CutAll class i)
+    → HasField dump more less class i items → HasAllLost dump more less items
+field-lost dump more less k class i items one has = record {
+  edges = edge-by-edit dump more less k (edits.CutAll class i) one items
+      (λ e j at c known takes.
+      let both = and_parts (is_of_class (object_at dump e.source).group class) (same_slot known.entry.slot (slots.Field i)) takes in
+      has e c both.0 (ap (λ (x : Edge). x.slot) known.is ∙ field-named known.entry.slot i both.1));
+  roots = root-by-edit dump more less k (edits.CutAll class i) one items (λ r is. absurd cc);
+}
+
+pub field_lost : (dump : Dump) (more less : List Event) (k class i : ℕ) (edit : Edit) (items : List Holding) → edit ≡ edits.CutAll class i
+    → LosesBy more less k edit → HasField dump more less class i items → HasAllLost dump more less items
+field_lost dump more less k class i edit items is one has =
+    field-lost dump more less k class i items (subst (λ (y : Edit). LosesBy more less k y) is one) has
+
 -- by an edit that drops a root
 drop-lost : (dump : Dump) (more less : List Event) (k s : ℕ) (items : List Holding) → HasOneMore more less k (edits.Drop s) → HasNumber dump more less s items
     → HasAllLost dump more less items
@@ -336,3 +366,4 @@ loses_alone dump more less k (edits.Cut id slot) one = shrunk dump more less k (
 loses_alone dump more less k (edits.Clear id) one = shrunk dump more less k (edits.Clear id) (λ i same. absurd cc) one
 loses_alone dump more less k (edits.Drop r) one = shrunk dump more less k (edits.Drop r) (λ i same. absurd cc) one
 loses_alone dump more less k (edits.ClearAll kind) one = shrunk dump more less k (edits.ClearAll kind) (λ i same. absurd cc) one
+loses_alone dump more less k (edits.CutAll class i) one = shrunk dump more less k (edits.CutAll class i) (λ j same. absurd cc) one

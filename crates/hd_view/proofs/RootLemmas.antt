@@ -70,6 +70,7 @@ module _ (dump : Dump) (log : List Event) (o : ℕ) where
   by-what number (whats.Do (edits.Drop r)) rest numbers same = same
   by-what number (whats.Do (edits.Add id)) rest numbers same = one-more number (index_of dump.objects id) (filter_map (marked_root dump log) rest) numbers same
   by-what number (whats.Do (edits.ClearAll kind)) rest numbers same = same
+  by-what number (whats.Do (edits.CutAll class i)) rest numbers same = same
   by-what number (whats.Undo k) rest numbers same = same
 
   abbrev number_after : ℕ → ℕ

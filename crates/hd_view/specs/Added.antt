@@ -19,6 +19,7 @@ id_added (whats.Do (edits.Clear id)) = None
 id_added (whats.Do (edits.Drop r)) = None
 id_added (whats.Do (edits.Add id)) = Some id
 id_added (whats.Do (edits.ClearAll kind)) = None
+id_added (whats.Do (edits.CutAll class i)) = None
 id_added (whats.Undo k) = None
 
 -- the number of the object on which an event adds a root, if there is one

@@ -4,9 +4,10 @@ use Rattle.std.specs.Prelude.{◌≡◌, ℕ, ◌<◌, ◌⊎◌, true, List, le
 use Rattle.hd_terms.specs.declared.Edit.{Edit}
 use Rattle.hd_terms.specs.declared.Event.{Event}
 use Rattle.hd_terms.specs.declared.Slot.{Slot}
+use Rattle.hd_terms.specs.declared.Slot.TheVariants as slots
 use Rattle.hd_terms.specs.declared.RefKind.{RefKind}
 use Rattle.hd_terms.specs.Dump.{SlotEntry, Dump, object_at}
-use Rattle.hd_terms.specs.EditedDump.{standing}
+use Rattle.hd_terms.specs.EditedDump.{is_of_class, standing}
 use Rattle.hd_terms.specs.Paths.{Edge, RootEntry}
 use Rattle.hd_terms.specs.Ranks.{kind_of_references}
 use Rattle.hd_terms.specs.Regions.{Holding, edge_holding, root_holding}
@@ -43,6 +44,16 @@ HasEdited dump more less edit items = (o i : ℕ) (s : SlotEntry) → o < length
 -- the items have the lost edges of a kind
 abbrev pub HasKind : Dump → (more less : List Event) → RefKind → List Holding → Type 0
 HasKind dump more less kind items = (e : Edge) → Contains (standing dump more).edges e → e.kind ≡ kind_of_references kind → HasEdge dump less items e
+
+-- the items have the lost edges of a field of the objects that are counted under a class
+abbrev pub HasField : Dump → (more less : List Event) → (class i : ℕ) → List Holding → Type 0
+HasField dump more less class i items = (e : Edge) → Contains (standing dump more).edges e → is_of_class (object_at dump e.source).group class ≡ true
+    → e.slot ≡ slots.Field i → HasEdge dump less items e
+
+-- the same of the first objects
+abbrev pub HasFirstFields : Dump → (more less : List Event) → (class i n : ℕ) → List Holding → Type 0
+HasFirstFields dump more less class i n items = (e : Edge) → e.source < n → Contains (standing dump more).edges e
+    → is_of_class (object_at dump e.source).group class ≡ true → e.slot ≡ slots.Field i → HasEdge dump less items e
 
 -- the items have the root of a number, if it is lost
 abbrev pub HasNumber : Dump → (more less : List Event) → ℕ → List Holding → Type 0

@@ -27,7 +27,7 @@ pub fn edge_stands(edited: Edited<'_>, o: u32, i: u32) -> bool
         return false;
     }
     let read = edited.graph.slots(o, i);
-    read.target.is_some() && !edited.removed.slot(o, i, read.kind)
+    read.target.is_some() && !edited.removed.slot(edited.graph, o, i, read.kind)
 }
 
 /// Whether a root has this number and stands.

@@ -29,5 +29,5 @@ mod view;
 
 pub use added::AddedRoots;
 pub use edited::{Edited, edge_stands, root_stands};
-pub use lost::lost_by_edit;
+pub use lost::{EdgeLists, is_of_class, lost_by_edit};
 pub use view::View;

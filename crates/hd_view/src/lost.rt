@@ -1,20 +1,34 @@
 //! What stands under one log of a graph and not under another.
-ghost use Rattle.std.specs.Prelude.{◌≡◌, ◌+◌, ◌<◌, ◌==◌, false, length, IfOk, OnOk};
+ghost use Rattle.std.specs.Prelude.{◌≡◌, ◌+◌, ◌<◌, ◌≤◌, ◌==◌, false, length, IfOk, OnOk};
 ghost use Rattle.std.specs.Option.{option_map, option_map_or};
+ghost use Rattle.hd_terms.specs.Dump.{object_at};
+ghost use Rattle.hd_terms.specs.EditedDump.{is_of_class};
 ghost use Rattle.hd_terms.specs.Paths.{RootEntry};
 ghost use Rattle.hd_graph.specs.Kinds.{AreKinds};
 ghost use Rattle.hd_strength.specs.Removed.{IsRemovedBy};
 ghost use Rattle.hd_strength.specs.Rows.{root_at};
-ghost use Rattle.hd_view.specs.Losing.{AddsLost, HasAllLost, HasEdited, HasIndexed, HasKind, HasNamed, HasNumber};
+ghost use Rattle.hd_view.specs.Losing.{AddsLost, HasAllLost, HasEdited, HasField, HasFirstFields, HasIndexed, HasKind, HasNamed, HasNumber};
 ghost use Rattle.hd_view.specs.OneEdit.{LosesBy};
+ghost use Rattle.hd_totals.specs.GroupPages.{AreNoted};
 ghost use Rattle.hd_terms.specs.Lost.{AreLost};
 
 use crate::edited::Edited;
 use hd_edges::Held;
 use hd_graph::{Graph, KindLists};
 use hd_strength::{edited_slot, root_target};
-use hd_terms::{Edit, NoMemory, RefKind, Slot, Support};
+use hd_terms::{Edit, Group, NoMemory, RefKind, Slot, Support};
+use hd_totals::{GroupPages, PAGE_OBJECTS};
 use std::alloc::Global;
+
+/// Where the edges are found that one edit takes from many objects: the graph's references through referents, by their kinds, and
+/// which pages of objects may have one of a group.
+#[derive(Clone, Copy)]
+pub struct EdgeLists<'a> {
+    /// The references through referents.
+    pub kinds: &'a KindLists,
+    /// The pages.
+    pub pages: &'a GroupPages,
+}
 
 /// Adds the edge of an object's slot of a name, if it is lost.
 fn push_edge(
@@ -39,10 +53,10 @@ fn push_edge(
     let Some(target) = read.target else {
         return Ok(());
     };
-    if more.removed.slot(o, i, read.kind) {
+    if more.removed.slot(graph, o, i, read.kind) {
         return Ok(());
     }
-    if !less.removed.slot(o, i, read.kind) {
+    if !less.removed.slot(graph, o, i, read.kind) {
         return Ok(());
     }
     let holder = Support::Edge {
@@ -122,6 +136,78 @@ fn push_kind(
     Ok(())
 }
 
+/// Whether an object is counted under the class of an ID.
+pub fn is_of_class(graph: &Graph, o: u32, class: u64) -> bool
+    requires { o < length graph.now.objects }
+    ensures { result ≡ is_of_class (object_at graph.now o).group class }
+{
+    match graph.group_of(o) {
+        Group::Class(id) => id == class,
+        Group::Prim(_) | Group::Classes => false,
+    }
+}
+
+/// A field of the objects that are counted under a class: the class's ID, and the number of the field in its layout.
+#[derive(Clone, Copy)]
+struct ClassField {
+    class: u64,
+    field: u32,
+}
+
+/// Adds the lost edges of a field of a class, of those objects between two numbers that are counted under the class.
+fn push_between(
+    items: &mut Vec<Held>,
+    more: Edited<'_>,
+    less: Edited<'_>,
+    cut: ClassField,
+    first: u32,
+    end: u32,
+) -> Result<(), NoMemory>
+    requires same { less.graph.now ≡ more.graph.now }
+    requires more { IsRemovedBy more.graph.now more.front.now more.removed.now }
+    requires less { IsRemovedBy less.graph.now less.front.now less.removed.now }
+    requires order { first ≤ end }
+    requires within { end ≤ length more.graph.now.objects }
+    ensures adds { OnOk result (AddsLost more.entry.graph.now more.entry.front.now less.entry.front.now items.old.items items.new.items) }
+    ensures all { OnOk result (HasFirstFields more.entry.graph.now more.entry.front.now less.entry.front.now cut.class cut.field first items.old.items
+        → HasFirstFields more.entry.graph.now more.entry.front.now less.entry.front.now cut.class cut.field end items.new.items) }
+{
+    for o in first..end {
+        if is_of_class(more.graph, o, cut.class) {
+            push_edge(items, more, less, o, Slot::Field(cut.field))?;
+        }
+    }
+    Ok(())
+}
+
+/// Adds the lost edges of a field of the objects that are counted under a class. Pages that can't have such an object are passed
+/// over.
+fn push_field(
+    items: &mut Vec<Held>,
+    pages: &GroupPages,
+    more: Edited<'_>,
+    less: Edited<'_>,
+    cut: ClassField,
+) -> Result<(), NoMemory>
+    requires pages { AreNoted more.graph.now pages.now }
+    requires same { less.graph.now ≡ more.graph.now }
+    requires more { IsRemovedBy more.graph.now more.front.now more.removed.now }
+    requires less { IsRemovedBy less.graph.now less.front.now less.removed.now }
+    ensures adds { OnOk result (AddsLost more.entry.graph.now more.entry.front.now less.entry.front.now items.old.items items.new.items) }
+    ensures all { OnOk result (HasField more.entry.graph.now more.entry.front.now less.entry.front.now cut.class cut.field items.new.items) }
+{
+    let mut first = 0;
+    while first < more.graph.objects() {
+        let rest_of_page = PAGE_OBJECTS - first % PAGE_OBJECTS;
+        let end = first + rest_of_page.min(more.graph.objects() - first);
+        if pages.may_have(first / PAGE_OBJECTS, Group::Class(cut.class)) {
+            push_between(items, more, less, cut, first, end)?;
+        }
+        first = end;
+    }
+    Ok(())
+}
+
 /// The object that the root of a number holds, where there is such a root and it stands.
 fn root_object(edited: Edited<'_>, r: u64) -> Option<u32>
     requires { IsRemovedBy edited.graph.now edited.front.now edited.removed.now }
@@ -172,16 +258,17 @@ fn added_number(graph: &Graph, k: u32) -> u64
     u64::from(graph.roots_len()) + u64::from(k)
 }
 
-/// Adds what is lost by an edit of event k. The lists are those of the graph's references through referents.
+/// Adds what is lost by an edit of event k.
 fn push_lost(
     items: &mut Vec<Held>,
-    kinds: &KindLists,
+    lists: EdgeLists<'_>,
     more: Edited<'_>,
     less: Edited<'_>,
     k: u32,
     edit: Edit,
 ) -> Result<(), NoMemory>
-    requires kinds { AreKinds more.graph.now.objects kinds.now }
+    requires kinds { AreKinds more.graph.now.objects lists.kinds.now }
+    requires pages { AreNoted more.graph.now lists.pages.now }
     requires same { less.graph.now ≡ more.graph.now }
     requires more { IsRemovedBy more.graph.now more.front.now more.removed.now }
     requires less { IsRemovedBy less.graph.now less.front.now less.removed.now }
@@ -194,27 +281,30 @@ fn push_lost(
         Edit::Clear(_) => push_edited(items, more, less, edit)?,
         Edit::Drop(r) => push_root(items, more, less, r)?,
         Edit::Add(_) => push_root(items, more, less, added_number(more.graph, k))?,
-        Edit::ClearAll(kind) => push_kind(items, kinds, more, less, kind)?,
+        Edit::ClearAll(kind) => push_kind(items, lists.kinds, more, less, kind)?,
+        Edit::CutAll(class, field) => {
+            push_field(items, lists.pages, more, less, ClassField { class, field })?;
+        }
     }
     Ok(())
 }
 
 /// The edges and roots that stand under one log of a graph and not under another, by what they hold, where the two differ by
-/// one live edit, that of event k: it adds a root under the first log, or takes away under the other. The lists are those of
-/// the graph's references through referents.
+/// one live edit, that of event k: it adds a root under the first log, or takes away under the other.
 ///
 /// # Errors
 ///
 /// Memory ran out.
 pub fn lost_by_edit(
     alloc: Global,
-    kinds: &KindLists,
+    lists: EdgeLists<'_>,
     more: Edited<'_>,
     less: Edited<'_>,
     k: u32,
     edit: Edit,
 ) -> Result<Vec<Held>, NoMemory>
-    requires kinds { AreKinds more.graph.now.objects kinds.now }
+    requires kinds { AreKinds more.graph.now.objects lists.kinds.now }
+    requires pages { AreNoted more.graph.now lists.pages.now }
     requires same { less.graph.now ≡ more.graph.now }
     requires more { IsRemovedBy more.graph.now more.front.now more.removed.now }
     requires less { IsRemovedBy less.graph.now less.front.now less.removed.now }
@@ -222,6 +312,6 @@ pub fn lost_by_edit(
     ensures { IfOk result (λ v. AreLost more.entry.graph.now more.entry.front.now less.entry.front.now v.items) }
 {
     let mut items = Vec::new(alloc);
-    push_lost(&mut items, kinds, more, less, k, edit)?;
+    push_lost(&mut items, lists, more, less, k, edit)?;
     Ok(items)
 }

@@ -73,7 +73,7 @@ fn edge_mark(edited: Edited<'_>, o: u32, index: u32) -> EdgeMark
         slot: name.slot,
         target: target.unwrap(),
         kind: name.kind,
-        stands: !edited.removed.slot(o, index, name.kind),
+        stands: !edited.removed.slot(edited.graph, o, index, name.kind),
     }
 }
 

@@ -2,7 +2,7 @@
 ghost use Rattle.std.specs.Prelude.{◌≡◌};
 ghost use Rattle.std.specs.List.{list_all};
 ghost use Rattle.std.specs.Option.{option_and_then};
-ghost use Rattle.hd_lines.specs.Lines.{find_of_word, id_of_word, is_printing, kind_of_word, number_of_word, only_word, root_of_word, slot_of_word, strength_of_word, switch_of_word};
+ghost use Rattle.hd_lines.specs.Lines.{field_of_slot, find_of_word, id_of_word, is_printing, kind_of_word, number_of_word, only_word, root_of_word, slot_of_word, strength_of_word, switch_of_word};
 ghost use Rattle.hd_words.specs.Words.{words_between};
 
 use crate::kind_words::read_kind;
@@ -25,6 +25,17 @@ pub(crate) fn read_only_slot(rest: &[u8]) -> Option<Slot>
     ensures { result ≡ option_and_then slot_of_word (only_word (words_between rest.now)) }
 {
     read_slot(only_word(rest)?)
+}
+
+/// The number of the field that the only word spells.
+pub(crate) fn read_only_field(rest: &[u8]) -> Option<u32>
+    ensures { result ≡ option_and_then field_of_slot (option_and_then slot_of_word (only_word (words_between rest.now))) }
+{
+    match read_only_slot(rest)? {
+        Slot::Field(field) => Some(field),
+        Slot::Element(_) | Slot::Static(_) | Slot::Const(_) | Slot::OfClass => None,
+        Slot::Super | Slot::Loader | Slot::Signers | Slot::Domain => None,
+    }
 }
 
 /// The number of a root that the only word spells.

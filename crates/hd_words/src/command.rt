@@ -1,11 +1,11 @@
 //! The commands that lines spell.
 ghost use Rattle.std.specs.Prelude.{◌≡◌};
-ghost use Rattle.hd_lines.specs.Lines.{asks, bare, change_command, command_of, cut_command, head_command, members_query, names_command, query_of, spelled, undo_command};
+ghost use Rattle.hd_lines.specs.Lines.{asks, bare, change_command, command_of, cut_command, cutall_command, head_command, members_query, names_command, query_of, spelled, undo_command};
 ghost use Rattle.hd_words.specs.Words.{words_between};
 
 use crate::arguments::{
-    read_id, read_only_find, read_only_id, read_only_kind, read_only_number, read_only_root,
-    read_only_slot, read_only_strength, read_only_switch,
+    read_id, read_only_field, read_only_find, read_only_id, read_only_kind, read_only_number,
+    read_only_root, read_only_slot, read_only_strength, read_only_switch,
 };
 use crate::group_words::read_group;
 use crate::numbers::read_small;
@@ -54,6 +54,8 @@ fn read_change(word: &[u8], rest: &[u8]) -> Result<Command, LineFault>
         spelled(read_only_id(rest).map(|id| Command::Edit(Edit::Add(id))))
     } else if word == b"clearall".as_slice() {
         spelled(read_only_kind(rest).map(|kind| Command::Edit(Edit::ClearAll(kind))))
+    } else if word == b"cutall".as_slice() {
+        read_cut_all(rest)
     } else if word == b"undo".as_slice() {
         read_undo(rest)
     } else {
@@ -166,6 +168,19 @@ fn read_cut(rest: &[u8]) -> Result<Command, LineFault>
     };
     match (read_id(word), read_only_slot(more)) {
         (Some(id), Some(slot)) => Ok(Command::Edit(Edit::Cut(id, slot))),
+        _ => Err(LineFault::BadArgument),
+    }
+}
+
+/// What follows `cutall` is the ID of a class and a field.
+fn read_cut_all(rest: &[u8]) -> Result<Command, LineFault>
+    ensures { result ≡ cutall_command (words_between rest.now) }
+{
+    let Some((word, more)) = split_word(rest) else {
+        return Err(LineFault::BadArgument);
+    };
+    match (read_id(word), read_only_field(more)) {
+        (Some(id), Some(field)) => Ok(Command::Edit(Edit::CutAll(id, field))),
         _ => Err(LineFault::BadArgument),
     }
 }

@@ -5,7 +5,7 @@ ghost use Rattle.hd_lines.specs.Replies.{edit_text, live_name, what_text};
 use crate::decimal::put_decimal;
 use crate::kind_words::kind_text;
 use crate::slot_words::put_slot;
-use hd_terms::{Edit, What};
+use hd_terms::{Edit, Slot, What};
 use std::alloc::AllocError;
 use std::fmt::Write;
 
@@ -45,6 +45,10 @@ fn put_edit(text: &mut String, edit: Edit) -> Result<(), AllocError>
         Edit::ClearAll(kind) => {
             let name = kind_text(kind.edge_kind());
             write!(text, "clearall {name}")?;
+        }
+        Edit::CutAll(id, field) => {
+            write!(text, "cutall 0x{id:x} ")?;
+            put_slot(text, Slot::Field(field))?;
         }
     }
     Ok(())

@@ -9,7 +9,7 @@ use hd_lines::LineFault;
 
 /// The words that lines begin with.
 const COMMANDS: &str =
-    "commands: strength, chain, slots, into, object, roots, find, classes, top, members, head, names, cut, clear, clearall, drop, add, undo, mark, fell, freed, moved, events, private, back, quit";
+    "commands: strength, chain, slots, into, object, roots, find, classes, top, members, head, names, cut, clear, clearall, cutall, drop, add, undo, mark, fell, freed, moved, events, private, back, quit";
 
 /// What would be right instead of a line that is no command: the form of the command where its first word is one, else the words
 /// that there are. There is none for a command, and for a line that is too long.
@@ -48,6 +48,7 @@ fn form_of(line: &[u8]) -> &'static str {
         b"cut" => "cut ID SLOT, as cut 0x1 f0",
         b"clear" => "clear ID",
         b"clearall" => "clearall soft, or another kind: weak, final, phantom",
+        b"cutall" => "cutall ID fN, where ID is that of a class, as cutall 0x12 f0",
         b"drop" => "drop R, where R is the number of a root",
         b"add" => "add ID",
         b"undo" => "undo, or undo N, where N is the number of an event",

@@ -5,6 +5,7 @@ use Rattle.std.specs.Prelude.{decimal, false, map}
 use Rattle.std.specs.Fmt.{digits}
 use Rattle.std.proofs.lemmas.Fmt.{decimal_digit, hex_one_digit}
 use Rattle.hd_terms.specs.declared.Slot.TheVariants as slots
+use Rattle.hd_terms.specs.declared.Edit.TheVariants as edits
 use Rattle.hd_terms.specs.declared.Strength.TheVariants as strengths
 use Rattle.hd_terms.specs.declared.Support.TheVariants as supports
 use Rattle.hd_terms.specs.EditedDump.{standing}
@@ -146,21 +147,27 @@ digits_of_events = sym (
 pub returns-clause-events : goal.returns-clause-events
 returns-clause-events c = (Ok (log_lines examples.cut_and_undo), refl, digits_of_events)
 
--- the first of these lines
-abbrev first_event_text : (zero one id : List ℕ) → List ℕ
-first_event_text zero one id =
-    with_newline (codes "ok " ++ one)
-    ++ (with_newline (zero ++ 32 ∷ zero ++ 32 ∷ ((codes "cut " ++ (codes "0x" ++ id) ++ 32 ∷ (codes "e" ++ zero)) ++ 32 ∷ codes "undone")) ++ [])
+-- a log of one edit of a slot, by the words around the ID and the number of the slot
+module _ (before slot after : List ℕ) where
+  abbrev one_edit_text : (zero one id : List ℕ) → List ℕ
+  one_edit_text zero one id =
+      with_newline (codes "ok " ++ one)
+      ++ (with_newline (zero ++ 32 ∷ zero ++ 32 ∷ ((before ++ (codes "0x" ++ id) ++ 32 ∷ (slot ++ zero)) ++ 32 ∷ after)) ++ [])
 
-digits_of_first_event : first_event_text (48 ∷ []) (49 ∷ []) (49 ∷ []) ≡ first_event_text (decimal 0) (decimal 1) (digits 16 false 1)
-digits_of_first_event = sym (
-    ap (λ (zero : List ℕ). first_event_text zero (decimal 1) (digits 16 false 1)) (decimal_digit 0 (lit< tt))
-    ∙ ap (λ (one : List ℕ). first_event_text (48 ∷ []) one (digits 16 false 1)) (decimal_digit 1 (lit< tt))
-    ∙ ap (λ (id : List ℕ). first_event_text (48 ∷ []) (49 ∷ []) id) (hex_one_digit false 1 (lit< tt))
-    )
+  digits_of_one_edit : one_edit_text (48 ∷ []) (49 ∷ []) (49 ∷ []) ≡ one_edit_text (decimal 0) (decimal 1) (digits 16 false 1)
+  digits_of_one_edit = sym (
+      ap (λ (zero : List ℕ). one_edit_text zero (decimal 1) (digits 16 false 1)) (decimal_digit 0 (lit< tt))
+      ∙ ap (λ (one : List ℕ). one_edit_text (48 ∷ []) one (digits 16 false 1)) (decimal_digit 1 (lit< tt))
+      ∙ ap (λ (id : List ℕ). one_edit_text (48 ∷ []) (49 ∷ []) id) (hex_one_digit false 1 (lit< tt))
+      )
 
+-- the first of these lines, and a field cut in a whole class
 pub returns-clause-first_event : goal.returns-clause-first_event
-returns-clause-first_event c = (Ok (log_lines examples.cut_and_undo), refl, digits_of_first_event)
+returns-clause-first_event c = (Ok (log_lines examples.cut_and_undo), refl, digits_of_one_edit (codes "cut ") (codes "e") (codes "undone"))
+
+pub returns-clause-cut_all : goal.returns-clause-cut_all
+returns-clause-cut_all c =
+    (Ok (log_lines (examples.does 0 (edits.CutAll 1 0) ∷ [])), refl, digits_of_one_edit (codes "cutall ") (codes "f") (codes "live"))
 
 digits_of_roots : roots_text (48 ∷ []) (49 ∷ []) (49 ∷ []) ≡ roots_text (decimal 0) (decimal 1) (digits 16 false 1)
 digits_of_roots = sym (

@@ -1,4 +1,3 @@
-use Rattle.std.proofs.Common.{arith}
 use Rattle.hd_terms.specs.Totals.{IsMember}
 use Rattle.hd_totals.specs.Members.{is_member}
 use Rattle.hd_queries.proofs.ListedLemmas.{all-ids, decides-member, unmarked-not-member}

@@ -1,4 +1,4 @@
-use Rattle.std.proofs.Common.{◌≡◌, ◌∙◌, true, false, Some, None, sym}
+use Rattle.std.proofs.Common.{◌≡◌, ◌∙◌, true, false, Some, None, refl, sym}
 use Rattle.hd_terms.specs.Dump.{SlotEntry, object_at}
 use Rattle.hd_terms.specs.EditedDump.{is_untouched}
 use Rattle.hd_terms.specs.Edges.{index_of}
@@ -21,7 +21,7 @@ returns-then-slot-clause-edge c =
     let s : SlotEntry = record { slot = c.slots-read.result.slot; kind = c.slots-read.result.kind; id = c.slots-read.result.id } in
     let cut : is_untouched log (object_at dump c.args.o) s ≡ false =
     not-true (is_untouched log (object_at dump c.args.o) s) (sym (c.requires.removed.slots c.args.o c.args.index s c.requires.object c.slots-read.ensures.entry)
-    ∙ sym c.slot.ensures ∙ c.if-slot.true) in
+    ∙ sym (c.slot.ensures s c.slots-read.ensures.entry refl) ∙ c.if-slot.true) in
     read_none dump log c.args.o c.args.index (at_cut dump log c.args.o c.args.index s c.slots-read.ensures.entry cut)
 
 pub returns-clause-edge : goal.returns-clause-edge
@@ -33,5 +33,6 @@ returns-clause-edge c =
     let some : index_of dump.objects s.id ≡ Some t = sym c.slots-read.ensures.target ∙ c.in_ok-target.was in
     let stands : is_untouched log (object_at dump c.args.o) s ≡ true =
     not-false (is_untouched log (object_at dump c.args.o) s)
-    (sym (c.requires.removed.slots c.args.o c.args.index s c.requires.object c.slots-read.ensures.entry) ∙ sym c.slot.ensures ∙ c.if-slot.false) in
+    (sym (c.requires.removed.slots c.args.o c.args.index s c.requires.object c.slots-read.ensures.entry)
+    ∙ sym (c.slot.ensures s c.slots-read.ensures.entry refl) ∙ c.if-slot.false) in
     read_some dump log c.args.o c.args.index s t (at_some dump log c.args.o c.args.index s c.slots-read.ensures.entry t some stands)

@@ -32,8 +32,8 @@ returns-then-slot-clause-none c = λ e is.
     let at = slot_at dump c.args.o c.args.index c.requires.index in
     let s : SlotEntry = at.0 in
     let kind : c.slot_kind-kind.result ≡ s.kind = c.slot_kind-kind.ensures s at.1 in
-    let taken : is_removed c.args.edited.removed.now c.args.o c.args.index s.kind ≡ true = ap (is_removed c.args.edited.removed.now c.args.o c.args.index)
-    (sym kind) ∙ sym c.slot.ensures ∙ c.if-slot.true in
+    let taken : is_removed c.args.edited.removed.now (object_at dump c.args.o) s c.args.o c.args.index ≡ true =
+    sym (c.slot.ensures s at.1 kind) ∙ c.if-slot.true in
     let cut : is_untouched log (object_at dump c.args.o) s ≡ false =
     not-true (is_untouched log (object_at dump c.args.o) s) (sym (c.requires.removed.slots c.args.o c.args.index s c.requires.object at.1) ∙ taken) in
     absurd (at_cut dump log c.args.o c.args.index s at.1 cut e is)
@@ -45,8 +45,8 @@ returns-clause-some c =
     let t = c.in_ok-target.target in
     let some : index_of c.args.edited.graph.now.objects s.id ≡ Some t = sym (c.requires.target s at.1) ∙ c.in_ok-target.was in
     let kind : c.slot_kind-kind.result ≡ s.kind = c.slot_kind-kind.ensures s at.1 in
-    let left : is_removed c.args.edited.removed.now c.args.o c.args.index s.kind ≡ false = ap (is_removed c.args.edited.removed.now c.args.o c.args.index)
-    (sym kind) ∙ sym c.slot.ensures ∙ c.if-slot.false in
+    let left : is_removed c.args.edited.removed.now (object_at c.args.edited.graph.now c.args.o) s c.args.o c.args.index ≡ false =
+    sym (c.slot.ensures s at.1 kind) ∙ c.if-slot.false in
     let stands : is_untouched c.args.edited.front.now (object_at c.args.edited.graph.now c.args.o) s ≡ true =
     not-false (is_untouched c.args.edited.front.now (object_at c.args.edited.graph.now c.args.o) s)
     (sym (c.requires.removed.slots c.args.o c.args.index s c.requires.object at.1) ∙ left) in

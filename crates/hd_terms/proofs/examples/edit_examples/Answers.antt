@@ -118,3 +118,15 @@ returns-clause-clear_all_phantom c =
 
 pub returns-clause-clear_all_of_none : goal.returns-clause-clear_all_of_none
 returns-clause-clear_all_of_none c = fell examples.two_arrays [] (examples.does 0 (edits.ClearAll references.Weak) ∷ []) both both refl refl
+
+pub returns-clause-cut_all : goal.returns-clause-cut_all
+returns-clause-cut_all c = fell examples.soft_then_weak [] (take 1 examples.cuts_of_field) all_soft no_soft refl refl
+
+pub returns-clause-cut_behind_cut_all : goal.returns-clause-cut_behind_cut_all
+returns-clause-cut_behind_cut_all c = fell examples.soft_then_weak (take 1 examples.cuts_of_field) (take 2 examples.cuts_of_field) no_soft no_soft refl refl
+
+pub returns-clause-cut_is_left : goal.returns-clause-cut_is_left
+returns-clause-cut_is_left c = fell examples.soft_then_weak (take 3 examples.cuts_of_field) (take 2 examples.cuts_of_field) one_soft no_soft refl refl
+
+pub returns-clause-no_cut_is_left : goal.returns-clause-no_cut_is_left
+returns-clause-no_cut_is_left c = fell examples.soft_then_weak examples.cuts_of_field (take 3 examples.cuts_of_field) all_soft one_soft refl refl

@@ -1,4 +1,4 @@
-use Rattle.std.proofs.Common.{◌∙◌, sym, arith}
+use Rattle.std.proofs.Common.{◌∙◌, refl, sym, arith}
 use Rattle.hd_terms.specs.Dump.{SlotEntry}
 use Rattle.hd_view.proofs.StandingLemmas.{past_objects, past_slots, stands_by_slot}
 use Rattle.hd_view.proofs.edited.edge_stands.Goals as goal
@@ -16,4 +16,5 @@ returns-then-is_some c =
     let s : SlotEntry = record { slot = c.slots-read.result.slot; kind = c.slots-read.result.kind; id = c.slots-read.result.id } in
     stands_by_slot c.args.edited.graph.now c.args.edited.front.now c.args.o c.args.i s c.slots-read.result.target c.slot.result c.slots-read.ensures.entry
     c.slots-read.ensures.target (sym c.is_some.ensures ∙ c.if-is_some.true)
-    (c.slot.ensures ∙ c.requires.slots c.args.o c.args.i s (omega (arith, c.if-o-objects.false, c.objects.ensures)) c.slots-read.ensures.entry)
+    (c.slot.ensures s c.slots-read.ensures.entry refl
+    ∙ c.requires.slots c.args.o c.args.i s (omega (arith, c.if-o-objects.false, c.objects.ensures)) c.slots-read.ensures.entry)

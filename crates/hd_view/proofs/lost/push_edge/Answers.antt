@@ -1,6 +1,6 @@
 -- An edge is lost where its slot stood under one log and is cut under the other, and has a target.
 -- Each early return is one of these missing: no slot, no target, never stood, still stands.
-use Rattle.std.proofs.Common.{◌≡◌, ◌∙◌, sym, ap, subst, [], ◌∷◌, ◌++◌}
+use Rattle.std.proofs.Common.{◌≡◌, ◌∙◌, refl, sym, ap, subst, [], ◌∷◌, ◌++◌}
 use Rattle.hd_terms.specs.declared.Support.TheVariants as supports
 use Rattle.hd_terms.specs.Dump.{SlotEntry, Dump, object_at}
 use Rattle.hd_terms.specs.Regions.{Holding}
@@ -28,7 +28,7 @@ returns-then-slot-clause-all c =
     never_stood dump c.args.o c.args.slot c.slot_index.result c.slot_index.ensures.only c.in-Some.i s c.in-Some.is c.slots-read.ensures.entry
     c.args.more.front.now c.args.less.front.now c.args.items.now.items
     (cut_by dump c.args.more.front.now c.args.more.removed.now c.args.o c.in-Some.i s c.slot.result c.requires.more c.requires.object c.slots-read.ensures.entry
-    c.slot.ensures c.if-slot.true)
+    (c.slot.ensures s c.slots-read.ensures.entry refl) c.if-slot.true)
 
 pub returns-then-not-slot-clause-all : goal.returns-then-not-slot-clause-all
 returns-then-not-slot-clause-all c =
@@ -39,7 +39,7 @@ returns-then-not-slot-clause-all c =
     still_stands dump c.args.o c.args.slot c.slot_index.result c.slot_index.ensures.only c.in-Some.i s c.in-Some.is c.slots-read.ensures.entry
     c.args.more.front.now c.args.less.front.now c.args.items.now.items
     (uncut_by dump c.args.less.front.now c.args.less.removed.now c.args.o c.in-Some.i s c.slot-2.result by c.requires.object c.slots-read.ensures.entry
-    c.slot-2.ensures c.if-not-slot.true)
+    (c.slot-2.ensures s c.slots-read.ensures.entry refl) c.if-not-slot.true)
 
 pub returns-clause-adds : goal.returns-clause-adds
 returns-clause-adds c =
@@ -50,9 +50,9 @@ returns-clause-adds c =
     let new : c.push.new.self.items ≡ c.args.items.now.items ++ (record { target = c.in-Some-target.target; holder = supports.Edge c.args.o s.slot }) ∷ [] =
     c.in_ok-push.ensures.items ∙ ap (λ (h : Holding). c.args.items.now.items ++ h ∷ []) c.new.ensures in
     let stood = uncut_by dump c.args.more.front.now c.args.more.removed.now c.args.o c.in-Some.i s c.slot.result c.requires.more c.requires.object
-    c.slots-read.ensures.entry c.slot.ensures c.if-slot.false in
+    c.slots-read.ensures.entry (c.slot.ensures s c.slots-read.ensures.entry refl) c.if-slot.false in
     let cut = cut_by dump c.args.less.front.now c.args.less.removed.now c.args.o c.in-Some.i s c.slot-2.result by c.requires.object c.slots-read.ensures.entry
-    c.slot-2.ensures c.if-not-slot.false in
+    (c.slot-2.ensures s c.slots-read.ensures.entry refl) c.if-not-slot.false in
     let named = named_first (object_at dump c.args.o).slots c.args.slot c.in-Some.i s c.slot_index.result c.slot_index.ensures.first c.in-Some.is
     c.slots-read.ensures.entry in
     subst (AddsLost dump c.args.more.front.now c.args.less.front.now c.args.items.now.items) (sym new)

@@ -1,4 +1,4 @@
-use Rattle.hd_view.proofs.OneEditLemmas.{cut_lost, clear_lost, drop_lost, add_lost, kind_lost}
+use Rattle.hd_view.proofs.OneEditLemmas.{cut_lost, clear_lost, drop_lost, add_lost, kind_lost, field_lost}
 use Rattle.hd_view.proofs.lost.push_lost.Goals as goal
 
 pub returns-in_ok-push_edited-in-Cut-clause-all : goal.returns-in_ok-push_edited-in-Cut-clause-all
@@ -25,3 +25,8 @@ pub returns-in_ok-push_kind-in-ClearAll-clause-all : goal.returns-in_ok-push_kin
 returns-in_ok-push_kind-in-ClearAll-clause-all c =
     kind_lost c.args.more.graph.now c.args.more.front.now c.args.less.front.now c.args.k c.in-ClearAll.kind c.args.edit c.push_kind.new.items.items
     c.in-ClearAll.is c.requires.one c.in_ok-push_kind-in-ClearAll.ensures.all
+
+pub returns-in_ok-push_field-in-CutAll-clause-all : goal.returns-in_ok-push_field-in-CutAll-clause-all
+returns-in_ok-push_field-in-CutAll-clause-all c =
+    field_lost c.args.more.graph.now c.args.more.front.now c.args.less.front.now c.args.k c.in-CutAll.class c.in-CutAll.field c.args.edit
+    c.push_field.new.items.items c.in-CutAll.is c.requires.one c.in_ok-push_field-in-CutAll.ensures.all

@@ -27,4 +27,4 @@ returns c =
     let kind = c.slot_name-name.ensures.kind s at in
     rw (slot, kind) (mark_made dump c.args.edited.front.now c.args.o c.args.index s c.unwrap.result c.slot.result at
     (sym (c.get-target.ensures ∙ c.targets.ensures.each c.args.index s at) ∙ c.unwrap.ensures)
-    (rw kind at c.slot.ensures ∙ c.requires.removed.slots c.args.o c.args.index s c.requires.object at))
+    (c.slot.ensures s at kind ∙ c.requires.removed.slots c.args.o c.args.index s c.requires.object at))
