@@ -15,6 +15,7 @@ use std::alloc::Global;
 use std::marker::Model;
 use std::mem;
 use std::sync::Wait;
+use std::thread::Threads;
 
 /// The most marks of an analyst, mark 0 among them.
 const MOST_MARKS: usize = 16;
@@ -170,7 +171,11 @@ impl<'a> Analyst<'a> {
     /// # Errors
     ///
     /// Why the command isn't run: memory ran out, on the way to the board's log or before; or that log is foreign.
-    pub(crate) fn refresh(&mut self, rt: &impl Wait, alloc: Global) -> Result<(), Refusal>
+    pub(crate) fn refresh(
+        &mut self,
+        rt: &(impl Wait + Threads + Sync),
+        alloc: Global,
+    ) -> Result<(), Refusal>
         ensures { RefreshEnds self.old self.new result }
     {
         let board = board_in(self.board, &self.private);

@@ -16,11 +16,12 @@ use hd_lines::{Command, LineFault, Query};
 use hd_terms::{LogFault, Refusal};
 use std::alloc::Global;
 use std::sync::Wait;
+use std::thread::Threads;
 
 /// Runs what a line spells whose last word is `text`, and answers it: a short reply replaces the bytes of `out`, a long one is
 /// given back. Before a command other than `quit` the desk is refreshed.
 pub fn answer(
-    rt: &impl Wait,
+    rt: &(impl Wait + Threads + Sync),
     alloc: Global,
     analyst: &mut Analyst<'_>,
     reading: Result<Command, LineFault>,
@@ -42,7 +43,7 @@ pub fn answer(
 
 /// Refreshes the desk, runs a command, and answers it. For `quit` the desk isn't refreshed.
 fn answer_command(
-    rt: &impl Wait,
+    rt: &(impl Wait + Threads + Sync),
     alloc: Global,
     analyst: &mut Analyst<'_>,
     command: Command,
@@ -66,7 +67,7 @@ fn answer_command(
 
 /// Runs a command for an analyst whose desk is refreshed, and answers it.
 fn run_command(
-    rt: &impl Wait,
+    rt: &(impl Wait + Threads + Sync),
     alloc: Global,
     analyst: &mut Analyst<'_>,
     command: Command,

@@ -11,6 +11,7 @@ use hd_state::Done;
 use hd_terms::{Edit, LogFault, Refusal};
 use std::alloc::Global;
 use std::sync::Wait;
+use std::thread::Threads;
 
 /// Why an edit or an undo isn't answered with what it did.
 #[derive(Clone, Copy)]
@@ -64,7 +65,7 @@ impl Analyst<'_> {
     /// Why it isn't done.
     pub(crate) fn edit(
         &mut self,
-        rt: &impl Wait,
+        rt: &(impl Wait + Threads + Sync),
         alloc: Global,
         edit: Edit,
     ) -> Result<Done, NotDone>
@@ -87,7 +88,7 @@ impl Analyst<'_> {
     /// Why it isn't done.
     pub(crate) fn undo(
         &mut self,
-        rt: &impl Wait,
+        rt: &(impl Wait + Threads + Sync),
         alloc: Global,
         number: Option<u32>,
     ) -> Result<Done, NotDone>

@@ -4,7 +4,7 @@ use hd_edges::Edges;
 use hd_graph::Graph;
 use hd_log::Front;
 use hd_state::State;
-use hd_state_tests::looks::looks_of_event;
+use hd_state_tests::looks::{NEVER, looks_of_event};
 use hd_supports::Supports;
 use hd_terms::{Edit, Event, Support, What};
 use std::alloc::Global;
@@ -95,7 +95,7 @@ fn print_looks(
     };
     let region = region_of(rt.alloc(), graph, supports, o)?;
     let degree = degree_of(&state.view(), region.as_slice());
-    let looks = looks_of_event(rt, rt.alloc(), graph, state.front(), event).ok_or(anyhow!(
+    let looks = looks_of_event(rt, rt.alloc(), graph, state.front(), event, NEVER).ok_or(anyhow!(
         "out of memory"
     ))?;
     let objects = region.len();

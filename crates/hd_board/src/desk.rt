@@ -24,6 +24,7 @@ use hd_terms::{Edit, Event, NoMemory, What};
 use std::alloc::Global;
 use std::marker::Model;
 use std::sync::Wait;
+use std::thread::Threads;
 
 /// An analyst's replica: a state of the dump under some log, and what the analyst has seen of the board's log. The state's log
 /// is a beginning of what was seen.
@@ -126,12 +127,12 @@ impl Desk {
     /// # Errors
     ///
     /// Memory ran out. The state stays at the last event that it came to.
-    pub fn catch_up(&mut self, alloc: Global) -> Result<(), Behind>
+    pub fn catch_up(&mut self, rt: &(impl Threads + Sync), alloc: Global) -> Result<(), Behind>
         ensures ok { OnOk result (IsAt self.old self.new self.old.seen self.old.seen) }
         ensures err { OnErr result (IsBehindAt self.old self.new self.old.seen self.old.front) }
     {
         let count = self.seen.len();
-        match self.step_to(alloc, count) {
+        match self.step_to(rt, alloc, count) {
             Ok(()) => Ok(()),
             Err(NoMemory) => Err(Behind),
         }
@@ -146,7 +147,7 @@ impl Desk {
     /// Why the edit isn't done, the first reason in the order of [`EditFault`].
     pub fn edit(
         &mut self,
-        rt: &impl Wait,
+        rt: &(impl Wait + Threads + Sync),
         alloc: Global,
         board: &Board,
         edit: Edit,
@@ -154,7 +155,7 @@ impl Desk {
         ensures ok { IfOk result (Edits board.now self.old self.new edit) }
         ensures err { IfErr result (RefusesEdit board.now self.old self.new edit) }
     {
-        let Ok(()) = self.catch_up(alloc) else {
+        let Ok(()) = self.catch_up(rt, alloc) else {
             return Err(EditFault::Behind);
         };
         if let Some(refusal) = edit_refusal(self.graph(), edit) {
@@ -174,7 +175,7 @@ impl Desk {
     /// Why the undo isn't done, the first reason in the order of [`UndoFault`]; there is always something to undo.
     pub fn undo(
         &mut self,
-        rt: &impl Wait,
+        rt: &(impl Wait + Threads + Sync),
         alloc: Global,
         board: &Board,
         k: u32,
@@ -182,7 +183,7 @@ impl Desk {
         ensures ok { IfOk result (Appends board.now self.old self.new (whats.Undo k)) }
         ensures err { IfErr result (RefusesUndo board.now self.old self.new k) }
     {
-        let Ok(()) = self.catch_up(alloc) else {
+        let Ok(()) = self.catch_up(rt, alloc) else {
             return Err(UndoFault::Behind);
         };
         match self.append(rt, alloc, board, What::Undo(k)) {
@@ -199,14 +200,14 @@ impl Desk {
     /// Why the undo isn't done, the first reason in the order of [`UndoFault`].
     pub fn undo_last(
         &mut self,
-        rt: &impl Wait,
+        rt: &(impl Wait + Threads + Sync),
         alloc: Global,
         board: &Board,
     ) -> Result<Done, UndoFault>
         ensures ok { IfOk result (λ done. (k : ℕ) × (last_live self.old.seen self.old.who ≡ Some k) × Appends board.now self.old self.new (whats.Undo k) done) }
         ensures err { IfErr result (RefusesUndoLast board.now self.old self.new (last_live self.old.seen self.old.who)) }
     {
-        let Ok(()) = self.catch_up(alloc) else {
+        let Ok(()) = self.catch_up(rt, alloc) else {
             return Err(UndoFault::Behind);
         };
         let Some(k) = self.seen.last_live(self.who) else {
@@ -223,7 +224,7 @@ impl Desk {
     /// The log is foreign; memory ran out on the way to it; or memory ran out before.
     pub fn refresh(
         &mut self,
-        rt: &impl Wait,
+        rt: &(impl Wait + Threads + Sync),
         alloc: Global,
         board: &Board,
     ) -> Result<(), RefreshFault>
@@ -235,7 +236,7 @@ impl Desk {
             Err(LookFault::Foreign(found)) => return Err(RefreshFault::Foreign(found)),
             Err(LookFault::OutOfMemory) => return Err(RefreshFault::OutOfMemory),
         }
-        let Ok(()) = self.catch_up(alloc) else {
+        let Ok(()) = self.catch_up(rt, alloc) else {
             return Err(RefreshFault::Behind);
         };
         Ok(())
@@ -268,7 +269,7 @@ impl Desk {
     /// The event isn't appended; or it is, but memory ran out as the desk caught up with it.
     fn append(
         &mut self,
-        rt: &impl Wait,
+        rt: &(impl Wait + Threads + Sync),
         alloc: Global,
         board: &Board,
         what: What,
@@ -286,7 +287,7 @@ impl Desk {
             Err(fault) => return Err(Unfinished::Append(self.see_refused(fault))),
         };
         let number = log.len() - 1;
-        match self.come_to(alloc, log) {
+        match self.come_to(rt, alloc, log) {
             Ok(done) => Ok(done),
             Err(NoMemory) => Err(Unfinished::Accepted { event: number }),
         }
@@ -314,7 +315,12 @@ impl Desk {
     /// # Errors
     ///
     /// Memory ran out. The log is seen, and the state stays at the last event that it came to.
-    fn come_to(&mut self, alloc: Global, log: Front) -> Result<Done, NoMemory>
+    fn come_to(
+        &mut self,
+        rt: &(impl Threads + Sync),
+        alloc: Global,
+        log: Front,
+    ) -> Result<Done, NoMemory>
         requires begins { begins_with log self.old.front }
         requires longer { length self.old.front < length log }
         ensures ok { IfOk result (λ done. (before : List OneEvent) (event : OneEvent) → log ≡ with_event before event → ComesTo self.old self.new before event done) }
@@ -322,8 +328,8 @@ impl Desk {
     {
         self.seen = log;
         let last = self.seen.len() - 1;
-        self.step_to(alloc, last)?;
-        let done = self.step_once(alloc)?;
+        self.step_to(rt, alloc, last)?;
+        let done = self.step_once(rt, alloc)?;
         Ok(done)
     }
 
@@ -332,14 +338,19 @@ impl Desk {
     /// # Errors
     ///
     /// Memory ran out. The state stays at the last event that it came to.
-    fn step_to(&mut self, alloc: Global, count: u32) -> Result<(), NoMemory>
+    fn step_to(
+        &mut self,
+        rt: &(impl Threads + Sync),
+        alloc: Global,
+        count: u32,
+    ) -> Result<(), NoMemory>
         requires least { length self.old.front ≤ count }
         requires most { count ≤ length self.old.seen }
         ensures ok { OnOk result (IsAt self.old self.new self.old.seen (take count self.old.seen)) }
         ensures err { OnErr result (IsBehindAt self.old self.new self.old.seen self.old.front) }
     {
         while self.state.front().len() < count {
-            self.step_once(alloc)?;
+            self.step_once(rt, alloc)?;
         }
         Ok(())
     }
@@ -369,13 +380,13 @@ impl Desk {
     /// # Errors
     ///
     /// Memory ran out. The desk is as it was.
-    fn step_once(&mut self, alloc: Global) -> Result<Done, NoMemory>
+    fn step_once(&mut self, rt: &(impl Threads + Sync), alloc: Global) -> Result<Done, NoMemory>
         requires { length self.old.front < length self.old.seen }
         ensures ok { IfOk result (StepsOnce self.old self.new) }
         ensures err { OnErr result (IsAt self.old self.new self.old.seen self.old.front) }
     {
         let next = self.next_log(alloc)?;
-        let (state, done) = self.state.follow(alloc, next)?;
+        let (state, done) = self.state.follow(rt, alloc, next)?;
         self.state = state;
         Ok(done)
     }

@@ -6,6 +6,7 @@ use hd_terms::{Edit, Event, LogFault, Refusal, What};
 use std::alloc::Global;
 use std::process::Abort;
 use std::sync::Wait;
+use std::thread::Threads;
 
 fn by(who: u8, what: What) -> Event {
     Event { who, what }
@@ -52,7 +53,12 @@ fn appends_in_order(rt: HostRuntime) {
 }
 
 /// How many events a look finds, for an analyst who has seen no event; nothing where the log is foreign.
-fn looked<R: Abort + Wait>(rt: &R, alloc: Global, board: &Board, who: u8) -> Option<u32> {
+fn looked<R: Abort + Threads + Wait + Sync>(
+    rt: &R,
+    alloc: Global,
+    board: &Board,
+    who: u8,
+) -> Option<u32> {
     let none = Front::empty(alloc).expect(rt, "a log is begun");
     match board.look(rt, &none, who) {
         Ok(log) => Some(log.len()),

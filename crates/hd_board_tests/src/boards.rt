@@ -32,7 +32,13 @@ pub fn first_two<'a, R: Abort>(rt: &R, desks: &'a mut [Desk]) -> (&'a mut Desk, 
 }
 
 /// What a desk answers to an edit.
-pub fn edit<R: Wait>(rt: &R, alloc: Global, board: &Board, desk: &mut Desk, edit: Edit) -> Answer {
+pub fn edit<R: Threads + Wait + Sync>(
+    rt: &R,
+    alloc: Global,
+    board: &Board,
+    desk: &mut Desk,
+    edit: Edit,
+) -> Answer {
     match desk.edit(rt, alloc, board, edit) {
         Ok(done) => Some(Ok((done.event, done.fell, done.back))),
         Err(EditFault::Refused(refusal)) => Some(Err(refusal)),
@@ -42,7 +48,12 @@ pub fn edit<R: Wait>(rt: &R, alloc: Global, board: &Board, desk: &mut Desk, edit
 }
 
 /// Does the cut by a desk.
-pub fn cut<R: Abort + Wait>(rt: &R, alloc: Global, board: &Board, desk: &mut Desk) {
+pub fn cut<R: Abort + Threads + Wait + Sync>(
+    rt: &R,
+    alloc: Global,
+    board: &Board,
+    desk: &mut Desk,
+) {
     let answer = edit(rt, alloc, board, desk, CUT);
     answer
         .expect(rt, "the cut is answered")
@@ -50,7 +61,7 @@ pub fn cut<R: Abort + Wait>(rt: &R, alloc: Global, board: &Board, desk: &mut Des
 }
 
 /// What a desk answers to the undo of an event, or without a number of its last live edit.
-pub fn undo<R: Wait>(
+pub fn undo<R: Threads + Wait + Sync>(
     rt: &R,
     alloc: Global,
     board: &Board,

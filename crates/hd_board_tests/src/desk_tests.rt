@@ -10,7 +10,7 @@ use std::sync::Wait;
 use std::thread::Threads;
 
 /// What the desk of a place among others answers to an edit.
-fn edit_by<R: Abort + Wait>(
+fn edit_by<R: Abort + Threads + Wait + Sync>(
     rt: &R,
     alloc: Global,
     board: &Board,
@@ -23,7 +23,7 @@ fn edit_by<R: Abort + Wait>(
 }
 
 /// What the desk of a place among others answers to the undo of an event.
-fn undo_by<R: Abort + Wait>(
+fn undo_by<R: Abort + Threads + Wait + Sync>(
     rt: &R,
     alloc: Global,
     board: &Board,
@@ -101,7 +101,7 @@ fn learn_from<R: Abort + RandomSource + Threads + Wait + Sync>(rt: &R, alloc: Gl
     let before = strength_at(second, 2);
     let behind = second.is_behind();
     second
-        .catch_up(alloc)
+        .catch_up(rt, alloc)
         .expect(rt, "the second desk catches up");
     (before, behind, strength_at(second, 2))
 }
@@ -131,7 +131,12 @@ fn learn_and_refresh(rt: HostRuntime) {
 }
 
 /// Adds a root by the first desk of a board.
-fn add_by_first<R: Abort + Wait>(rt: &R, alloc: Global, board: &Board, desks: &mut [Desk]) {
+fn add_by_first<R: Abort + Threads + Wait + Sync>(
+    rt: &R,
+    alloc: Global,
+    board: &Board,
+    desks: &mut [Desk],
+) {
     let answer = edit_by(rt, alloc, board, desks, 0, Edit::Add(1));
     answer
         .expect(rt, "the edit is answered")
@@ -139,7 +144,13 @@ fn add_by_first<R: Abort + Wait>(rt: &R, alloc: Global, board: &Board, desks: &m
 }
 
 /// Whether a desk answers that what another has seen stands apart, and that another's board is foreign.
-fn is_apart<R: Wait>(rt: &R, alloc: Global, desk: &mut Desk, other: &Board, told: &Desk) -> bool {
+fn is_apart<R: Threads + Wait + Sync>(
+    rt: &R,
+    alloc: Global,
+    desk: &mut Desk,
+    other: &Board,
+    told: &Desk,
+) -> bool {
     let apart = matches!(desk.learn(told.seen()), Err(LearnFault::Apart));
     let foreign = matches!(
         desk.refresh(rt, alloc, other),

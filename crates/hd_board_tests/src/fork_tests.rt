@@ -24,7 +24,12 @@ fn cut_and_refreshed<R: Abort + RandomSource + Threads + Wait + Sync>(
 }
 
 /// What the desk of a private board answers to the undo of the base's cut, to a cut, and to an added root.
-fn private_answers<R: Wait>(rt: &R, alloc: Global, board: &Board, desk: &mut Desk) -> [Answer; 3] {
+fn private_answers<R: Threads + Wait + Sync>(
+    rt: &R,
+    alloc: Global,
+    board: &Board,
+    desk: &mut Desk,
+) -> [Answer; 3] {
     [
         undo(rt, alloc, board, desk, Some(0)),
         edit(rt, alloc, board, desk, CUT),

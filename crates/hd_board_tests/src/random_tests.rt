@@ -32,7 +32,13 @@ fn random_edit(x: u64) -> Edit {
 }
 
 /// A random edit or undo of a desk. Whether it was done or refused for a reason of the dump or of the log.
-fn random_call<R: Wait>(rt: &R, alloc: Global, board: &Board, desk: &mut Desk, x: u64) -> bool {
+fn random_call<R: Threads + Wait + Sync>(
+    rt: &R,
+    alloc: Global,
+    board: &Board,
+    desk: &mut Desk,
+    x: u64,
+) -> bool {
     let answer = match (x >> 32) % 4 {
         0 => undo(rt, alloc, board, desk, None),
         1 => undo(rt, alloc, board, desk, Some(((x >> 40) % 256) as u32)),
@@ -42,7 +48,7 @@ fn random_call<R: Wait>(rt: &R, alloc: Global, board: &Board, desk: &mut Desk, x
 }
 
 /// A hundred random calls of a desk. Those that are answered otherwise than by a desk of the board's own are counted.
-fn hundred_calls<R: Wait>(
+fn hundred_calls<R: Threads + Wait + Sync>(
     rt: &R,
     alloc: Global,
     board: &Board,
@@ -59,7 +65,7 @@ fn hundred_calls<R: Wait>(
 }
 
 /// Whether a desk, once refreshed, has seen the events of a log and answers these strengths.
-fn agrees<R: Wait>(
+fn agrees<R: Threads + Wait + Sync>(
     rt: &R,
     alloc: Global,
     board: &Board,
@@ -98,7 +104,12 @@ fn agreeing<R: Abort + Threads + Sync + Wait>(
 }
 
 /// The log that the first desk sees at last.
-fn last_log<R: Abort + Wait>(rt: &R, alloc: Global, board: &Board, desks: &mut [Desk]) -> Front {
+fn last_log<R: Abort + Threads + Wait + Sync>(
+    rt: &R,
+    alloc: Global,
+    board: &Board,
+    desks: &mut [Desk],
+) -> Front {
     let desk = desks.first_mut().expect(rt, "there is a first desk");
     desk.refresh(rt, alloc, board)
         .ok()

@@ -24,7 +24,13 @@ fn events_of(log: &Front, who: u8) -> u32 {
 }
 
 /// Fifty times a cut and its undo by one desk. Those that are done are counted.
-fn cut_and_undo<R: Wait>(rt: &R, alloc: Global, board: &Board, desk: &mut Desk, done: &AtomicU64) {
+fn cut_and_undo<R: Threads + Wait + Sync>(
+    rt: &R,
+    alloc: Global,
+    board: &Board,
+    desk: &mut Desk,
+    done: &AtomicU64,
+) {
     for _ in 0..50u32 {
         if let Some(Ok(_)) = edit(rt, alloc, board, desk, CUT) {
             done.fetch_add(1, Ordering::SeqCst);
@@ -36,7 +42,12 @@ fn cut_and_undo<R: Wait>(rt: &R, alloc: Global, board: &Board, desk: &mut Desk, 
 }
 
 /// Refreshes all desks, and counts those for which the second array is strong then.
-fn strong_after_refresh<R: Wait>(rt: &R, alloc: Global, board: &Board, desks: &mut [Desk]) -> u32 {
+fn strong_after_refresh<R: Threads + Wait + Sync>(
+    rt: &R,
+    alloc: Global,
+    board: &Board,
+    desks: &mut [Desk],
+) -> u32 {
     let mut count = 0u32;
     for desk in desks {
         let refreshed = desk.refresh(rt, alloc, board).is_ok();
@@ -94,7 +105,13 @@ fn four_desks<R: Abort + RandomSource + Threads + Sync>(
 }
 
 /// Ten added roots by one desk. Those that are done are counted.
-fn add_ten<R: Wait>(rt: &R, alloc: Global, board: &Board, desk: &mut Desk, done: &AtomicU64) {
+fn add_ten<R: Threads + Wait + Sync>(
+    rt: &R,
+    alloc: Global,
+    board: &Board,
+    desk: &mut Desk,
+    done: &AtomicU64,
+) {
     for _ in 0..10u32 {
         if let Some(Ok(_)) = edit(rt, alloc, board, desk, Edit::Add(1)) {
             done.fetch_add(1, Ordering::SeqCst);

@@ -168,7 +168,7 @@ fn print_step<R: Print + AllocGlobal + Threads + Sync>(
     if state.front().next_fault(&event).is_some() {
         return Ok(());
     }
-    let Ok((next, done)) = state.step(rt.alloc(), event) else {
+    let Ok((next, done)) = state.step(rt, rt.alloc(), event) else {
         println!(rt; "step: OutOfMemory")?;
         return Ok(());
     };

@@ -46,7 +46,7 @@ fn print_accepted(rt: &impl Print, name: &str, event: u32) -> io::Result<()> {
 }
 
 /// Prints what a desk answers to a cut of the first array's reference to the second.
-fn print_cut<R: Wait + Print + AllocGlobal>(
+fn print_cut<R: Threads + Wait + Print + AllocGlobal + Sync>(
     rt: &R,
     board: &Board,
     desk: &mut Desk,
@@ -63,7 +63,7 @@ fn print_cut<R: Wait + Print + AllocGlobal>(
 }
 
 /// Prints what a desk answers to the undo of its last live edit.
-fn print_undo<R: Wait + Print + AllocGlobal>(
+fn print_undo<R: Threads + Wait + Print + AllocGlobal + Sync>(
     rt: &R,
     board: &Board,
     desk: &mut Desk,
@@ -80,7 +80,7 @@ fn print_undo<R: Wait + Print + AllocGlobal>(
 }
 
 /// Prints what a desk answers to a refresh.
-fn print_refresh<R: Wait + Print + AllocGlobal>(
+fn print_refresh<R: Threads + Wait + Print + AllocGlobal + Sync>(
     rt: &R,
     board: &Board,
     desk: &mut Desk,
@@ -110,7 +110,7 @@ fn print_desk(rt: &impl Print, desk: &Desk) -> io::Result<()> {
 }
 
 /// The calls of the first desk: a cut, and a refresh by which it comes to it where memory ran out on the way.
-fn print_first_calls<R: Wait + Print + AllocGlobal>(
+fn print_first_calls<R: Threads + Wait + Print + AllocGlobal + Sync>(
     rt: &R,
     board: &Board,
     desk: &mut Desk,
@@ -143,7 +143,7 @@ fn print_close(rt: &impl Print, board: Board, desks: &[Desk]) -> io::Result<()> 
 }
 
 /// The calls of two desks, one after another.
-fn print_calls<R: Wait + Print + AllocGlobal>(
+fn print_calls<R: Threads + Wait + Print + AllocGlobal + Sync>(
     rt: &R,
     board: &Board,
     first: &mut Desk,

@@ -144,7 +144,7 @@ pub fn open_alone<T: Threads + Sync>(
 /// # Errors
 ///
 /// Serving ended early, or the board can't be closed.
-pub fn serve_alone<T: AllocGlobal + Wait, R: BufRead, W: Write>(
+pub fn serve_alone<T: AllocGlobal + Threads + Wait + Sync, R: BufRead, W: Write>(
     rt: &T,
     names: bool,
     board: Board,

@@ -14,6 +14,7 @@ use std::alloc::{AllocError, Global};
 use std::io::{BufRead, Write};
 use std::mem;
 use std::sync::Wait;
+use std::thread::Threads;
 use thiserror::Error;
 
 /// Why serving ended early.
@@ -125,7 +126,7 @@ struct Service<'a> {
 
 /// Runs the open line, and writes its reply.
 fn run_line<W: Write>(
-    rt: &impl Wait,
+    rt: &(impl Wait + Threads + Sync),
     writer: &mut W,
     service: &mut Service<'_>,
 ) -> Result<Flow, ServeFault>
@@ -160,7 +161,7 @@ fn flow_after(reading: Result<Command, LineFault>) -> Flow
 
 /// Runs one byte: a newline ends the open line, any other byte goes onto it.
 fn run_byte<W: Write>(
-    rt: &impl Wait,
+    rt: &(impl Wait + Threads + Sync),
     writer: &mut W,
     service: &mut Service<'_>,
     byte: u8,
@@ -187,7 +188,7 @@ fn keep(line: &mut FixedBuffer<KEPT_LINE>, byte: u8)
 
 /// Runs bytes in turn.
 fn run_chunk<W: Write>(
-    rt: &impl Wait,
+    rt: &(impl Wait + Threads + Sync),
     writer: &mut W,
     service: &mut Service<'_>,
     bytes: &[u8],
@@ -205,7 +206,7 @@ fn run_chunk<W: Write>(
 
 /// Runs what is left at the end of the input, if it has a byte.
 fn run_end<W: Write>(
-    rt: &impl Wait,
+    rt: &(impl Wait + Threads + Sync),
     writer: &mut W,
     service: &mut Service<'_>,
 ) -> Result<(), ServeFault>
@@ -220,7 +221,7 @@ fn run_end<W: Write>(
 
 /// Reads, runs and answers until the input ends, a line is `quit`, or a fault.
 fn run_input<R: BufRead, W: Write>(
-    rt: &impl Wait,
+    rt: &(impl Wait + Threads + Sync),
     reader: &mut R,
     writer: &mut W,
     service: &mut Service<'_>,
@@ -254,7 +255,7 @@ fn run_input<R: BufRead, W: Write>(
 ///
 /// The reader or the writer failed, and the desk has seen what the lines that were run have done; or memory ran out before
 /// anything was read, and the desk has seen no more than before.
-pub fn serve<T: AllocGlobal + Wait, R: BufRead, W: Write>(
+pub fn serve<T: AllocGlobal + Threads + Wait + Sync, R: BufRead, W: Write>(
     rt: &T,
     names: bool,
     reader: &mut R,
@@ -285,7 +286,7 @@ pub fn serve<T: AllocGlobal + Wait, R: BufRead, W: Write>(
 
 /// Runs the whole input, and hands on what was written.
 fn run_all<R: BufRead, W: Write>(
-    rt: &impl Wait,
+    rt: &(impl Wait + Threads + Sync),
     reader: &mut R,
     writer: &mut W,
     service: &mut Service<'_>,

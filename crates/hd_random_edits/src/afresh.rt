@@ -18,7 +18,7 @@ const STRENGTHS: [Strength; 6] = [
 ];
 
 /// What a state keeps of each object, as a search leaves it.
-fn kept_of(alloc: Global, supports: &Supports) -> Result<Strengths, NoMemory> {
+pub fn kept_of(alloc: Global, supports: &Supports) -> Result<Strengths, NoMemory> {
     let mut kept = Vec::new(alloc);
     for o in 0..supports.len() {
         let reached = PackedReached::new(

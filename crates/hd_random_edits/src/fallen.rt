@@ -6,6 +6,7 @@ ghost use Rattle.hd_terms.specs.Log.{log_fault};
 use hd_state::{Done, Mark, State};
 use hd_terms::{Event, NoMemory, Strength};
 use std::alloc::Global;
+use std::thread::Threads;
 
 /// The IDs of the objects that are unreachable after and were not before.
 fn fallen_by_strengths(
@@ -57,7 +58,8 @@ fn strengths_of(alloc: Global, state: &State) -> Result<Vec<Strength>, NoMemory>
 
 /// The state after one more event, which the log has to take, and whether what is told of the event is what the strengths
 /// before and after it say.
-pub fn step_and_compare(
+pub fn step_and_compare<R: Threads + Sync>(
+    rt: &R,
     alloc: Global,
     state: &State,
     event: Event,
@@ -66,7 +68,7 @@ pub fn step_and_compare(
 {
     let mark = state.mark()?;
     let before = strengths_of(alloc, state)?;
-    let (next, done) = state.step(alloc, event)?;
+    let (next, done) = state.step(rt, alloc, event)?;
     let after = strengths_of(alloc, &next)?;
     let is_right = is_told(alloc, &next, &mark, done, &before, &after)?;
     Ok((next, is_right))

@@ -21,14 +21,19 @@ const TRIES: u32 = 40_000;
 const BETWEEN: u32 = 64;
 
 /// The state after one more event, and whether the event was made.
-fn stepped(alloc: Global, state: State, event: Event) -> Option<(State, bool)> {
+fn stepped<R: Threads + Sync>(
+    rt: &R,
+    alloc: Global,
+    state: State,
+    event: Event,
+) -> Option<(State, bool)> {
     if is_refused(&state, event) {
         return Some((state, false));
     }
     if let Some(_fault) = state.front().next_fault(&event) {
         return Some((state, false));
     }
-    let Ok((next, _)) = state.step(alloc, event) else {
+    let Ok((next, _)) = state.step(rt, alloc, event) else {
         return None;
     };
     Some((next, true))
@@ -52,7 +57,7 @@ fn filled<R: Threads + Sync>(rt: &R, alloc: Global, opened: State, random: u64) 
         }
         x = next_random(x);
         let event = random_event_of_long_log(state.front(), x);
-        let (next, made) = stepped(alloc, state, event)?;
+        let (next, made) = stepped(rt, alloc, state, event)?;
         state = next;
         if made && !is_right(rt, alloc, &state) {
             return None;

@@ -1,6 +1,6 @@
 //! Random edits and undos of random dumps, in both modes: after each, what is kept is settled, strengths and totals are
 //! those that a search from scratch gives, what fell and came back is what they say, and each object's group lists those that
-//! have its strength. One log is filled. The stored output says that this held of each dump.
+//! have its strength; and a repair that asks for a search afresh changes the same. One log is filled. The stored output says that this held of each dump.
 #![tactic(auto)]
 
 mod afresh;
@@ -9,6 +9,7 @@ mod events;
 mod fallen;
 mod long_log;
 mod members;
+mod searched;
 mod shapes;
 
 use afresh::is_as_afresh;
@@ -21,6 +22,7 @@ use hd_state_tests::random::next_random;
 use hd_terms::{Event, Mode, What};
 use long_log::events_of_long_log;
 use members::lists_members;
+use searched::is_same_by_search;
 use shapes::{SHAPES, Shape, shaped_dump};
 use std::alloc::Global;
 use std::io;
@@ -47,14 +49,17 @@ pub fn is_refused(state: &State, event: Event) -> bool {
 }
 
 /// The state after one more event, if what is told of it is right, or the same where the event may not be made.
-fn stepped(alloc: Global, state: State, event: Event) -> Option<State> {
+fn stepped<R: Threads + Sync>(rt: &R, alloc: Global, state: State, event: Event) -> Option<State> {
     if is_refused(&state, event) {
         return Some(state);
     }
     if let Some(_fault) = state.front().next_fault(&event) {
         return Some(state);
     }
-    let Ok((next, is_right)) = step_and_compare(alloc, &state, event) else {
+    if !is_same_by_search(rt, alloc, &state, event) {
+        return None;
+    }
+    let Ok((next, is_right)) = step_and_compare(rt, alloc, &state, event) else {
         return None;
     };
     if !is_right {
@@ -74,7 +79,7 @@ fn taken_events<R: Threads + Sync>(
     let mut x = random;
     for _ in 0..EVENTS {
         x = next_random(x);
-        state = stepped(alloc, state, random_event(x))?;
+        state = stepped(rt, alloc, state, random_event(x))?;
         let Ok(true) = is_as_afresh(rt, alloc, &state) else {
             return None;
         };

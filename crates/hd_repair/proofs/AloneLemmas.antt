@@ -1,5 +1,5 @@
-use Rattle.std.proofs.Common.{Bool, ◌≡◌, ◌≢◌, ◌∙◌, ℕ, zero, suc, ◌-◌, ◌≤◌, inl, inr, List, [], ◌∷◌, ◌++◌, Contains, length, take, get_or, sym, ap, subst, refl}
-use Rattle.std.proofs.Common.{arith, true}
+use Rattle.std.proofs.Common.{Bool, ◌≡◌, ◌≢◌, ◌∙◌, ℕ, zero, suc, ◌+◌, ◌-◌, ◌≤◌, inl, inr, List, [], ◌∷◌, ◌++◌}
+use Rattle.std.proofs.Common.{true, Contains, length, take, get_or, sym, ap, subst, refl, arith}
 use Rattle.std.proofs.lemmas.Bool.{cases_eq}
 use Rattle.std.proofs.lemmas.List.{length_push, take-append-le}
 use Rattle.std.proofs.lemmas.List.Elements.{Contains-push, Contains-push_cases, Contains-append_left}
@@ -9,7 +9,7 @@ use Rattle.hd_terms.specs.Paths.{Standing}
 use Rattle.hd_terms.specs.Settled.{Reached, reached_at}
 use Rattle.hd_terms.proofs.Lower.{Contains-first, Contains-later, NoneTwice-push}
 use Rattle.hd_repair.specs.declared.waiting.Losing.{Losing}
-use Rattle.hd_repair.specs.Alone.{TakesNext, AreAtMost, AreFirst, AreSought, IsAlone, IsFirstOr, IsOnlyFrom, JoinsAlone}
+use Rattle.hd_repair.specs.Alone.{FindsNone, IsHalfway, TakesNext, AreAtMost, AreFirst, AreSought, IsAlone, IsFirstOr, IsOnlyFrom, JoinsAlone}
 use Rattle.hd_terms.specs.Ranks.{rank}
 use Rattle.hd_repair.specs.Hanging.{NoneLate}
 use Rattle.hd_repair.specs.Losing.{before_all, progress_of, IsUnderway, Progress}
@@ -17,6 +17,7 @@ use Rattle.hd_repair.specs.Spreading.{rank_at}
 use Rattle.hd_repair.proofs.BestLemmas.{into_all}
 use Rattle.hd_repair.proofs.MarkLemmas.{any_default}
 use Rattle.hd_repair.proofs.QueueLemmas.{cons_cases}
+use Rattle.hd_repair.proofs.UnderwayLemmas.{room_left}
 
 -- the elements of a list of one are the same
 one_element : (xs : List MarkedEdge) → length xs ≡ 1 → (x y : MarkedEdge) → Contains xs x → Contains xs y → x ≡ y
@@ -177,3 +178,24 @@ waits_not_gone g n ks o p h c =
 -- the object that is taken out waited before the others
 pub taken_progress : (old new : Losing) (o : ℕ) (is_alone : Bool) → TakesNext old new o is_alone → before_all o (progress_of new) ≡ progress_of old
 taken_progress old new o is_alone t = rw (t.waiting, t.rehung, t.lifted, t.gone) refl
+
+-- where none waits, the loss is as it was
+pub none_progress : (old new : Losing) → FindsNone old new → progress_of new ≡ progress_of old
+none_progress old new t = rw (t.waiting, t.before, t.rehung, t.lifted, t.gone) refl
+
+pub none_halfway : (r : Rows) (ks : List Reached) (old new : Losing) → IsHalfway r ks old → FindsNone old new → IsHalfway r ks new
+none_halfway r ks old new h t = record {
+  underway = subst (λ (p : Progress). IsUnderway r.standing r.objects ks p NoneLate) (sym (none_progress old new t)) h.underway;
+  first = rw (t.waiting, t.alone) (rw t.before at h.first);
+  sought = rw (t.gone, t.sought) h.sought;
+}
+
+-- an object is done once, so after as many as there are none waits
+pub none_waits : (g : Standing) (n : ℕ) (ks : List Reached) (p : Progress) (waiting : List ℕ) → p.waiting ≡ waiting → IsUnderway g n ks p NoneLate
+    → n ≤ length p.rehung + length p.gone → waiting ≡ []
+none_waits g n ks p [] is h all = refl
+none_waits g n ks p (x ∷ xs) is h all =
+    let rest : Progress = record { waiting = xs; rehung = p.rehung; lifted = p.lifted; gone = p.gone; strengths = p.strengths } in
+    let first : IsUnderway g n ks (before_all x rest) NoneLate = subst (λ (w : List ℕ). IsUnderway g n ks
+    (record { waiting = w; rehung = p.rehung; lifted = p.lifted; gone = p.gone; strengths = p.strengths }) NoneLate) is h in
+    absurd (omega (arith, all, room_left g n ks x rest first))

@@ -19,3 +19,5 @@ pub mod LossLemmas
 pub mod AloneLemmas
 pub mod ResupportLemmas
 pub mod GainLemmas
+pub mod MarkingLemmas
+pub mod RenewLemmas

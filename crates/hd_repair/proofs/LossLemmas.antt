@@ -125,15 +125,14 @@ module _ (before after : List Reached) (xs : List ℕ) (i d : ℕ) (changes : Li
         ];
       }
 
--- what is kept of an object that isn't gone can't rise: a path that is left was there before
-module _ (less more : Standing) (lost : List Holding) (n : ℕ) (ks0 ks ks' : List Reached) (p : Progress) (changes : List StrengthChange)
-    (w : IsWithout less more lost) (before : Settled more ks0) (after : Settled less ks')
-    (h : IsUnderway less n ks p NoneLate) (f : IsSince ks0 lost ks p) (changed : AreRises ks ks' changes) where
+-- an object can't rise: a path that is left was there before
+module _ (less more : Standing) (lost : List Holding) (ks0 ks' : List Reached) (w : IsWithout less more lost) (before : Settled more ks0)
+    (after : Settled less ks') where
   still_leads : (es : List Edge) (a b : ℕ) → Lead less a es b → Lead more a es b
   still_leads [] a b l = l
   still_leads (e ∷ es) a b l = (w.edges_within e l.0, l.1, still_leads es e.target b l.2)
 
-  no_better : (o : ℕ) → rank_at ks' o ≤ rank_at ks0 o
+  pub no_better : (o : ℕ) → rank_at ks' o ≤ rank_at ks0 o
   no_better o = elim (cases_lt 0 (rank_at ks' o)) [
     | inr none ↦ omega arith
     | inl reached ↦
@@ -149,6 +148,10 @@ module _ (less more : Standing) (lost : List Holding) (n : ℕ) (ks0 ks ks' : Li
         omega (arith, greatest more ks0 before o way.0 way.1 old)
   ]
 
+-- what is kept of an object that isn't gone can't rise
+module _ (less more : Standing) (lost : List Holding) (n : ℕ) (ks0 ks ks' : List Reached) (p : Progress) (changes : List StrengthChange)
+    (w : IsWithout less more lost) (before : Settled more ks0) (after : Settled less ks')
+    (h : IsUnderway less n ks p NoneLate) (f : IsSince ks0 lost ks p) (changed : AreRises ks ks' changes) where
   pub changed_is_gone : (o : ℕ) → Contains (changed_objects changes) o → Contains p.gone o
   changed_is_gone o c = elim (f.strengths o) [
     | inl gone ↦ gone
@@ -158,7 +161,7 @@ module _ (less more : Standing) (lost : List Holding) (n : ℕ) (ks0 ks ks' : Li
         let was : rank_at ks o ≡ rank d.0.before = ap (rank_at ks) (sym d.2) ∙ ap rank rise.before in
         let now : rank_at ks' o ≡ rank d.0.after = ap (rank_at ks') (sym d.2) ∙ ap rank rise.after in
         let same : rank_at ks o ≡ rank_at ks0 o = ap rank kept in
-        absurd (omega (arith, rise.rises, no_better o))
+        absurd (omega (arith, rise.rises, no_better less more lost ks0 ks' w before after o))
   ]
 
   pub outside : (o : ℕ) → (InLossRegion ks0 lost o → ⊥) → reached_at ks' o ≡ reached_at ks0 o

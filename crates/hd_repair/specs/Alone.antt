@@ -5,7 +5,13 @@ use Rattle.hd_terms.specs.Chains.{NoneTwice}
 use Rattle.hd_terms.specs.EdgeRows.{MarkedEdge, Rows}
 use Rattle.hd_terms.specs.Paths.{Edge, RootEntry, Standing}
 use Rattle.hd_terms.specs.Settled.{Reached, reached_at}
+use Rattle.hd_repair.specs.declared.marking.Marks.{Marks}
+use Rattle.hd_repair.specs.declared.rehanging.Halfway.{Halfway}
+use Rattle.hd_repair.specs.declared.rehanging.Halfway.TheVariants as halves
 use Rattle.hd_repair.specs.declared.waiting.Losing.{Losing}
+use Rattle.hd_repair.specs.Hanging.{NoneLate}
+use Rattle.hd_repair.specs.Losing.{looks_due, progress_of, IsSince, IsUnderway}
+use Rattle.hd_terms.specs.Regions.{Holding}
 
 -- no standing root is on an object, and each standing edge to it is from an unreachable one
 pub record IsAlone (g : Standing) (ks : List Reached) (o : ℕ) : Type 0 where
@@ -52,6 +58,7 @@ pub record TakesNext (old new : Losing) (o : ℕ) (is_alone : Bool) : Type 0 whe
 -- none is left that waits, and nothing changes
 pub record FindsNone (old new : Losing) : Type 0 where
   pub before : old.waiting.items ≡ []
+  pub alone : new.alone ≡ old.alone
   pub waiting : new.waiting.items ≡ []
   pub rehung : new.rehung ≡ old.rehung
   pub lifted : new.lifted ≡ old.lifted
@@ -74,3 +81,27 @@ pub record IsLeftOver (old new : Losing) : Type 0 where
   pub alone : new.alone ≡ old.alone
   pub gone : new.gone.objects.items ≡ old.gone.objects.items
   pub sought : new.sought.items ≡ old.sought.items
+
+-- a loss is under way: what waits, hangs, or is gone is as it should be
+pub record IsHalfway (r : Rows) (ks : List Reached) (losing : Losing) : Type 0 where
+  pub underway : IsUnderway r.standing r.objects ks (progress_of losing) NoneLate
+  pub first : AreFirst losing.alone losing.waiting.items (IsAlone r.standing ks)
+  pub sought : AreSought r.standing ks losing.gone.objects.items losing.sought.items
+
+-- a loss for which no object waits any more, since what was kept before it; its looks are those that were due
+pub record IsDoneLosing (r : Rows) (ks0 : List Reached) (lost : List Holding) (ks : List Reached) (looks0 looks : ℕ) (losing : Losing) : Type 0 where
+  pub few : looks ≤ looks0 + looks_due r (progress_of losing)
+  pub none : losing.waiting.items ≡ []
+  pub underway : IsUnderway r.standing r.objects ks (progress_of losing) NoneLate
+  pub since : IsSince ks0 lost ks (progress_of losing)
+  pub sought : AreSought r.standing ks losing.gone.objects.items losing.sought.items
+
+-- what holds of a loss, where it came so far that none waits
+abbrev pub IfDone : Halfway → (Losing → Type 0) → Type 0
+IfDone (halves.Done losing) P = P losing
+IfDone (halves.Large found) P = Unit {0}
+
+-- what holds of the marks, where a loss ended with them
+abbrev pub IfLarge : Halfway → (Marks → Type 0) → Type 0
+IfLarge (halves.Done losing) P = Unit {0}
+IfLarge (halves.Large found) P = P found

@@ -3,5 +3,7 @@ pub mod OffersInside
 pub mod Spreading
 pub mod Hanging
 pub mod Losing
+pub mod Marking
+pub mod Renewing
 pub mod Alone
 pub mod Changing

@@ -26,6 +26,13 @@
 //!    becomes the target's support. What the target then gives along its own edges is offered in turn.
 //! 5. `changes_of` compares the strengths of the detached objects with those that they had.
 //!
+//! Where many objects lost their support and others still wait, a search afresh may be quicker. So after as many objects as
+//! `Limits` says, a loss marks its region (`marking.rt`): the objects whose stored chain uses what is lost, found by the
+//! stored chains alone, without a look. Those of 1,024 objects tell whether that seems worthwhile. If the looks of a search
+//! and those so far are at most twice the region's degree, the loss ends with these marks; else it goes on. `renew`
+//! (`renewing.rt`) then takes what the search found in the region, with stamps above all that were kept, and leaves the rest
+//! as it was. `renew_changed` does the same after a gain, where strengths differ; its caller knows beforehand that many do.
+//!
 //! A gain (`gaining.rt`) takes the targets of what was gained, each once (`targets.rt`), and finds the best offer to each.
 //! One that gives more than its target has is spread in the same way. One that gives the same from an earlier source
 //! becomes the support, so that chains stay short. Nothing is detached, since a gain weakens nothing.
@@ -52,8 +59,10 @@ mod gaining;
 mod hanging;
 mod lifting;
 mod losing;
+mod marking;
 mod offers;
 mod rehanging;
+mod renewing;
 mod sources;
 mod spreading;
 mod targets;
@@ -61,4 +70,7 @@ mod waiting;
 
 pub use change::Change;
 pub use gaining::gain;
-pub use losing::lose;
+pub use losing::{Lost, lose};
+pub use marking::Marks;
+pub use rehanging::Limits;
+pub use renewing::{renew, renew_changed};

@@ -7,10 +7,12 @@ ghost use Rattle.hd_terms.specs.Settled.{reached_at, Reached, Settled};
 ghost use Rattle.hd_terms.specs.Chains.{NoneTwice};
 ghost use Rattle.hd_repair.specs.Changing.{AreChangesAmong};
 ghost use Rattle.hd_repair.specs.Losing.{strengths_of};
+ghost use Rattle.hd_repair.specs.Marking.{IfAsked, IfSettled, IsLarge};
 
 use crate::best::offer_each;
 use crate::change::Change;
-use crate::rehanging::rehang_or_detach;
+use crate::marking::Marks;
+use crate::rehanging::{Halfway, Limits, rehang_or_detach};
 use crate::spreading::spread;
 use crate::waiting::Region;
 use hd_edges::{Edges, Held};
@@ -36,10 +38,21 @@ fn changes_of(alloc: Global, region: &Region, kept: &Supports) -> Result<Vec<Cha
     Ok(changes)
 }
 
-/// Repairs what is kept after a loss, and tells whose strength has changed.
+/// How a loss ended.
+pub enum Lost {
+    /// What is kept is settled again, and the strengths of these objects have changed.
+    Settled(Vec<Change>),
+    /// What is kept may not be used further. A search afresh looks at no more than is left: `renew` takes what it finds in the
+    /// region, and what was kept before the loss outside.
+    Large(Marks),
+}
+
+/// Repairs what is kept after a loss, and tells whose strength has changed; or tells which objects are in its region, where that
+/// is large.
 ///
-/// What is lost stands no more, and while it did the supports were settled. The looks are at most twice the degree of the
-/// objects whose stored chain used what is lost.
+/// What is lost stands no more, and while it did the supports were settled; `before` has them as they were. The looks are at most
+/// twice the degree of the objects whose stored chain used what is lost. Where more objects than `limits` allows lost their
+/// support, and objects still wait for one, a search afresh is asked for, if its looks and those so far are at most that many.
 ///
 /// # Errors
 ///
@@ -47,9 +60,12 @@ fn changes_of(alloc: Global, region: &Region, kept: &Supports) -> Result<Vec<Cha
 pub fn lose<E: Edges>(
     alloc: Global,
     edges: &mut E,
+    before: &Supports,
     kept: &mut Supports,
     lost: &[Held],
-) -> Result<Vec<Change>, NoMemory>
+    limits: Limits,
+) -> Result<Lost, NoMemory>
+    requires before { before.now ≡ kept.old }
     requires count { length kept.old ≡ (E.rows edges.old).objects }
     requires room { (o : ℕ) → (reached_at kept.old o).stamp ≤ 2 ^ 47 }
     requires targets { All (λ (h : Holding). h.target < (E.rows edges.old).objects) lost.now }
@@ -57,19 +73,25 @@ pub fn lose<E: Edges>(
     requires settled { WasSettledWith (E.rows edges.old).standing lost.now kept.old }
     ensures same { E.rows edges.new ≡ E.rows edges.old }
     ensures count { length kept.new ≡ length kept.old }
-    ensures settled { OnOk result (Settled (E.rows edges.old).standing kept.new) }
-    ensures changes { IfOk result (λ v. AreChanges kept.old kept.new v.items) }
-    ensures outside { OnOk result ((o : ℕ) → (InLossRegion kept.old lost.now o → ⊥) → reached_at kept.new o ≡ reached_at kept.old o) }
-    ensures looks { OnOk result (
+    ensures settled { IfOk result (λ l. IfSettled l (λ v. Settled (E.rows edges.old).standing kept.new)) }
+    ensures changes { IfOk result (λ l. IfSettled l (λ v. AreChanges kept.old kept.new v)) }
+    ensures outside { IfOk result (λ l. IfSettled l (λ v. (o : ℕ) → (InLossRegion kept.old lost.now o → ⊥) → reached_at kept.new o ≡ reached_at kept.old o)) }
+    ensures looks { IfOk result (λ l. IfSettled l (λ v.
         (region : List ℕ) → ((o : ℕ) → InLossRegion kept.old lost.now o → Contains region o)
         → E.look_count edges.new ≤ E.look_count edges.old + 2 * sum_by (degree (E.rows edges.old)) region
-        ) }
-    ensures stamps { OnOk result ((m : ℕ) → ((o : ℕ) → (reached_at kept.old o).stamp ≤ m) → (o : ℕ) → (reached_at kept.new o).stamp ≤ m + (E.rows edges.old).objects) }
+        )) }
+    ensures stamps { IfOk result (λ l. IfSettled l (λ v. (m : ℕ) → ((o : ℕ) → (reached_at kept.old o).stamp ≤ m) → (o : ℕ) → (reached_at kept.new o).stamp ≤ m + (E.rows edges.old).objects)) }
+    ensures large { IfOk result (λ l. IfAsked l (IsLarge (E.rows edges.old) kept.old lost.now (E.look_count edges.new) limits.search)) }
 {
     kept.are_few();
-    let losing = rehang_or_detach(alloc, edges, kept, lost)?;
-    let offers = offer_each(alloc, edges, &losing.sought, kept)?;
-    let _rises = spread(alloc, edges, kept, offers)?;
-    let changes = changes_of(alloc, &losing.gone, kept)?;
-    Ok(changes)
+    let half = rehang_or_detach(alloc, edges, before, kept, lost, limits)?;
+    match half {
+        Halfway::Large(marks) => Ok(Lost::Large(marks)),
+        Halfway::Done(losing) => {
+            let offers = offer_each(alloc, edges, &losing.sought, kept)?;
+            let _rises = spread(alloc, edges, kept, offers)?;
+            let changes = changes_of(alloc, &losing.gone, kept)?;
+            Ok(Lost::Settled(changes))
+        }
+    }
 }

@@ -9,9 +9,13 @@ ghost use Rattle.hd_repair.specs.Alone.{AreFirst, AreSought, IsAlone, IsLeftOver
 ghost use Rattle.hd_repair.specs.Hanging.{IsSupportFor, NoneLate};
 ghost use Rattle.hd_repair.specs.Losing.{before_all, looks_due, progress_of, sources_of, IsSince, IsUnderway};
 ghost use Rattle.hd_repair.specs.Spreading.{rank_at};
+ghost use Rattle.hd_terms.specs.EdgeRows.{Rows};
+ghost use Rattle.hd_repair.specs.Alone.{IfDone, IfLarge, IsDoneLosing, IsHalfway};
+ghost use Rattle.hd_repair.specs.Marking.{IsLarge};
 
 use crate::ahead::{Ahead, BATCH, read_object};
 use crate::lifting::lift_below;
+use crate::marking::{Marks, large_region};
 use crate::sources::find_support;
 use crate::waiting::{Losing, Region, detach, loosen_lost, take_next};
 use hd_edges::{Edges, Held};
@@ -130,28 +134,35 @@ fn look_ahead<E: Edges>(edges: &E, kept: &Supports, waiting: &VecDeque<u32>, ahe
     ahead.note(sum);
 }
 
-/// Hangs each object that lost its support on another one, or detaches it.
-pub(crate) fn rehang_or_detach<E: Edges>(
-    alloc: Global,
-    edges: &mut E,
-    kept: &mut Supports,
-    lost: &[Held],
-) -> Result<Losing, NoMemory>
-    requires count { length kept.old ≡ (E.rows edges.old).objects }
+/// When a loss asks whether a search afresh looks at no more.
+#[derive(Clone, Copy)]
+pub struct Limits {
+    /// After how many objects it asks.
+    pub objects: u32,
+    /// How many looks a search afresh takes at most.
+    pub search: u64,
+}
+
+/// How far a loss came: no object waits any more, or its region is so large that a search afresh looks at no more.
+pub(crate) enum Halfway {
+    Done(Losing),
+    Large(Marks),
+}
+
+/// The objects wait that the lost items held.
+fn begin_losing(alloc: Global, kept: &mut Supports, lost: &[Held]) -> Result<Losing, NoMemory>
     requires room { (o : ℕ) → (reached_at kept.old o).stamp ≤ 2 ^ 47 }
-    requires targets { All (λ (h : Holding). h.target < (E.rows edges.old).objects) lost.now }
+    requires targets { All (λ (h : Holding). h.target < length kept.old) lost.now }
     requires holders { All (λ (h : Holding). h.holder ≢ supports.Nothing) lost.now }
-    requires settled { WasSettledWith (E.rows edges.old).standing lost.now kept.old }
-    ensures same { E.rows edges.new ≡ E.rows edges.old }
     ensures count { length kept.new ≡ length kept.old }
-    ensures looks { IfOk result (λ losing. E.look_count edges.new ≤ E.look_count edges.old + looks_due (E.rows edges.old) (progress_of losing)) }
-    ensures none { IfOk result (λ losing. losing.waiting.items ≡ []) }
-    ensures underway { IfOk result (λ losing. IsUnderway (E.rows edges.old).standing (E.rows edges.old).objects kept.new (progress_of losing) NoneLate) }
-    ensures since { IfOk result (λ losing. IsSince kept.old lost.now kept.new (progress_of losing)) }
-    ensures sought { IfOk result (λ losing. AreSought (E.rows edges.old).standing kept.new losing.gone.objects.items losing.sought.items) }
+    ensures none { IfOk result (λ losing. (r : Rows) → looks_due r (progress_of losing) ≡ 0) }
+    ensures halfway { IfOk result (λ losing. (r : Rows) → length kept.old ≡ r.objects → WasSettledWith r.standing lost.now kept.old
+        → IsHalfway r kept.new losing) }
+    ensures since { IfOk result (λ losing. (r : Rows) → length kept.old ≡ r.objects → WasSettledWith r.standing lost.now kept.old
+        → IsSince kept.old lost.now kept.new (progress_of losing)) }
 {
     let waiting = loosen_lost(alloc, kept, lost)?;
-    let mut losing = Losing {
+    Ok(Losing {
         waiting,
         alone: 0,
         rehung: Vec::new(alloc),
@@ -161,12 +172,65 @@ pub(crate) fn rehang_or_detach<E: Edges>(
             strengths: Vec::new(alloc),
         },
         sought: Vec::new(alloc),
-    };
-    let mut steps = MOST_STEPS;
+    })
+}
+
+/// Hangs objects that wait on another support, or detaches them, until none waits or `most` are done.
+fn settle_waiting<E: Edges>(
+    edges: &mut E,
+    kept: &mut Supports,
+    losing: &mut Losing,
+    steps: &mut u64,
+    most: u32,
+) -> Result<(), NoMemory>
+    requires { IsHalfway (E.rows edges.old) kept.old losing.old }
+    ensures same { E.rows edges.new ≡ E.rows edges.old }
+    ensures count { length kept.new ≡ length kept.old }
+    ensures looks { OnOk result (E.look_count edges.new + looks_due (E.rows edges.old) (progress_of losing.old) ≤ E.look_count edges.old + looks_due (E.rows edges.old) (progress_of losing.new)) }
+    ensures halfway { OnOk result (IsHalfway (E.rows edges.old) kept.new losing.new) }
+    ensures since { OnOk result ((ks0 : List Reached) (lost : List Holding) → IsSince ks0 lost kept.old (progress_of losing.old) → IsSince ks0 lost kept.new (progress_of losing.new)) }
+    ensures none { OnOk result ((E.rows edges.old).objects ≤ most → losing.new.waiting.items ≡ []) }
+{
     let mut ahead = Ahead::none();
-    while let Some((o, is_alone)) = take_next(&mut losing) {
+    for _ in 0..most {
+        let Some((o, is_alone)) = take_next(losing) else {
+            return Ok(());
+        };
         look_ahead(edges, kept, &losing.waiting, &mut ahead);
-        settle_next(edges, kept, &mut losing, o, is_alone, &mut steps)?;
+        settle_next(edges, kept, losing, o, is_alone, steps)?;
     }
-    Ok(losing)
+    Ok(())
+}
+
+/// Hangs each object that lost its support on another one, or detaches it; or tells that a search afresh looks at no more.
+pub(crate) fn rehang_or_detach<E: Edges>(
+    alloc: Global,
+    edges: &mut E,
+    before: &Supports,
+    kept: &mut Supports,
+    lost: &[Held],
+    limits: Limits,
+) -> Result<Halfway, NoMemory>
+    requires before { before.now ≡ kept.old }
+    requires count { length kept.old ≡ (E.rows edges.old).objects }
+    requires room { (o : ℕ) → (reached_at kept.old o).stamp ≤ 2 ^ 47 }
+    requires targets { All (λ (h : Holding). h.target < (E.rows edges.old).objects) lost.now }
+    requires holders { All (λ (h : Holding). h.holder ≢ supports.Nothing) lost.now }
+    requires settled { WasSettledWith (E.rows edges.old).standing lost.now kept.old }
+    ensures same { E.rows edges.new ≡ E.rows edges.old }
+    ensures count { length kept.new ≡ length kept.old }
+    ensures done { IfOk result (λ h. IfDone h (IsDoneLosing (E.rows edges.old) kept.old lost.now kept.new (E.look_count edges.old) (E.look_count edges.new))) }
+    ensures large { IfOk result (λ h. IfLarge h (IsLarge (E.rows edges.old) kept.old lost.now (E.look_count edges.new) limits.search)) }
+{
+    let mut losing = begin_losing(alloc, kept, lost)?;
+    let mut steps = MOST_STEPS;
+    settle_waiting(edges, kept, &mut losing, &mut steps, limits.objects)?;
+    if losing.waiting.len() > 0
+        && let Some(marks) = large_region(alloc, edges, before, lost, limits.search)?
+    {
+        return Ok(Halfway::Large(marks));
+    }
+    let most = kept.len();
+    settle_waiting(edges, kept, &mut losing, &mut steps, most)?;
+    Ok(Halfway::Done(losing))
 }

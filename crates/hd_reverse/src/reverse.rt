@@ -92,6 +92,13 @@ impl ReverseRows {
         &self.kinds
     }
 
+    /// How many slots refer to an object of the dump.
+    pub fn len(&self) -> u64
+        ensures { result ≡ length self.now.referrers }
+    {
+        self.referrers.len() as u64
+    }
+
     /// How many slots refer to an object.
     pub fn into_len(&self, o: u32) -> u32
         requires { o + 1 < length self.now.starts }

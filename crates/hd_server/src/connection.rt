@@ -4,11 +4,12 @@ use hd_protocol::{ServeFault, serve};
 use std::io::{BufReader, BufWriter};
 use std::net::TcpStream;
 use std::sync::Wait;
+use std::thread::Threads;
 
 /// Serves one analyst over a connection until its input ends, a line is `quit`, or a fault, and then closes it. A fault ends
 /// this connection and nothing else: the peer went away, the reader or the writer failed, or memory ran out. Replies show names
 /// from the beginning where `names` says so.
-pub fn attend<R: AllocGlobal + Wait>(
+pub fn attend<R: AllocGlobal + Threads + Wait + Sync>(
     rt: &R,
     names: bool,
     stream: TcpStream,
@@ -24,7 +25,7 @@ pub fn attend<R: AllocGlobal + Wait>(
 /// # Errors
 ///
 /// There is no room for the buffers, or serving ended early.
-fn talk<R: AllocGlobal + Wait>(
+fn talk<R: AllocGlobal + Threads + Wait + Sync>(
     rt: &R,
     names: bool,
     stream: &TcpStream,

@@ -1,3 +1,4 @@
 pub mod MovedLemmas
 pub mod RepairLemmas
 pub mod NextLemmas
+pub mod UndoneLemmas

@@ -1,9 +1,11 @@
 -- One event more is one live edit more, or one fewer.
-use Rattle.std.proofs.Common.{◌≡◌, ◌∙◌, inl, inr, ℕ, ◌<◌, ◌≤◌, ◌==◌, Bool, true, false, cond, not, List, [], ◌∷◌, ◌++◌, length, Option, Some, None, slice_get}
+use Rattle.std.proofs.Common.{◌≡◌, ◌∙◌, inl, inr, ℕ, ◌+◌, ◌-◌, ◌<◌, ◌≤◌, ◌==◌, Bool, true, false, cond, not, List, [], ◌∷◌, ◌++◌}
+use Rattle.std.proofs.Common.{length, take, Option, Some, None, slice_get}
 use Rattle.std.proofs.Common.{refl, sym, ap, subst, arith, length-append}
 use Rattle.std.specs.Option.{option_and_then, option_or}
 use Rattle.std.proofs.lemmas.Bool.{cases_lt, cases_eq, eq-eqb, eqb-true}
-use Rattle.std.proofs.lemmas.Option.{option_and_then_some}
+use Rattle.std.proofs.lemmas.List.{length-take-le, take_all, take_more}
+use Rattle.std.proofs.lemmas.Option.{get_or_from_slice_get, option_and_then_some}
 use Rattle.hd_terms.specs.declared.Edit.{Edit}
 use Rattle.hd_terms.specs.declared.Edit.TheVariants as edits
 use Rattle.hd_terms.specs.declared.Event.{Event}
@@ -19,6 +21,7 @@ use Rattle.hd_view.specs.OneEdit.{HasOneMore}
 use Rattle.hd_view.proofs.OneEditLemmas.{place-within, under-test}
 use Rattle.hd_state.specs.declared.repairing.Moved.{Moved}
 use Rattle.hd_state.specs.Moves.{ChangesEdits, IsEdit, IsMovedBack, Moves}
+use Rattle.hd_state.specs.LastMove.{Restores}
 use Rattle.hd_state.specs.Next.{IsNextLog}
 
 -- an undo takes back no event but its own
@@ -174,3 +177,35 @@ module _ (before later : List Event) (next : IsNextLog before later) (e : Event)
       let fewer : HasEditMore later before (own k is).edit =
       subst (λ (log : List Event). HasEditMore log before (own k is).edit) later-is (edit_fewer before e k e.who (own k is) is) in
       subst (λ (b : Bool). ChangesEdits before later b moved.edit) (sym back.done) (subst (λ (y : Edit). HasEditMore later before y) (sym edit) fewer)
+
+  -- what the last event did is gone, and all else that is live was so before it
+  pub restores : (k : ℕ) → e.what ≡ whats.Undo k → Restores before later k
+  restores k is last =
+      let o : IsOwnLive before k e.who = own k is in
+      let x : Event = record { who = e.who; what = whats.Do o.edit } in
+      let lt : k < length before = omega arith in
+      let place : length before - 1 ≡ k = omega arith in
+      let front : take (length before - 1) before ≡ take k before = ap (λ (n : ℕ). take n before) place in
+      let len : length (take k before) ≡ k = length-take-le k before (omega arith) in
+      let whole : take k before ++ x ∷ [] ≡ before =
+      sym (take_more before k x lt ∙ ap (λ (y : Event). take k before ++ y ∷ []) (get_or_from_slice_get before k x x o.own))
+      ∙ take_all (k + 1) before (omega arith) in
+      let added : HasOneMore (take k before) (take k before ++ x ∷ []) (length (take k before)) o.edit = edit-more (take k before) x o.edit refl in
+      let more : HasOneMore (take k before) before k o.edit = subst (λ (log : List Event). HasOneMore (take k before) log k o.edit) whole
+      (subst (λ (n : ℕ). HasOneMore (take k before) (take k before ++ x ∷ []) n o.edit) len added) in
+      let fewer : HasOneMore later before k o.edit = subst (λ (log : List Event). HasOneMore log before k o.edit) later-is (edit-fewer before e k e.who o is) in
+      let undone : (y : Edit) → live_edit_at later k ≡ Some y → ⊥ = λ y live. at-undone before e k y (ap (undoes_what k) is ∙ eq-eqb k k refl)
+      (subst (λ (log : List Event). live_edit_at log k ≡ Some y) (sym later-is) live) in
+      record {
+        there = λ j y live. elim (fewer.only j y (more.kept j y (subst (λ (log : List Event). live_edit_at log j ≡ Some y) front live))) [
+          | inl still ↦ still
+          | inr (same, added_last) ↦
+              let within : j < length (take k before) =
+              place-within (take k before) j y (subst (λ (log : List Event). live_edit_at log j ≡ Some y) front live) in
+              absurd (omega (arith, len, same, within))
+        ];
+        back = λ j y live. elim (more.only j y (fewer.kept j y live)) [
+          | inl was ↦ subst (λ (log : List Event). live_edit_at log j ≡ Some y) (sym front) was
+          | inr (same, added_last) ↦ absurd (undone y (subst (λ (n : ℕ). live_edit_at later n ≡ Some y) same live))
+        ];
+      }

@@ -6,3 +6,5 @@ pub mod Done
 pub mod Opening
 pub mod Next
 pub mod Moves
+pub mod Repaired
+pub mod LastMove

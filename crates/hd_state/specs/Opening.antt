@@ -9,6 +9,7 @@ use Rattle.hd_terms.specs.Settled.{reached_at}
 use Rattle.hd_totals.specs.GroupPages.{AreNoted}
 use Rattle.hd_totals.specs.LastChanges.{AreLastChanges}
 use Rattle.hd_totals.specs.Totals.{AreTotals}
+use Rattle.hd_state.specs.LastMove.{IsLastMove}
 use Rattle.hd_state.specs.declared.parts.KeptParts.{KeptParts}
 
 -- supports that are settled for what stands under a log, with stamps that are low enough, since when they have not changed,
@@ -19,3 +20,4 @@ pub record IsKeptOf (dump : Dump) (log : List Event) (parts : KeptParts) : Type 
   pub changes : AreLastChanges dump log (arc_value parts.supports) (arc_value parts.last_changes)
   pub totals : AreTotals dump (arc_value parts.supports) (arc_value parts.totals)
   pub pages : AreNoted dump (arc_value parts.pages)
+  pub moved : IsLastMove dump log parts.moved

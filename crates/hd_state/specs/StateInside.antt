@@ -11,6 +11,7 @@ use Rattle.hd_totals.specs.Totals.{AreTotals}
 use Rattle.hd_view.specs.Added.{IsAddedBy}
 use Rattle.hd_state.specs.declared.state.State.TheInside.{Inside}
 use Rattle.hd_terms.specs.Kept.{AreKept}
+use Rattle.hd_state.specs.LastMove.{IsLastMove}
 use Rattle.hd_state.specs.Solution.{Solution}
 
 -- the dump of the graph, under the log that is kept, with what is kept of the objects
@@ -29,3 +30,4 @@ pub record IsState (a : Inside) : Type 0 where
   pub changes : AreLastChanges (solution_of a).dump (solution_of a).log (arc_value a.supports) (arc_value a.last_changes)
   pub totals : AreTotals (solution_of a).dump (arc_value a.supports) (arc_value a.totals)
   pub pages : AreNoted (solution_of a).dump (arc_value a.pages)
+  pub moved : IsLastMove (solution_of a).dump (solution_of a).log a.moved

@@ -19,11 +19,15 @@
 //!    adds (`LogParts`) are moved by that event, from what the log before it takes away and adds.
 //! 3. `repaired` (`repairing.rt`) shares the supports and finds what the event took away or what it gave, from the one
 //!    edit that it does or takes back (`lost_by_edit` of `hd_view`). An event takes away or gives, never both: what is
-//!    taken away goes to `lose` of `hd_repair`, and what is given to `gain`.
+//!    taken away goes to `lose` of `hd_repair`, and what is given to `gain`. Where the region of a loss is large, `lose`
+//!    ends with its marks, and a search afresh, by several threads, finds what `renew` puts there.
 //! 4. The changes that the repair returns move the totals, mark their pages as changed, and tell how many objects
-//!    became unreachable and how many came back (`Done`).
+//!    became unreachable and how many came back (`Done`). Where very many changed, totals are counted afresh.
 //!
-//! So a step costs by what its event affects. It doesn't compute the strengths again. By the size of the dump it only adds
+//! A state also keeps how many edges the objects have at least whose strength its last event changed, where these are many
+//! (`LastMove.antt`). An undo of that event changes the same objects back, so it may search as well.
+//!
+//! So a step costs by what its event affects, and a loss never by much more than a search. By the size of the dump it only adds
 //! an owner to each group of pages, and by the length of the log it copies 17 bytes an event and 8 bytes a live edit.
 //!
 //! Queries are those of `hd_queries`; the methods of `State` hand them its parts. `view` gives the edges as a repair

@@ -30,14 +30,15 @@ pub(crate) struct LogParts {
     pub(crate) added: Arc<AddedRoots>,
 }
 
-/// What is kept of the objects: their strengths with supports, when these last changed, the totals of groups, and which pages have
-/// objects of a group. The last never changes.
+/// What is kept of the objects: their strengths with supports, when these last changed, the totals of groups, which pages have
+/// objects of a group, and how many edges the objects have at least whose strength the last event changed. The pages never change.
 #[derive(Drop)]
 pub(crate) struct KeptParts {
     pub(crate) supports: Arc<Supports>,
     pub(crate) last_changes: Arc<LastChanges>,
     pub(crate) totals: Arc<GroupTotals>,
     pub(crate) pages: Arc<GroupPages>,
+    pub(crate) moved: u64,
 }
 
 impl LogParts {
@@ -118,6 +119,7 @@ impl KeptParts {
             last_changes: Arc::new(alloc, last_changes)?,
             totals: Arc::new(alloc, totals)?,
             pages: Arc::new(alloc, pages)?,
+            moved: 0,
         })
     }
 }

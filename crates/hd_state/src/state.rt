@@ -19,6 +19,7 @@ ghost use Rattle.hd_terms.specs.Totals.{AreGroupCounts, IsGroupTotal, IsTotalOf}
 ghost use Rattle.hd_terms.specs.Fell.{Falls};
 ghost use Rattle.hd_terms.specs.Listed.{AreClassRows, AreFallen, AreMembers, AreMovedRows, AreNamedGroups, AreTopRows};
 ghost use Rattle.hd_terms.specs.Kept.{AreKept};
+ghost use Rattle.hd_state.specs.LastMove.{IsLastMove};
 ghost use Rattle.hd_state.specs.Next.{IsNextLog};
 ghost use Rattle.hd_queries.specs.ChainFound.{IsChainFound};
 ghost use Rattle.hd_queries.specs.Gathered.{AreFirst};
@@ -29,7 +30,7 @@ ghost use Rattle.hd_totals.specs.Totals.{AreTotals};
 
 use crate::mark::Mark;
 use crate::parts::{KeptParts, LogParts, kept_and_reverse, next_removed};
-use crate::repairing::{Indexes, Repair, repaired};
+use crate::repairing::{Indexes, Repair, edges_of_changes, many_of, repaired};
 use hd_graph::Graph;
 use hd_log::Front;
 use hd_queries::{
@@ -63,6 +64,8 @@ pub struct State {
     last_changes: Arc<LastChanges>,
     totals: Arc<GroupTotals>,
     pages: Arc<GroupPages>,
+    /// How many edges the objects have at least whose strength the last event changed; 0 where few have changed.
+    moved: u64,
 }
 
 impl Drop for State {
@@ -78,6 +81,7 @@ impl Drop for State {
             last_changes,
             totals,
             pages,
+            moved: _,
         } = self;
     }
 }
@@ -133,6 +137,7 @@ impl State {
             last_changes: kept.last_changes,
             totals: kept.totals,
             pages: kept.pages,
+            moved: kept.moved,
         })
     }
 
@@ -141,7 +146,12 @@ impl State {
     /// # Errors
     ///
     /// Memory ran out.
-    pub fn step(&self, alloc: Global, event: Event) -> Result<(State, Done), NoMemory>
+    pub fn step<R: Threads + Sync>(
+        &self,
+        rt: &R,
+        alloc: Global,
+        event: Event,
+    ) -> Result<(State, Done), NoMemory>
         requires { log_fault self.now.log event ≡ None }
         ensures dump { IfOk result (λ r. r.0.dump ≡ self.now.dump) }
         ensures log { IfOk result (λ r. r.0.log ≡ self.now.log ++ event ∷ []) }
@@ -151,7 +161,7 @@ impl State {
         let Ok(front) = self.front.extend(alloc, event) else {
             return Err(NoMemory);
         };
-        let followed = self.follow(alloc, front)?;
+        let followed = self.follow(rt, alloc, front)?;
         Ok(followed)
     }
 
@@ -160,7 +170,12 @@ impl State {
     /// # Errors
     ///
     /// Memory ran out.
-    pub fn follow(&self, alloc: Global, front: Front) -> Result<(State, Done), NoMemory>
+    pub fn follow<R: Threads + Sync>(
+        &self,
+        rt: &R,
+        alloc: Global,
+        front: Front,
+    ) -> Result<(State, Done), NoMemory>
         requires { IsNextLog self.now.log front }
         ensures dump { IfOk result (λ r. r.0.dump ≡ self.now.dump) }
         ensures log { IfOk result (λ r. r.0.log ≡ front) }
@@ -168,7 +183,7 @@ impl State {
         ensures outside { IfOk result (λ r. (o : ℕ) → (InEventRegion self.now.dump self.now.log front self.now.kept r.0.kept o → ⊥) → reached_at r.0.kept o ≡ reached_at self.now.kept o) }
     {
         let next = self.next_parts(alloc, front)?;
-        let (moved, done) = self.moved_parts(alloc, &next)?;
+        let (moved, done) = self.moved_parts(rt, alloc, &next)?;
         let state = State {
             graph: Arc::try_clone(&self.graph)?,
             reverse: Arc::try_clone(&self.reverse)?,
@@ -179,6 +194,7 @@ impl State {
             last_changes: moved.last_changes,
             totals: moved.totals,
             pages: moved.pages,
+            moved: moved.moved,
         };
         Ok((state, done))
     }
@@ -201,7 +217,12 @@ impl State {
     }
 
     /// What is kept of the objects, repaired for the log with one more event, and what the event did.
-    fn moved_parts(&self, alloc: Global, next: &LogParts) -> Result<(KeptParts, Done), NoMemory>
+    fn moved_parts<R: Threads + Sync>(
+        &self,
+        rt: &R,
+        alloc: Global,
+        next: &LogParts,
+    ) -> Result<(KeptParts, Done), NoMemory>
         requires next { IsNextLog self.now.log next.now.front }
         requires removed { IsRemovedBy self.now.dump next.now.front (arc_value next.now.removed) }
         requires added { IsAddedBy self.now.dump next.now.front (arc_value next.now.added) }
@@ -210,18 +231,21 @@ impl State {
         ensures changes { IfOk result (λ r. AreLastChanges self.now.dump next.now.front (arc_value r.0.supports) (arc_value r.0.last_changes)) }
         ensures totals { IfOk result (λ r. AreTotals self.now.dump (arc_value r.0.supports) (arc_value r.0.totals)) }
         ensures pages { IfOk result (λ r. AreNoted self.now.dump (arc_value r.0.pages)) }
+        ensures moved { IfOk result (λ r. IsLastMove self.now.dump next.now.front r.0.moved) }
         ensures done { IfOk result (λ r. IsDone self.now.dump self.now.log next.now.front r.1) }
         ensures outside { IfOk result (λ r. (o : ℕ) → (InEventRegion self.now.dump self.now.log next.now.front self.now.kept (arc_value r.0.supports) o → ⊥) → reached_at (arc_value r.0.supports) o ≡ reached_at self.now.kept o) }
     {
-        let repair = self.repaired(alloc, &next.front, &next.removed, &next.added)?;
+        let repair = self.repaired(rt, alloc, &next.front, &next.removed, &next.added)?;
         let last_changes = self.moved_changes(alloc, &repair, &next.front)?;
-        let totals = self.moved_totals(alloc, &repair)?;
+        let totals = self.next_totals(rt, alloc, &repair)?;
         let done = self.done(&repair, &next.front);
+        let edges = self.moved_edges(&repair, &next.front);
         let moved = KeptParts {
             supports: Arc::new(alloc, repair.supports)?,
             last_changes: Arc::new(alloc, last_changes)?,
             totals: Arc::new(alloc, totals)?,
             pages: Arc::try_clone(&self.pages)?,
+            moved: edges,
         };
         Ok((moved, done))
     }
@@ -242,9 +266,26 @@ impl State {
         }
     }
 
+    /// How many edges the objects have at least whose strength a repair has changed, where many have changed; else 0. An undo may
+    /// search afresh by it.
+    fn moved_edges(&self, repair: &Repair, front: &Front) -> u64
+        requires next { IsNextLog self.now.log front.now }
+        requires kept { AreKept self.now.dump front.now repair.now.supports }
+        requires changes { AreChanges self.now.kept repair.now.supports repair.now.changes.items }
+        ensures { IsLastMove self.now.dump front.now result }
+    {
+        settled_supports_give_strengths();
+        if repair.changes.len() < many_of(self.graph.objects()) as usize {
+            return 0;
+        }
+        let view = self.view();
+        edges_of_changes(&view, &repair.changes, view.search_looks() / 2 + 2)
+    }
+
     /// The supports of this state, repaired for its log with one more event.
-    fn repaired(
+    fn repaired<R: Threads + Sync>(
         &self,
+        rt: &R,
         alloc: Global,
         front: &Front,
         removed: &Removed,
@@ -268,8 +309,11 @@ impl State {
         let indexes = Indexes {
             reverse: &self.reverse,
             pages: &self.pages,
+            added,
+            many: many_of(self.graph.objects()),
+            moved: self.moved,
         };
-        let repaired = repaired(alloc, indexes, self.edited(), after, added, &self.supports)?;
+        let repaired = repaired(rt, alloc, indexes, self.edited(), after, &self.supports)?;
         Ok(repaired)
     }
 
@@ -302,6 +346,25 @@ impl State {
         Ok(totals)
     }
 
+    /// The totals after a repair: those of this state, moved; or counted afresh, where many objects have changed.
+    fn next_totals<R: Threads + Sync>(
+        &self,
+        rt: &R,
+        alloc: Global,
+        repair: &Repair,
+    ) -> Result<GroupTotals, NoMemory>
+        requires changes { AreChanges self.now.kept repair.now.supports repair.now.changes.items }
+        requires count { length repair.now.supports ≡ length self.now.dump.objects }
+        ensures { IfOk result (λ t. AreTotals self.now.dump repair.now.supports t) }
+    {
+        if repair.changes.len() < many_of(self.graph.objects()) as usize {
+            let moved = self.moved_totals(alloc, repair)?;
+            return Ok(moved);
+        }
+        let (counted, _) = GroupTotals::of(rt, alloc, &self.graph, &repair.supports)?;
+        Ok(counted)
+    }
+
     /// An equal state: a further owner of the graph, of the log and of the strengths. Nothing is copied.
     ///
     /// # Errors
@@ -320,6 +383,7 @@ impl State {
             last_changes: Arc::try_clone(&self.last_changes)?,
             totals: Arc::try_clone(&self.totals)?,
             pages: Arc::try_clone(&self.pages)?,
+            moved: self.moved,
         })
     }
 

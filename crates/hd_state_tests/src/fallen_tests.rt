@@ -46,17 +46,17 @@ impl Fallen {
 }
 
 /// The state after one more event, which its log has to take.
-fn stepped<R: Abort>(rt: &R, alloc: Global, state: &State, event: Event) -> State
+fn stepped<R: Abort + Threads + Sync>(rt: &R, alloc: Global, state: &State, event: Event) -> State
     ensures { result.dump ≡ state.now.dump }
 {
     let fault = state.front().next_fault(&event);
     assert!(rt; fault.is_none(), "the log takes the event");
-    let (next, _done) = state.step(alloc, event).expect(rt, "the step is taken");
+    let (next, _done) = state.step(rt, alloc, event).expect(rt, "the step is taken");
     next
 }
 
 /// What has fallen in a state since two marks.
-fn fallen_since<R: Abort>(
+fn fallen_since<R: Abort + Threads + Sync>(
     rt: &R,
     alloc: Global,
     state: &State,
@@ -79,7 +79,7 @@ fn fallen_since<R: Abort>(
 }
 
 /// What has fallen once the first of two cuts is taken back.
-fn fallen_after_undo<R: Abort>(
+fn fallen_after_undo<R: Abort + Threads + Sync>(
     rt: &R,
     alloc: Global,
     state: &State,
@@ -94,7 +94,7 @@ fn fallen_after_undo<R: Abort>(
 }
 
 /// What has fallen after a second cut, and once the first is taken back.
-fn fallen_after_second<R: Abort>(
+fn fallen_after_second<R: Abort + Threads + Sync>(
     rt: &R,
     alloc: Global,
     state: &State,
@@ -111,7 +111,7 @@ fn fallen_after_second<R: Abort>(
 }
 
 /// What has fallen after the cuts of two elements, and once the first is taken back.
-fn fallen_in_turn<R: Abort>(
+fn fallen_in_turn<R: Abort + Threads + Sync>(
     rt: &R,
     alloc: Global,
     state: &State,
@@ -132,7 +132,7 @@ fn wide<R: Abort + RandomSource + Threads + Sync>(rt: &R, alloc: Global) -> Stat
 
 /// What has fallen since the opening in a state after a cut, and since the opening and a mark in between once the cut is
 /// taken back.
-fn fallen_around_undo<R: Abort>(
+fn fallen_around_undo<R: Abort + Threads + Sync>(
     rt: &R,
     alloc: Global,
     state: &State,
@@ -149,7 +149,7 @@ fn fallen_around_undo<R: Abort>(
 }
 
 /// What has fallen after the cut of an element, and once it is taken back.
-fn fallen_and_back<R: Abort>(
+fn fallen_and_back<R: Abort + Threads + Sync>(
     rt: &R,
     alloc: Global,
     state: &State,

@@ -74,10 +74,15 @@ fn has_strengths(state: &State, strengths: &[(u64, Strength)]) -> bool {
 }
 
 /// The state after one more event, which its log has to take, and what the event did.
-fn stepped<R: Abort>(rt: &R, alloc: Global, state: &State, event: Event) -> (State, Done) {
+fn stepped<R: Abort + Threads + Sync>(
+    rt: &R,
+    alloc: Global,
+    state: &State,
+    event: Event,
+) -> (State, Done) {
     let fault = state.front().next_fault(&event);
     assert!(rt; fault.is_none(), "the log takes the event");
-    state.step(alloc, event).expect(rt, "the step is taken")
+    state.step(rt, alloc, event).expect(rt, "the step is taken")
 }
 
 /// The state after one more event, which has to do what is expected.

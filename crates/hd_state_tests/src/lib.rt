@@ -11,6 +11,8 @@ mod fallen_tests;
 #[cfg(test)]
 mod graph_tests;
 #[cfg(test)]
+mod large_tests;
+#[cfg(test)]
 mod lazy_tests;
 #[cfg(test)]
 mod log_tests;

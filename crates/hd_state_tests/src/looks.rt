@@ -21,6 +21,7 @@ fn repair_over<R: Threads + Sync>(
     alloc: Global,
     before: Edited<'_>,
     after: Edited<'_>,
+    many: u32,
 ) -> Result<Repair, NoMemory>
     requires same { after.graph.now ≡ before.graph.now }
     requires next { IsNextLog before.front.now after.front.now }
@@ -36,8 +37,11 @@ fn repair_over<R: Threads + Sync>(
     let indexes = Indexes {
         reverse: &reverse,
         pages: &pages,
+        added: &added,
+        many,
+        moved: 0,
     };
-    let repair = repaired(alloc, indexes, before, after, &added, &supports)?;
+    let repair = repaired(rt, alloc, indexes, before, after, &supports)?;
     Ok(repair)
 }
 
@@ -48,6 +52,7 @@ fn repair_between<R: Threads + Sync>(
     graph: &Graph,
     before: &Front,
     after: &Front,
+    many: u32,
 ) -> Result<Repair, NoMemory>
     requires { IsNextLog before.now after.now }
 {
@@ -63,47 +68,59 @@ fn repair_between<R: Threads + Sync>(
         front: after,
         removed: &taken_after,
     };
-    repair_over(rt, alloc, before, after)
+    repair_over(rt, alloc, before, after, many)
 }
 
-/// The repair for one more event of a log, where the log takes the event.
-fn repair_of_event<R: Threads + Sync>(
+/// A search afresh is asked for by no loss.
+pub const NEVER: u32 = u32::MAX;
+
+/// A search afresh is asked for by each loss that takes an object's support.
+pub const ALWAYS: u32 = 0;
+
+/// The repair for one more event of a log, where the log takes the event. A search afresh is asked for after `many` objects of a
+/// loss.
+pub fn repair_of_event<R: Threads + Sync>(
     rt: &R,
     alloc: Global,
     graph: &Graph,
     log: &Front,
     event: Event,
+    many: u32,
 ) -> Option<Repair> {
     let Ok(next) = log.extend(alloc, event) else {
         return None;
     };
-    repair_between(rt, alloc, graph, log, &next).ok()
+    repair_between(rt, alloc, graph, log, &next, many).ok()
 }
 
-/// How many looks the repair for one more event of a log takes, where the log takes the event.
+/// How many looks the repair for one more event of a log takes, where the log takes the event. A search afresh is asked for after
+/// `many` objects of a loss.
 pub fn looks_of_event<R: Threads + Sync>(
     rt: &R,
     alloc: Global,
     graph: &Graph,
     log: &Front,
     event: Event,
+    many: u32,
 ) -> Option<u64> {
-    let repair = repair_of_event(rt, alloc, graph, log, event)?;
+    let repair = repair_of_event(rt, alloc, graph, log, event, many)?;
     Some(repair.looks)
 }
 
 /// The ID of an object and its strength before and after an event.
 pub type IdChange = (u64, Strength, Strength);
 
-/// What the repair for one more event of a log changes, where the log takes the event.
+/// What the repair for one more event of a log changes, where the log takes the event. A search afresh is asked for after `many`
+/// objects of a loss.
 pub fn changes_of_event<R: Threads + Sync>(
     rt: &R,
     alloc: Global,
     graph: &Graph,
     log: &Front,
     event: Event,
+    many: u32,
 ) -> Option<Vec<IdChange>> {
-    let repair = repair_of_event(rt, alloc, graph, log, event)?;
+    let repair = repair_of_event(rt, alloc, graph, log, event, many)?;
     let mut changes = Vec::new(alloc);
     for change in &repair.changes {
         let o = change.object();

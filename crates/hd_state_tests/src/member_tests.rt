@@ -59,7 +59,9 @@ fn members_after_a_cut(rt: HostRuntime) {
     };
     let fault = state.front().next_fault(&cut);
     assert!(rt; fault.is_none(), "the log takes the event");
-    let (next, _done) = state.step(rt.alloc(), cut).expect(&rt, "the step is taken");
+    let (next, _done) = state
+        .step(&rt, rt.alloc(), cut)
+        .expect(&rt, "the step is taken");
     let fallen = arrays(&rt, rt.alloc(), &next, Strength::Unreachable, Some(3));
     assert_eq!(rt; fallen.as_slice(), [3001u64].as_slice());
 }

@@ -35,11 +35,11 @@ fn list_since<R: Abort>(rt: &R, alloc: Global, state: &State, mark: &Mark) -> Si
 }
 
 /// The same since the opening, after the cut.
-fn since_cut<R: Abort>(rt: &R, alloc: Global, state: &State) -> Since {
+fn since_cut<R: Abort + Threads + Sync>(rt: &R, alloc: Global, state: &State) -> Since {
     let opening = state.mark().expect(rt, "the state is marked");
     let fault = state.front().next_fault(&CUT);
     assert!(rt; fault.is_none(), "the log takes the event");
-    let (next, _done) = state.step(alloc, CUT).expect(rt, "the step is taken");
+    let (next, _done) = state.step(rt, alloc, CUT).expect(rt, "the step is taken");
     list_since(rt, alloc, &next, &opening)
 }
 

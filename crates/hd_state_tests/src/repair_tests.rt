@@ -1,6 +1,6 @@
 //! Repairs look at what an event concerns, and at nothing else. The bounds are the degrees of the regions, counted by hand.
 use crate::dumps::{CYCLE, SOFT_THEN_WEAK, WEAK_AND_FINAL, graph_of};
-use crate::looks::{IdChange, changes_of_event, looks_of_event};
+use crate::looks::{ALWAYS, IdChange, NEVER, changes_of_event, looks_of_event};
 use hd_edges::Edges;
 use hd_graph::Graph;
 use hd_log::Front;
@@ -40,8 +40,11 @@ fn looks_of_both<R: Abort + Threads + Sync>(
     let with_event = empty
         .extend(alloc, event)
         .expect(rt, "the log takes the event");
-    let lost = looks_of_event(rt, alloc, graph, &empty, event).expect(rt, "the event is repaired");
-    let gained = looks_of_event(rt, alloc, graph, &with_event, UNDO).expect(
+    let lost = looks_of_event(rt, alloc, graph, &empty, event, NEVER).expect(
+        rt,
+        "the event is repaired",
+    );
+    let gained = looks_of_event(rt, alloc, graph, &with_event, UNDO, NEVER).expect(
         rt,
         "the undo is repaired",
     );
@@ -100,6 +103,31 @@ fn degrees_of_a_region(rt: HostRuntime) {
     for (id, degree) in [(1, 2), (2, 3), (3, 3), (4, 3), (5, 2)] {
         assert_eq!(rt; degree_of(&state, id), Some(degree), "of {id}");
     }
+}
+
+/// A search afresh takes two looks for each of the six references and one each for the root and the event. The region has degree
+/// 11, so they are at most twice that.
+#[test]
+fn looks_of_a_search(rt: HostRuntime) {
+    let alloc = rt.alloc();
+    let graph = graph_of(&rt, alloc, CYCLE).expect(&rt, "the dump opens");
+    let empty = Front::empty(alloc).expect(&rt, "a log is made");
+    let looks = looks_of_event(&rt, alloc, &graph, &empty, cut(0), ALWAYS);
+    assert_eq!(rt; looks, Some(14));
+}
+
+/// Where the region is small beside the dump, no search is made.
+#[test]
+fn no_search_for_a_small_region(rt: HostRuntime) {
+    let alloc = rt.alloc();
+    let text = wide_cycle(&rt, alloc, 14_096);
+    let graph = graph_of(&rt, alloc, text.as_str()).expect(&rt, "the dump opens");
+    let empty = Front::empty(alloc).expect(&rt, "a log is made");
+    let looks = looks_of_event(&rt, alloc, &graph, &empty, cut(0), ALWAYS).expect(
+        &rt,
+        "it is repaired",
+    );
+    assert!(rt; looks > 0 && looks <= 24);
 }
 
 #[test]
@@ -174,14 +202,21 @@ fn changes_and_back<R: Abort + Threads + Sync>(
     let with_event = empty
         .extend(alloc, event)
         .expect(rt, "the log takes the event");
-    let lost = changes_of_event(rt, alloc, graph, &empty, event).expect(rt, "it is repaired");
-    let gained = changes_of_event(rt, alloc, graph, &with_event, UNDO).expect(rt, "it is repaired");
+    let lost = changes_of_event(rt, alloc, graph, &empty, event, NEVER).expect(
+        rt,
+        "it is repaired",
+    );
+    let found = changes_of_event(rt, alloc, graph, &empty, event, ALWAYS).expect(rt, "it is found");
+    let gained = changes_of_event(rt, alloc, graph, &with_event, UNDO, NEVER).expect(
+        rt,
+        "it is repaired",
+    );
     let mut back = Vec::new(alloc);
     for (id, before, after) in expected {
         back.push((*id, *after, *before))
             .expect(rt, "there is memory");
     }
-    are_all(&lost, expected) && are_all(&gained, &back)
+    are_all(&lost, expected) && are_all(&found, expected) && are_all(&gained, &back)
 }
 
 /// A clearing of all references of a kind.

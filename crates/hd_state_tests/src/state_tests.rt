@@ -45,20 +45,34 @@ fn seen(state: &State) -> Seen {
 }
 
 /// The state after one more event, which its log has to take, and what the event did.
-fn stepped<R: Abort>(rt: &R, alloc: Global, state: &State, event: Event) -> (State, Done) {
+fn stepped<R: Abort + Threads + Sync>(
+    rt: &R,
+    alloc: Global,
+    state: &State,
+    event: Event,
+) -> (State, Done) {
     let fault = state.front().next_fault(&event);
     assert!(rt; fault.is_none(), "the log takes the event");
-    state.step(alloc, event).expect(rt, "the step is taken")
+    state.step(rt, alloc, event).expect(rt, "the step is taken")
 }
 
 /// What is seen of the state after one more event, and what the event did.
-fn seen_after<R: Abort>(rt: &R, alloc: Global, state: &State, event: Event) -> (Seen, Done) {
+fn seen_after<R: Abort + Threads + Sync>(
+    rt: &R,
+    alloc: Global,
+    state: &State,
+    event: Event,
+) -> (Seen, Done) {
     let (next, done) = stepped(rt, alloc, state, event);
     (seen(&next), done)
 }
 
 /// What is seen of the state after the undo, what the undo did, and then what is seen of the state after the cut.
-fn seen_after_undo<R: Abort>(rt: &R, alloc: Global, state: &State) -> (Seen, Done, Seen) {
+fn seen_after_undo<R: Abort + Threads + Sync>(
+    rt: &R,
+    alloc: Global,
+    state: &State,
+) -> (Seen, Done, Seen) {
     let (next, _) = stepped(rt, alloc, state, CUT);
     let (last, done) = seen_after(rt, alloc, &next, UNDO);
     (last, done, seen(&next))
@@ -104,7 +118,12 @@ fn totals_of_groups(rt: HostRuntime) {
 }
 
 /// How many slots the object of an ID has in a state, and the third of them.
-fn third_slot<R: Abort>(rt: &R, alloc: Global, state: &State, id: u64) -> (usize, SlotRow) {
+fn third_slot<R: Abort + Threads + Sync>(
+    rt: &R,
+    alloc: Global,
+    state: &State,
+    id: u64,
+) -> (usize, SlotRow) {
     let o = state
         .graph()
         .index_of(id)
@@ -129,7 +148,7 @@ fn slots_of_a_state(rt: HostRuntime) {
 }
 
 /// The last root row after an event, and whether the root of a number and the first slot's reference stand then.
-fn last_root<R: Abort>(
+fn last_root<R: Abort + Threads + Sync>(
     rt: &R,
     alloc: Global,
     state: &State,

@@ -25,7 +25,7 @@ pub fn board_of<R: Abort + AllocGlobal + RandomSource + Threads + Sync>(
 }
 
 /// Serves the lines of a text to a desk.
-pub fn serve_text<R: AllocGlobal + Wait>(
+pub fn serve_text<R: AllocGlobal + Threads + Wait + Sync>(
     rt: &R,
     alloc: Global,
     board: &Board,

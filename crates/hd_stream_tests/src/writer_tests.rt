@@ -7,6 +7,7 @@ use std::io::{self, Write};
 use std::sync::Wait;
 use std::sync::atomic::{AtomicU64, Ordering};
 use std::thread;
+use std::thread::Threads;
 
 /// The most times that a writer looks for the other.
 const MOST_LOOKS: u32 = 10_000_000;
@@ -56,7 +57,7 @@ struct Meeting {
 }
 
 /// Serves a desk one line, to a writer that waits for another.
-fn serve_meeting<R: AllocGlobal + Wait>(
+fn serve_meeting<R: AllocGlobal + Threads + Wait + Sync>(
     rt: &R,
     alloc: Global,
     board: &Board,

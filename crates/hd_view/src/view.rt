@@ -123,6 +123,15 @@ impl<'a> View<'a> {
     }
 }
 
+impl View<'_> {
+    /// How many looks a search afresh takes at most: one for each root, and for each edge one where its source passes its strength
+    /// on, and one where its target takes it.
+    pub fn search_looks(&self) -> u64 {
+        let roots = u64::from(self.edited.graph.roots_len()) + u64::from(self.edited.front.len());
+        self.reverse.len().saturating_mul(2).saturating_add(roots)
+    }
+}
+
 impl Edges for View<'_> {
     ghost use Rattle.hd_terms.specs.EdgeRows.{rows_of};
     ghost use Rattle.hd_view.specs.Lawful.{lawful_rows};

@@ -9,6 +9,7 @@ use std::io::Read;
 use std::net::{Ipv4Addr, Net, Shutdown, SocketAddr, TcpListener, TcpStream};
 use std::sync::Wait;
 use std::thread;
+use std::thread::Threads;
 use std::time::{Clock, Duration};
 use tungstenite::{CloseCode, NoMask, Role, WebSocket, WebSocketConfig};
 
@@ -30,7 +31,12 @@ const READ_SIZE: usize = 16_384;
 /// Serves one connection to its end.
 pub(crate) fn attend<'a, R>(rt: &R, hall: &Hall<'a>, stream: &TcpStream)
 where
-    R: AllocGlobal + Clock + Net<Listener = TcpListener, Stream = TcpStream> + Wait,
+    R: AllocGlobal
+        + Clock
+        + Net<Listener = TcpListener, Stream = TcpStream>
+        + Threads
+        + Wait
+        + Sync,
 {
     let _at_once = stream.set_nodelay(true);
     if stream
@@ -104,7 +110,12 @@ pub(crate) fn turn_away<R: AllocGlobal>(rt: &R, stream: &TcpStream) {
 /// Gives a connection a desk, or refuses it where none is free.
 fn seat_guest<'a, R>(rt: &R, hall: &Hall<'a>, stream: &TcpStream, guest: Guest)
 where
-    R: AllocGlobal + Clock + Net<Listener = TcpListener, Stream = TcpStream> + Wait,
+    R: AllocGlobal
+        + Clock
+        + Net<Listener = TcpListener, Stream = TcpStream>
+        + Threads
+        + Wait
+        + Sync,
 {
     match hall.take(rt, &guest.pass) {
         Some((number, seat)) => sit(rt, hall, stream, guest, number, seat),
@@ -122,7 +133,12 @@ fn sit<'a, R>(
     mut seat: Seat<'a>,
 )
 where
-    R: AllocGlobal + Clock + Net<Listener = TcpListener, Stream = TcpStream> + Wait,
+    R: AllocGlobal
+        + Clock
+        + Net<Listener = TcpListener, Stream = TcpStream>
+        + Threads
+        + Wait
+        + Sync,
 {
     let Some(mut socket) = upgrade(rt, stream, guest) else {
         return hall.give_back(rt, number, seat);

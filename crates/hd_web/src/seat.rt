@@ -12,6 +12,7 @@ use hd_terms::NoMemory;
 use hd_words::{last_word, read_command};
 use std::alloc::Global;
 use std::sync::Wait;
+use std::thread::Threads;
 
 /// An analyst's session at a desk. Its replies show no names at first.
 pub(crate) struct Seat<'a> {
@@ -44,7 +45,7 @@ impl<'a> Seat<'a> {
     /// Runs a line, and answers it: a short reply replaces the bytes of `out`, a long one is given back.
     pub(crate) fn answer(
         &mut self,
-        rt: &impl Wait,
+        rt: &(impl Wait + Threads + Sync),
         alloc: Global,
         line: &[u8],
         out: &mut FixedBuffer<LONGEST_REPLY>,

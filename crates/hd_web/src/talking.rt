@@ -14,6 +14,7 @@ use std::alloc::Global;
 use std::io::{Read, Write};
 use std::str;
 use std::sync::Wait;
+use std::thread::Threads;
 use tungstenite::{CloseCode, CloseFrame, Error, Message, NoMask, Utf8Bytes, WebSocket};
 
 /// The most bytes of a message: 1 MiB. Lines are far shorter; a longer message closes the connection.
@@ -71,7 +72,7 @@ fn reply_message(alloc: Global, long: Option<String>, short: &[u8]) -> Result<Me
 ///
 /// The reply can't be sent.
 fn answer_line<S: Read + Write + Drop>(
-    rt: &impl Wait,
+    rt: &(impl Wait + Threads + Sync),
     alloc: Global,
     socket: &mut WebSocket<S, NoMask>,
     seat: &mut Seat<'_>,
@@ -87,7 +88,7 @@ fn answer_line<S: Read + Write + Drop>(
 
 /// Serves one text message.
 fn answer_text<S: Read + Write + Drop>(
-    rt: &impl Wait,
+    rt: &(impl Wait + Threads + Sync),
     alloc: Global,
     socket: &mut WebSocket<S, NoMask>,
     seat: &mut Seat<'_>,
@@ -112,7 +113,7 @@ fn answer_text<S: Read + Write + Drop>(
 
 /// Serves a message that was read. `None`: the next one is to be read.
 fn serve_message<S: Read + Write + Drop>(
-    rt: &impl Wait,
+    rt: &(impl Wait + Threads + Sync),
     alloc: Global,
     socket: &mut WebSocket<S, NoMask>,
     seat: &mut Seat<'_>,
@@ -130,7 +131,7 @@ fn serve_message<S: Read + Write + Drop>(
 
 /// Reads the next message, and serves it. `None`: the next one is to be read.
 fn serve_next<S: Read + Write + Drop>(
-    rt: &impl Wait,
+    rt: &(impl Wait + Threads + Sync),
     alloc: Global,
     socket: &mut WebSocket<S, NoMask>,
     seat: &mut Seat<'_>,
@@ -146,7 +147,7 @@ fn serve_next<S: Read + Write + Drop>(
 
 /// Serves the messages of a WebSocket in their order, until one is `quit`, one is binary, or the connection ends.
 pub(crate) fn talk<S: Read + Write + Drop>(
-    rt: &impl Wait,
+    rt: &(impl Wait + Threads + Sync),
     alloc: Global,
     socket: &mut WebSocket<S, NoMask>,
     seat: &mut Seat<'_>,

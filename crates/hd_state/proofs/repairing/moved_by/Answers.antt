@@ -3,7 +3,7 @@
 use Rattle.std.proofs.Common.{◌≡◌, ◌∙◌, ℕ, Bool, not, List, Some, length, slice_get, sym, ap, subst}
 use Rattle.hd_terms.specs.declared.Event.{Event}
 use Rattle.hd_state.specs.Moves.{Moves}
-use Rattle.hd_state.proofs.MovedLemmas.{moves_done, moves_back, edits_done, edits_back, undo_edit}
+use Rattle.hd_state.proofs.MovedLemmas.{moves_done, moves_back, edits_done, edits_back, restores, undo_edit}
 use Rattle.hd_state.proofs.repairing.moved_by.Goals as goal
 
 pub returns-in-Do-clause-moves : goal.returns-in-Do-clause-moves
@@ -42,3 +42,10 @@ returns-in-Undo-clause-edits c =
     let later : List Event = c.args.after.now in
     let at : slice_get later (length before) ≡ Some c.event.result = ap (slice_get later) (sym c.len-last.ensures.len) ∙ c.event.ensures in
     edits_back before later c.requires c.event.result at c.in-Undo.k c.moved_back.result c.in-Undo.is c.moved_back.ensures
+
+pub returns-in-Undo-clause-restores : goal.returns-in-Undo-clause-restores
+returns-in-Undo-clause-restores c not_done last =
+    let before : List Event = c.args.before.now in
+    let later : List Event = c.args.after.now in
+    let at : slice_get later (length before) ≡ Some c.event.result = ap (slice_get later) (sym c.len-last.ensures.len) ∙ c.event.ensures in
+    restores before later c.requires c.event.result at c.in-Undo.k c.in-Undo.is (rw c.moved_back.ensures.event at last)

@@ -4,7 +4,7 @@ use Rattle.hd_board.proofs.Steps.{seeing, sees_log, on_err, comes, one_behind}
 use Rattle.hd_board.proofs.desk.Desk.come_to.Goals as goal
 
 pub returns-in_err-done-clause-err : goal.returns-in_err-done-clause-err
-returns-in_err-done-clause-err c =
+returns-in_err-done-clause-err g c =
     let old = c.args.self.now in
     let log = c.args.log in
     let d = replica_of c.self.inside in
@@ -14,7 +14,7 @@ returns-in_err-done-clause-err c =
     (sees_log old d log c.self.view_is) c.requires.begins c.in_ok-step_to.ensures.ok c.in_err-done.ensures.err c.requires.longer len)
 
 pub returns-clause-ok : goal.returns-clause-ok
-returns-clause-ok c =
+returns-clause-ok g c =
     let old = c.args.self.now in
     let log = c.args.log in
     let d = replica_of c.self.inside in

@@ -7,12 +7,12 @@ use Rattle.hd_board.proofs.Steps.{steps_to}
 use Rattle.hd_board.proofs.desk.Desk.step_once.Goals as goal
 
 pub invariant_of-self : goal.invariant_of-self
-invariant_of-self c =
+invariant_of-self g c =
     let within = subst (λ (r : Replica). begins_with r.seen c.in_ok-next.next) (sym c.self.view_is) c.in_ok-next.ensures.within in
     subst (begins_with c.self.inside.seen) (sym c.in_ok-state.ensures.log) within
 
 pub returns-clause-ok : goal.returns-clause-ok
-returns-clause-ok c =
+returns-clause-ok g c =
     let old = c.args.self.now in
     let next = c.in_ok-next.next in
     let done = c.in_ok-state.done in

@@ -22,4 +22,5 @@ returns g c =
       changes = rw (c.in_ok-new.ensures.ok, c.in_ok-new-2.ensures.ok) changes;
       totals = rw (c.in_ok-new.ensures.ok, c.in_ok-new-3.ensures.ok) c.in_ok-totals.ensures.totals;
       pages = rw c.in_ok-new-4.ensures.ok c.in_ok-totals.ensures.pages;
+      moved = λ region all. omega arith;
     }

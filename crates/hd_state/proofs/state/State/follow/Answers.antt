@@ -13,11 +13,12 @@ use Rattle.hd_totals.specs.GroupPages.{AreNoted}
 use Rattle.hd_totals.specs.LastChanges.{AreLastChanges}
 use Rattle.hd_totals.specs.Totals.{AreTotals}
 use Rattle.hd_view.specs.Added.{IsAddedBy}
+use Rattle.hd_state.specs.LastMove.{IsLastMove}
 use Rattle.hd_state.specs.Solution.{Solution}
 use Rattle.hd_state.proofs.state.State.follow.Goals as goal
 
 pub invariant_of-state : goal.invariant_of-state
-invariant_of-state c =
+invariant_of-state g c =
     let now = c.args.self.now in
     let next = c.in_ok-next.next in
     let moved = c.in_ok-moved.moved in
@@ -37,10 +38,11 @@ invariant_of-state c =
       changes = subst (λ (d : Dump). AreLastChanges d next.front kept (arc_value moved.last_changes)) (sym graph) c.in_ok-moved.ensures.changes;
       totals = subst (λ (d : Dump). AreTotals d kept (arc_value moved.totals)) (sym graph) c.in_ok-moved.ensures.totals;
       pages = subst (λ (d : Dump). AreNoted d (arc_value moved.pages)) (sym graph) c.in_ok-moved.ensures.pages;
+      moved = subst (λ (d : Dump). IsLastMove d next.front moved.moved) (sym graph) c.in_ok-moved.ensures.moved;
     }
 
 pub returns-clause-outside : goal.returns-clause-outside
-returns-clause-outside c o out =
+returns-clause-outside g c o out =
     let now = c.args.self.now in
     let kept = arc_value c.in_ok-moved.moved.supports in
     c.in_ok-moved.ensures.outside o (λ r. out (subst (λ (log : List Event). InEventRegion now.dump now.log log now.kept kept o) c.in_ok-next.ensures.log r))

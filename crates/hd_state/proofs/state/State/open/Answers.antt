@@ -10,4 +10,5 @@ invariant_of-result g c = record {
   changes = rw c.deref-2.ensures at c.in_ok-kept.ensures.kept.changes;
   totals = rw c.deref-2.ensures at c.in_ok-kept.ensures.kept.totals;
   pages = rw c.deref-2.ensures at c.in_ok-kept.ensures.kept.pages;
+  moved = rw c.deref-2.ensures at c.in_ok-kept.ensures.kept.moved;
 }

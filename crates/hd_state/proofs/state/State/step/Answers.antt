@@ -5,7 +5,7 @@ use Rattle.hd_state.specs.Solution.{Solution}
 use Rattle.hd_state.proofs.state.State.step.Goals as goal
 
 pub returns-clause-outside : goal.returns-clause-outside
-returns-clause-outside c o out =
+returns-clause-outside g c o out =
     let now = c.args.self.now in
     let event = c.args.event in
     let kept = c.in_ok-followed.followed.0.kept in
