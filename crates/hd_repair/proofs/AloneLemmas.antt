@@ -190,7 +190,7 @@ none_halfway r ks old new h t = record {
   sought = rw (t.gone, t.sought) h.sought;
 }
 
--- an object is done once, so after as many as there are none waits
+-- an object is done once, so none waits when all are done
 pub none_waits : (g : Standing) (n : ℕ) (ks : List Reached) (p : Progress) (waiting : List ℕ) → p.waiting ≡ waiting → IsUnderway g n ks p NoneLate
     → n ≤ length p.rehung + length p.gone → waiting ≡ []
 none_waits g n ks p [] is h all = refl

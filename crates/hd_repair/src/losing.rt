@@ -42,8 +42,8 @@ fn changes_of(alloc: Global, region: &Region, kept: &Supports) -> Result<Vec<Cha
 pub enum Lost {
     /// What is kept is settled again, and the strengths of these objects have changed.
     Settled(Vec<Change>),
-    /// What is kept may not be used further. A search afresh looks at no more than is left: `renew` takes what it finds in the
-    /// region, and what was kept before the loss outside.
+    /// What is kept may not be used further. A search afresh keeps the bound on looks: `renew` takes what it finds in the region,
+    /// and what was kept before the loss outside.
     Large(Marks),
 }
 
@@ -52,7 +52,7 @@ pub enum Lost {
 ///
 /// What is lost stands no more, and while it did the supports were settled; `before` has them as they were. The looks are at most
 /// twice the degree of the objects whose stored chain used what is lost. Where more objects than `limits` allows lost their
-/// support, and objects still wait for one, a search afresh is asked for, if its looks and those so far are at most that many.
+/// support, and objects still wait for one, a search afresh is asked for, if its looks and those so far keep that bound.
 ///
 /// # Errors
 ///

@@ -29,7 +29,7 @@ fn is_known(found: Known) -> bool
     !matches!(found, Known::Unknown)
 }
 
-/// Of each object whether it is in the region of a loss.
+/// Of each object whether it is inside: in the region of a loss, or, for a gain, among the objects whose strength changes.
 pub struct Marks {
     known: Vec<Known>,
 }
@@ -42,7 +42,7 @@ impl Drop for Marks {
 }
 
 impl Marks {
-    /// Whether an object is in the region.
+    /// Whether an object is inside.
     pub(crate) fn is_inside(&self, o: u32) -> bool
         requires { o < length self.now.known.items }
         ensures yes { result ≡ true → known_at self.now.known.items o ≡ knowns.Inside }

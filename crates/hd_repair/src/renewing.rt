@@ -1,4 +1,5 @@
-//! Supports that are renewed in the region of a loss by those of a search afresh. Outside the region all stays.
+//! Supports that are renewed by those of a search afresh, in the region of a loss or where a gain changes strengths. All else
+//! stays.
 ghost use Rattle.std.specs.Prelude.{◌≡◌, ◌+◌, ◌^◌, ◌<◌, ◌≤◌, ℕ, List, length, IfOk, OnOk};
 ghost use Rattle.hd_terms.specs.Paths.{Standing};
 ghost use Rattle.hd_terms.specs.Regions.{AreChanges, Holding, InLossRegion, WasSettledWith, WasSettledWithout};
