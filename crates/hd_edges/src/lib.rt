@@ -5,6 +5,8 @@
 //! one edge or root is a look, and `looks` counts them. Reading a length is no look. The law `AreRows` (`hd_terms`)
 //! ties these rows to what stands, so a proof over any implementation can count on it.
 //!
+//! A thread that looks at edges has rows of its own (`unseen`), and what it counts is added to the others (`add_looks`).
+//!
 //! A `Held` names an edge or a root by the object that it leads to and the support that it is for that object. Lists of
 //! losses and gains are lists of these.
 //!
@@ -147,6 +149,16 @@ pub trait Edges {
     /// How many looks were made. The count stays at `u64::MAX`.
     fn looks(&self) -> u64
         ensures { result ≡ look_count self.now };
+
+    /// The same edges and roots, of which no look is made yet: for a thread of its own.
+    fn unseen(&self) -> Self
+        ensures same { rows result ≡ rows self.now }
+        ensures none { look_count result ≡ 0 };
+
+    /// Counts `looks` looks more, which were made by another thread.
+    fn add_looks(&mut self, looks: u64)
+        ensures same { rows self.new ≡ rows self.old }
+        ensures counted { look_count self.new ≡ min (look_count self.old + looks) (2 ^ 64 - 1) };
 
     /// The rows are those of what stands.
     ghost lawful: { (e : Self) → AreRows (rows e) };

@@ -1,6 +1,7 @@
 //! Random edits and undos of random dumps, in both modes: after each, what is kept is settled, strengths and totals are
 //! those that a search from scratch gives, what fell and came back is what they say, and each object's group lists those that
-//! have its strength; and a repair that asks for a search afresh changes the same. One log is filled. The stored output says that this held of each dump.
+//! have its strength; and a repair that asks for a search afresh, or takes all apart as a whole, changes the same. One log is
+//! filled. The stored output says that this held of each dump.
 #![tactic(auto)]
 
 mod afresh;

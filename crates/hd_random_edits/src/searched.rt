@@ -1,4 +1,4 @@
-//! Whether a repair that asks for a search afresh, where it can, makes what a repair object by object makes.
+//! Whether a repair that asks for a search afresh, or takes all apart as a whole, makes what a repair object by object makes.
 use crate::afresh::kept_of;
 use hd_settled::is_settled;
 use hd_state::State;

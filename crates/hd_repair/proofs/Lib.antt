@@ -1,7 +1,6 @@
 pub mod QueueLemmas
 pub mod SettledLemmas
 pub mod OutLemmas
-pub mod AcceptLemmas
 pub mod SpreadLemmas
 pub mod BestLemmas
 pub mod EachLemmas
@@ -19,5 +18,7 @@ pub mod LossLemmas
 pub mod AloneLemmas
 pub mod ResupportLemmas
 pub mod GainLemmas
+pub mod FallLemmas
+pub mod OfferLemmas
 pub mod MarkingLemmas
 pub mod RenewLemmas

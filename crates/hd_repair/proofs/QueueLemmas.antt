@@ -1,13 +1,15 @@
-use Rattle.std.proofs.Common.{◌≡◌, ◌∙◌, ℕ, zero, suc, ◌≤◌, ◌⊎◌, inl, inr, List, [], ◌∷◌, ◌++◌, map, Contains, refl, sym, ap, subst, arith}
+use Rattle.std.proofs.Common.{◌≡◌, ◌∙◌, ℕ, zero, suc, ◌<◌, ◌≤◌, length, ◌⊎◌, inl, inr, List, [], ◌∷◌, ◌++◌, map, Contains, refl, sym, ap, subst, arith}
+use Rattle.std.specs.Prelude.{IfNone, IfSome, Option, Some, None}
 use Rattle.std.proofs.lemmas.List.{map-append, length-append, length-map, get_or-map}
 use Rattle.std.proofs.lemmas.List.Elements.{Contains-push, Contains-push_cases, Contains-append_left, Contains-append_right, Contains-append_cases}
 use Rattle.hd_terms.specs.declared.Strength.{Strength}
 use Rattle.hd_terms.specs.declared.Strength.TheVariants as strengths
 use Rattle.hd_terms.specs.Ranks.{rank}
 use Rattle.hd_repair.specs.declared.offers.Offer.{Offer}
+use Rattle.hd_repair.specs.declared.offers.Offers.TheInside.{Inside}
 use Rattle.hd_repair.specs.declared.offers.Queued.{Queued}
-use Rattle.hd_repair.specs.Offering.{AddsOffer, TakesBest}
-use Rattle.hd_repair.specs.OffersInside.{offer_at, IsFirstOf}
+use Rattle.hd_repair.specs.Offering.{AddsOffer, IsMost, JoinsOffers, NoneOf, TakesOne}
+use Rattle.hd_repair.specs.OffersInside.{offer_at, offers_in, IsFirstOf}
 
 -- an offer at the end of a list
 adds_last : (xs : List Offer) (f : Offer) → AddsOffer xs (xs ++ f ∷ []) f
@@ -88,34 +90,124 @@ pub cons_cases : {X : Type 0} (y : X) (ys : List X) (x : X) → Contains (y ∷ 
 cons_cases y ys x (zero, lt, is) = inl (sym is)
 cons_cases y ys x (suc k, lt, is) = inr (k, omega arith, is)
 
--- the first of a list that gives no more
-pub takes_first : (f : Offer) (old rest : List Offer) → old ≡ f ∷ rest → AtMost (rank f.strength) rest → TakesBest old rest f
-takes_first f old rest e h = rw e (record {
+-- the first in a queue comes out
+pub one_out : (s : Strength) (f : Offer) (q q' : List Queued) → IsFirstOf s f q q' → TakesOne (map (offer_at s) q) (map (offer_at s) q') s f
+one_out s f q q' h = rw h.first (record {
+  strength = h.strength;
   made = (0, omega arith, refl);
-  left = cons_cases f rest;
+  left = cons_cases f (map (offer_at s) q');
   within = λ x (k, lt, is). (suc k, omega arith, is);
-  most = λ x c. elim (cons_cases f rest x c) [ inl same ↦ rw same (omega arith) | inr later ↦ h x later ];
   fewer = omega arith;
 })
 
--- the first in the queue of a strength comes out, and others follow that give no more
-pub takes_queued : (n : ℕ) (s : Strength) (f : Offer) (q q' : List Queued) (back : List Offer) → n ≤ rank s → IsFirstOf s f q q' → AtMost n back
-    → TakesBest (map (offer_at s) q ++ back) (map (offer_at s) q' ++ back) f
-takes_queued n s f q q' back le h few =
-    let low : AtMost (rank s) back = λ x c. let most : rank x.strength ≤ n = few x c in omega arith in
-    takes_first f (map (offer_at s) q ++ back) (map (offer_at s) q' ++ back) (ap (λ (xs : List Offer). xs ++ back) h.first)
-    (subst (λ (t : Strength). AtMost (rank t) (map (offer_at s) q' ++ back)) (sym h.strength)
-    (both_at_most (rank s) (map (offer_at s) q') back (queue_at_most (rank s) s q' (omega arith)) low))
+-- and others follow, or come before
+pub out_before : (old new back : List Offer) (s : Strength) (f : Offer) → TakesOne old new s f → TakesOne (old ++ back) (new ++ back) s f
+out_before old new back s f h = record {
+  strength = h.strength;
+  made = Contains-append_left old back f h.made;
+  left = λ x c. elim (Contains-append_cases old back x c) [
+    | inl a ↦ elim (h.left x a) [ inl same ↦ inl same | inr still ↦ inr (Contains-append_left new back x still) ]
+    | inr b ↦ inr (Contains-append_right new back x b)
+  ];
+  within = λ x c. elim (Contains-append_cases new back x c) [
+    | inl a ↦ Contains-append_left old back x (h.within x a)
+    | inr b ↦ Contains-append_right old back x b
+  ];
+  fewer = omega (arith, h.fewer, length-append old back, length-append new back);
+}
 
--- the first in the last queue
-pub takes_last : (s : Strength) (f : Offer) (q q' : List Queued) → IsFirstOf s f q q' → TakesBest (map (offer_at s) q) (map (offer_at s) q') f
-takes_last s f q q' h = takes_first f (map (offer_at s) q) (map (offer_at s) q') h.first
-    (subst (λ (t : Strength). AtMost (rank t) (map (offer_at s) q')) (sym h.strength) (queue_at_most (rank s) s q' (omega arith)))
+pub out_behind : (front old new : List Offer) (s : Strength) (f : Offer) → TakesOne old new s f → TakesOne (front ++ old) (front ++ new) s f
+out_behind front old new s f h = record {
+  strength = h.strength;
+  made = Contains-append_right front old f h.made;
+  left = λ x c. elim (Contains-append_cases front old x c) [
+    | inl a ↦ inr (Contains-append_left front new x a)
+    | inr b ↦ elim (h.left x b) [ inl same ↦ inl same | inr still ↦ inr (Contains-append_right front new x still) ]
+  ];
+  within = λ x c. elim (Contains-append_cases front new x c) [
+    | inl a ↦ Contains-append_left front old x a
+    | inr b ↦ Contains-append_right front old x (h.within x b)
+  ];
+  fewer = omega (arith, h.fewer, length-append front old, length-append front new);
+}
 
--- a queue that is empty counts for nothing
-pub takes_behind : (s : Strength) (f : Offer) (q q' : List Queued) (old new : List Offer) → q ≡ [] → q' ≡ [] → TakesBest old new f
-    → TakesBest (map (offer_at s) q ++ old) (map (offer_at s) q' ++ new) f
-takes_behind s f q q' old new none none' h = rw (none, none') h
+-- no offer in a queue is of a strength: the queue is empty, if it is that of the strength
+none_queued : (t s : Strength) (q : List Queued) → (t ≡ s → q ≡ []) → NoneOf (map (offer_at t) q) s
+none_queued t s q empty x (k, lt, is) same =
+    let of : x.strength ≡ t = ap (λ (y : Offer). y.strength)
+    (sym is ∙ get_or-map (offer_at t) q k (record { target = x.target; support = x.support }) x (omega (arith, length-map q (offer_at t)))) in
+    omega (arith, lt, length-map q (offer_at t), ap length (empty (sym of ∙ same)))
+
+none_both : (s : Strength) (xs ys : List Offer) → NoneOf xs s → NoneOf ys s → NoneOf (xs ++ ys) s
+none_both s xs ys h k x c = elim (Contains-append_cases xs ys x c) [ inl a ↦ h x a | inr b ↦ k x b ]
+
+-- none in all queues
+pub none_in : (a : Inside) (s : Strength) → (strengths.Strong ≡ s → a.strong.items ≡ []) → (strengths.Soft ≡ s → a.soft.items ≡ [])
+    → (strengths.Weak ≡ s → a.weak.items ≡ []) → (strengths.Final ≡ s → a.finals.items ≡ []) → (strengths.Phantom ≡ s → a.phantom.items ≡ [])
+    → NoneOf (offers_in a) s
+none_in a s e1 e2 e3 e4 e5 =
+    none_both s _ _ (none_queued strengths.Strong s a.strong.items e1)
+    (none_both s _ _ (none_queued strengths.Soft s a.soft.items e2)
+    (none_both s _ _ (none_queued strengths.Weak s a.weak.items e3)
+    (none_both s _ _ (none_queued strengths.Final s a.finals.items e4) (none_queued strengths.Phantom s a.phantom.items e5))))
+
+-- the most that is offered: a queue that has one comes first, and others follow that give no more
+pub most_first : (n : ℕ) (s : Strength) (q : List Queued) (back : List Offer) → 0 < length q → n ≤ rank s → AtMost n back
+    → IsMost (map (offer_at s) q ++ back) s
+most_first n s [] back some le few = absurd (omega (arith, some))
+most_first n s (x ∷ q) back some le few = record {
+  offer = offer_at s x;
+  made = (0, omega arith, refl);
+  strength = refl;
+  most = both_at_most (rank s) (map (offer_at s) (x ∷ q)) back (queue_at_most (rank s) s (x ∷ q) (omega arith))
+      (λ y c. let most : rank y.strength ≤ n = few y c in omega arith);
+}
+
+pub most_last : (s : Strength) (q : List Queued) → 0 < length q → IsMost (map (offer_at s) q) s
+most_last s [] some = absurd (omega (arith, some))
+most_last s (x ∷ q) some = record {
+  offer = offer_at s x;
+  made = (0, omega arith, refl);
+  strength = refl;
+  most = queue_at_most (rank s) s (x ∷ q) (omega arith);
+}
+
+pub most_behind : (s t : Strength) (q : List Queued) (rest : List Offer) → length q ≡ 0 → IsMost rest t → IsMost (map (offer_at s) q ++ rest) t
+most_behind s t [] rest none h = h
+most_behind s t (x ∷ q) rest none h = absurd (omega (arith, none))
+
+-- queues are joined
+pub joins_queue : (s : Strength) (q q' q'' : List Queued) → q'' ≡ q ++ q'
+    → JoinsOffers (map (offer_at s) q) (map (offer_at s) q') (map (offer_at s) q'')
+joins_queue s q q' q'' is = rw (is, map-append (offer_at s) q q') (record {
+  kept = λ x c. Contains-append_left (map (offer_at s) q) (map (offer_at s) q') x c;
+  added = λ x c. Contains-append_right (map (offer_at s) q) (map (offer_at s) q') x c;
+  made = λ x c. Contains-append_cases (map (offer_at s) q) (map (offer_at s) q') x c;
+  count = length-append (map (offer_at s) q) (map (offer_at s) q');
+})
+
+pub joins_both : (a b c d e f : List Offer) → JoinsOffers a c e → JoinsOffers b d f → JoinsOffers (a ++ b) (c ++ d) (e ++ f)
+joins_both a b c d e f h k = record {
+  kept = λ x is. elim (Contains-append_cases a b x is) [
+    | inl one ↦ Contains-append_left e f x (h.kept x one)
+    | inr two ↦ Contains-append_right e f x (k.kept x two)
+  ];
+  added = λ x is. elim (Contains-append_cases c d x is) [
+    | inl one ↦ Contains-append_left e f x (h.added x one)
+    | inr two ↦ Contains-append_right e f x (k.added x two)
+  ];
+  made = λ x is. elim (Contains-append_cases e f x is) [
+    | inl one ↦ elim (h.made x one) [
+      | inl old ↦ inl (Contains-append_left a b x old)
+      | inr other ↦ inr (Contains-append_left c d x other)
+    ]
+    | inr two ↦ elim (k.made x two) [
+      | inl old ↦ inl (Contains-append_right a b x old)
+      | inr other ↦ inr (Contains-append_right c d x other)
+    ]
+  ];
+  count = omega (arith, h.count, k.count, length-append a b, length-append c d, length-append e f);
+}
 
 -- what the queues from one on give
 pub from_phantom : (p : List Queued) → AtMost 1 (map (offer_at strengths.Phantom) p)
@@ -133,3 +225,12 @@ pub from_soft : (s w f p : List Queued)
     ++ (map (offer_at strengths.Weak) w ++ (map (offer_at strengths.Final) f ++ map (offer_at strengths.Phantom) p)))
 from_soft s w f p = both_at_most 4 _ _ (queue_at_most 4 strengths.Soft s (omega arith)) (λ x c. let le : rank x.strength ≤ 3 = from_weak w f p x c in
     omega arith)
+
+-- of an answer that may be none
+pub if_none : (x : Option Offer) (P Q : Type 0) → (P → Q) → IfNone x P → IfNone x Q
+if_none None P Q f h = f h
+if_none (Some a) P Q f h = tt
+
+pub if_some : (x : Option Offer) (P Q : Offer → Type 0) → ((f : Offer) → P f → Q f) → IfSome x P → IfSome x Q
+if_some None P Q f h = tt
+if_some (Some a) P Q f h = f a h

@@ -129,10 +129,11 @@ module _ (g : Standing) (ks ks' : List Reached) (t : ℕ) (k : Reached) (more : 
 module _ (g : Standing) (ks ks' : List Reached) (offers offers' : List Offer) (f : Offer) (stamp : ℕ) (more : rank_at ks f.target < rank f.strength)
     (here : reached_at ks' f.target ≡ record { strength = f.strength; support = f.support; stamp = stamp })
     (others : (o : ℕ) → o ≢ f.target → reached_at ks' o ≡ reached_at ks o)
-    (h : IsSpreading g ks offers NoRoot NoEdge) (is : Contains offers f)
+    (ToDo Later : Edge → Type 0) (h : IsSpreading g ks offers NoRoot ToDo) (is : Contains offers f)
     (left : (x : Offer) → Contains offers x → (x ≡ f) ⊎ Contains offers' x)
     (within : (x : Offer) → Contains offers' x → Contains offers x)
-    (later : (source : ℕ) (slot : Slot) → f.support ≡ supports.Edge source slot → (reached_at ks source).stamp < stamp) where
+    (later : (source : ℕ) (slot : Slot) → f.support ≡ supports.Edge source slot → (reached_at ks source).stamp < stamp)
+    (still : (e : Edge) → ToDo e → Later e) (from : (e : Edge) → e.source ≡ f.target → Later e) where
   abbrev k : Reached
   k = record { strength = f.strength; support = f.support; stamp = stamp }
 
@@ -155,7 +156,7 @@ module _ (g : Standing) (ks ks' : List Reached) (offers offers' : List Offer) (f
         | inr le ↦ inr (omega arith, later source slot same)
       ])
 
-  pub take : IsSpreading g ks' offers' NoRoot (λ e. e.source ≡ f.target)
+  pub take : IsSpreading g ks' offers' NoRoot Later
   take = record {
     supported = λ o. elim (cases_eq o f.target) [
       | inl same ↦ rw (same, here) (backed_still g ks ks' f.target k more here others f.target f.strength f.support (h.backed f is))
@@ -170,9 +171,9 @@ module _ (g : Standing) (ks ks' : List Reached) (offers offers' : List Offer) (f
     backed = λ x made. backed_still g ks ks' f.target k more here others x.target x.strength x.support (h.backed x (within x made));
     by_roots = λ r stands. elim (h.by_roots r stands) [ inl none ↦ absurd none | inr done ↦ inr (done_still r.target 5 done) ];
     by_edges = λ e stands. elim (cases_eq e.source f.target) [
-      | inl same ↦ inl same
+      | inl same ↦ inl (from e same)
       | inr other ↦ elim (h.by_edges e stands) [
-        | inl none ↦ absurd none
+        | inl to_do ↦ inl (still e to_do)
         | inr done ↦ inr (λ p.
             let same : reached_at ks' e.source ≡ reached_at ks e.source = others e.source other in
             let gifts : offered_strength ks' e ≡ offered_strength ks e = ap (λ (x : Reached). weaker_of x.strength (given_by e.kind)) same in

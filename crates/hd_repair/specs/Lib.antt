@@ -3,7 +3,8 @@ pub mod OffersInside
 pub mod Spreading
 pub mod Hanging
 pub mod Losing
-pub mod Marking
-pub mod Renewing
 pub mod Alone
 pub mod Changing
+pub mod Falling
+pub mod Marking
+pub mod Renewing

@@ -1,18 +1,19 @@
 -- A repair on its way: what is kept, what is offered, and what is still to be looked at.
-use Rattle.std.specs.Prelude.{◌≡◌, ◌≢◌, ℕ, ◌+◌, ◌-◌, ◌^◌, ◌≤◌, ◌<◌, ◌⊎◌, List, [], ◌∷◌, ◌++◌, length, Contains, true, sum_by}
+use Rattle.std.specs.Prelude.{◌≡◌, ◌≢◌, ℕ, ◌+◌, ◌-◌, ◌*◌, ◌^◌, ◌≤◌, ◌<◌, ◌⊎◌, List, [], ◌∷◌, ◌++◌, length, Contains, true, sum_by}
 use Rattle.hd_terms.specs.declared.Mode.{Mode}
 use Rattle.hd_terms.specs.declared.Strength.{Strength}
 use Rattle.hd_terms.specs.declared.Strength.TheVariants as strengths
 use Rattle.hd_terms.specs.declared.Support.{Support}
 use Rattle.hd_terms.specs.declared.Support.TheVariants as supports
 use Rattle.hd_terms.specs.declared.Slot.{Slot}
-use Rattle.hd_terms.specs.Ranks.{rank, given_by, weaker_of, IsPassedOn}
+use Rattle.hd_terms.specs.Ranks.{rank, given_by, weaker_of}
 use Rattle.hd_terms.specs.Paths.{Edge, RootEntry, Standing}
 use Rattle.hd_terms.specs.Chains.{NoneTwice}
 use Rattle.hd_terms.specs.Settled.{Reached, reached_at, PassesOn, IsBefore}
-use Rattle.hd_terms.specs.EdgeRows.{MarkedEdge, MarkedRoot}
+use Rattle.hd_terms.specs.EdgeRows.{MarkedEdge, MarkedRoot, Rows}
 use Rattle.hd_terms.specs.Regions.{StrengthChange, changed_objects}
 use Rattle.hd_repair.specs.declared.offers.Offer.{Offer}
+use Rattle.hd_repair.specs.declared.spreading.Round.{Round}
 use Rattle.hd_repair.specs.Offering.{AddsOffer}
 
 -- the rank kept of an object
@@ -65,6 +66,11 @@ pub record IsSpreading (g : Standing) (ks : List Reached) (offers : List Offer) 
   pub by_edges : (e : Edge) → Contains g.edges e → EdgeToDo e
       ⊎ (PassesOn g.mode (reached_at ks e.source) → IsDone ks offers e.target (rank (offered_strength ks e)))
 
+-- each object has at most what its support gives it, and the source of that comes before it
+pub record AreSupported (g : Standing) (ks : List Reached) : Type 0 where
+  pub backed : (o : ℕ) → IsBacked g ks o (reached_at ks o).strength (reached_at ks o).support
+  pub in_order : (o : ℕ) → IsInOrder ks (reached_at ks o) (reached_at ks o).support
+
 -- nothing is left to look at
 abbrev pub NoRoot : RootEntry → Type 0
 NoRoot r = ⊥
@@ -114,20 +120,18 @@ pub record IsEdgeWithin (n : ℕ) (y : MarkedEdge) : Type 0 where
 abbrev pub deficit_of : List Reached → ℕ
 deficit_of ks = sum_by (λ k. 5 - rank k.strength) ks
 
--- an offer gives no more than its target has
-pub record IsDeclined (ks ks' : List Reached) (offers offers' : List Offer) (changes changes' : List StrengthChange) (f : Offer) : Type 0 where
+-- an offer gives no more than its target has, and nothing changes
+pub record IsDeclined (ks ks' : List Reached) (old new : Round) (f : Offer) : Type 0 where
   pub no_more : rank f.strength ≤ rank_at ks f.target
   pub same_kept : ks' ≡ ks
-  pub same_offers : offers' ≡ offers
-  pub same_changes : changes' ≡ changes
+  pub same : new ≡ old
 
 -- the change that an offer makes
 abbrev pub change_by : List Reached → Offer → StrengthChange
 change_by ks f = record { object = f.target; before = (reached_at ks f.target).strength; after = f.strength }
 
--- an offer is accepted, and what that makes possible is offered
-pub record IsAccepted (g : Standing) (entries : List MarkedEdge) (ks ks' : List Reached) (offers offers' : List Offer) (changes changes' : List StrengthChange)
-    (f : Offer) : Type 0 where
+-- an offer is accepted, and its target is one whose edges are to be looked at
+pub record IsAccepted (ks ks' : List Reached) (old new : Round) (f : Offer) : Type 0 where
   pub more : rank_at ks f.target < rank f.strength
   pub stamp : ℕ
   pub here : reached_at ks' f.target ≡ record { strength = f.strength; support = f.support; stamp = stamp }
@@ -135,10 +139,9 @@ pub record IsAccepted (g : Standing) (entries : List MarkedEdge) (ks ks' : List 
   pub count : length ks' ≡ length ks
   pub later : (source : ℕ) (slot : Slot) → f.support ≡ supports.Edge source slot → (reached_at ks source).stamp < stamp
   pub bounded : (m : ℕ) → ((o : ℕ) → (reached_at ks o).stamp ≤ m) → stamp ≤ m + 1
-  pub change : changes' ≡ changes ++ change_by ks f ∷ []
-  pub adds : IsPassedOn g.mode f.strength → AddsOffers g ks' f.target entries offers offers'
-  pub adds_none : (IsPassedOn g.mode f.strength → ⊥) → offers' ≡ offers
-  pub few : length offers' < length offers + 2 ^ 32
+  pub change : new.changes.items ≡ old.changes.items ++ change_by ks f ∷ []
+  pub front : new.front.items ≡ old.front.items ++ f.target ∷ []
+  pub offers : new.offers ≡ old.offers
   pub deficit : deficit_of ks' < deficit_of ks
 
 -- a change tells both strengths, of which the later is greater
@@ -153,6 +156,58 @@ pub record AreRises (ks0 ks : List Reached) (changes : List StrengthChange) : Ty
   pub once : NoneTwice (changed_objects changes)
   pub others : (o : ℕ) → (Contains (changed_objects changes) o → ⊥) → reached_at ks o ≡ reached_at ks0 o
   pub stamps : (m : ℕ) → ((o : ℕ) → (reached_at ks0 o).stamp ≤ m) → (o : ℕ) → (reached_at ks o).stamp ≤ m + length changes
+
+-- what an edge from one of these objects gives is still to be looked at
+abbrev pub EdgeFrom : List ℕ → Edge → Type 0
+EdgeFrom objects e = Contains objects e.source
+
+-- stamps have room to grow by a number for each object
+pub record IsSmall (ks : List Reached) : Type 0 where
+  pub few : length ks < 2 ^ 32
+  pub room : (o : ℕ) → (reached_at ks o).stamp ≤ 2 ^ 47 + 2 ^ 32
+
+-- a round of offers of a strength: no more is offered. What was given it in this round has it, and all that has changed since the
+-- beginning has at least that
+pub record IsInRound (r : Rows) (ks0 ks : List Reached) (s : Strength) (round : Round) : Type 0 where
+  pub spreading : IsSpreading r.standing ks round.offers NoRoot (EdgeFrom round.front.items)
+  pub count : length ks ≡ r.objects
+  pub targets : (x : Offer) → Contains round.offers x → x.target < r.objects
+  pub at_most : (x : Offer) → Contains round.offers x → rank x.strength ≤ rank s
+  pub floor : (o : ℕ) → Contains (changed_objects round.changes.items) o → rank s ≤ rank_at ks o
+  pub front : (o : ℕ) → Contains round.front.items o → (o < r.objects) × (rank_at ks o ≡ rank s)
+  pub changed : AreRises ks0 ks round.changes.items
+  pub deficit : length round.changes.items + deficit_of ks ≤ deficit_of ks0
+
+-- a round that begins or goes on from some beginning
+pub record IsStarted (r : Rows) (ks : List Reached) (s : Strength) (round : Round) : Type 0 where
+  pub beginning : List Reached
+  pub small : IsSmall beginning
+  pub in_round : IsInRound r beginning ks s round
+
+-- a round goes on: what is accepted has changed, and its edges are to be looked at
+pub record GoesOn (ks ks' : List Reached) (old new : Round) : Type 0 where
+  pub more : List ℕ
+  pub changes : changed_objects new.changes.items ≡ changed_objects old.changes.items ++ more
+  pub front : new.front.items ≡ old.front.items ++ more
+  pub deficit : deficit_of ks' + length more ≤ deficit_of ks
+
+-- what the standing ones of the edges from these objects give is offered too
+pub record OffersFrom (r : Rows) (ks : List Reached) (objects : List ℕ) (old new : List Offer) : Type 0 where
+  pub kept : (x : Offer) → Contains old x → Contains new x
+  pub made : (x : Offer) → Contains new x → Contains old x ⊎ ((o : ℕ) × Contains objects o × IsOfferFrom r.standing ks o x)
+  pub done : (o : ℕ) (y : MarkedEdge) → Contains objects o → Contains (r.out o) y → y.stands ≡ true
+      → IsDone ks new y.edge.target (rank (offered_strength ks y.edge))
+  pub count : length new ≤ length old + sum_by (λ o. length (r.out o)) objects
+  pub few : sum_by (λ o. length (r.out o)) objects ≤ length objects * (2 ^ 32 - 1)
+
+-- between two rounds: nothing is left to look at, and no offer is above what has changed since the beginning
+pub record IsRepairing (r : Rows) (ks0 ks : List Reached) (offers : List Offer) (changes : List StrengthChange) : Type 0 where
+  pub spreading : IsSpreading r.standing ks offers NoRoot NoEdge
+  pub count : length ks ≡ r.objects
+  pub targets : (x : Offer) → Contains offers x → x.target < r.objects
+  pub below : (x : Offer) → Contains offers x → (o : ℕ) → Contains (changed_objects changes) o → rank x.strength ≤ rank_at ks o
+  pub changed : AreRises ks0 ks changes
+  pub deficit : length changes + deficit_of ks ≤ deficit_of ks0
 
 -- no standing one of these roots and edges gives o more than this offer, which is backed and gives no less than o has; where it
 -- gives no more, its source comes before o
@@ -192,3 +247,13 @@ pub data IsTaken (ks ks' : List Reached) (offers offers' : List Offer) (x : Offe
   held : rank x.strength ≤ rank_at ks x.target → (length ks' ≡ length ks) → offers' ≡ offers
       → reached_at ks' x.target ≡ record { strength = (reached_at ks x.target).strength; support = x.support; stamp = (reached_at ks x.target).stamp }
       → ((o : ℕ) → o ≢ x.target → reached_at ks' o ≡ reached_at ks o) → IsTaken ks ks' offers offers' x
+
+-- the best offer to an object, by all roots on it and all edges to it
+abbrev pub IsBest : Rows → List Reached → ℕ → Offer → Type 0
+IsBest r ks o x = IsBestSoFar r.standing ks o (r.roots o) (r.into o) x
+
+-- the best offers to these objects are made too
+pub record OffersBest (r : Rows) (ks : List Reached) (objects : List ℕ) (old new : List Offer) : Type 0 where
+  pub kept : (x : Offer) → Contains old x → Contains new x
+  pub made : (x : Offer) → Contains new x → Contains old x ⊎ ((o : ℕ) × Contains objects o × IsBest r ks o x)
+  pub done : (o : ℕ) → Contains objects o → (x : Offer) × IsBest r ks o x × (1 ≤ rank x.strength → Contains new x)

@@ -15,6 +15,7 @@ use hd_edges::{Edges, Held};
 use hd_supports::Supports;
 use hd_terms::NoMemory;
 use std::alloc::Global;
+use std::thread::Threads;
 
 /// Takes an offer that gives its target no less than that has. One that gives more is added to the others. One that gives the
 /// same becomes the target's support: strengths and stamps stay, and chains stay short.
@@ -67,7 +68,8 @@ fn support_or_offer_each<E: Edges>(
 /// # Errors
 ///
 /// Memory ran out. What is kept may not be used further.
-pub fn gain<E: Edges>(
+pub fn gain<R: Threads + Sync, E: Edges + Sync + Drop>(
+    rt: &R,
     alloc: Global,
     edges: &mut E,
     kept: &mut Supports,
@@ -90,6 +92,6 @@ pub fn gain<E: Edges>(
 {
     let targets = targets_of(alloc, gained)?;
     let offers = support_or_offer_each(alloc, edges, &targets, kept)?;
-    let changes = spread(alloc, edges, kept, offers)?;
+    let changes = spread(rt, alloc, edges, kept, offers)?;
     Ok(changes)
 }

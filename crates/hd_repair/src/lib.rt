@@ -20,21 +20,27 @@
 //!    supports wait in its place. Walks along chains are bounded; an object beyond the bound is detached, which is right
 //!    too. An object to which nothing led but an edge from a detached one is alone: it waits before the others, and is
 //!    detached without a search.
-//! 3. `offer_each` (`best.rt`) finds the best offer to each detached object that isn't alone, over the roots on it and the
+//! 3. Where many objects lost their support and others still wait, a search afresh may be quicker (see below). If not, those
+//!    and all that hangs below them are detached as a whole (`fall` of `falling.rt`): what an object supports is found by its
+//!    edges, and nothing is hung on others.
+//! 4. `offer_best` (`best.rt`) finds the best offer to each detached object that isn't alone, over the roots on it and the
 //!    edges to it. Detached objects offer nothing.
-//! 4. `spread` (`spreading.rt`) accepts offers, the greatest first. An offer that gives more than its target has
-//!    becomes the target's support. What the target then gives along its own edges is offered in turn.
-//! 5. `changes_of` compares the strengths of the detached objects with those that they had.
+//! 5. `spread` (`spreading.rt`) accepts offers, the greatest first. An offer that gives more than its target has
+//!    becomes the target's support. What the targets then give along their own edges (`offering.rt`) is offered in turn.
+//! 6. `changes_of` compares the strengths of the detached objects with those that they had.
 //!
-//! Where many objects lost their support and others still wait, a search afresh may be quicker. So after as many objects as
-//! `Limits` says, a loss marks its region (`marking.rt`): the objects whose stored chain uses what is lost, found by the
-//! stored chains alone, without a look. Those of 1,024 objects tell whether that seems worthwhile. If the looks of a search
-//! and those so far are at most twice the region's degree, the loss ends with these marks; else it goes on. `renew`
-//! (`renewing.rt`) then takes what the search found in the region, with stamps above all that were kept, and leaves the rest
-//! as it was. `renew_changed` does the same after a gain, where strengths differ; its caller knows beforehand that many do.
+//! Steps 3 to 5 go in rounds, each over all objects that are known by then. Several threads share a round that has many
+//! objects (`threads.rt`). They only look at edges, each with a count of looks of its own, and tell what they found; one
+//! thread then changes what is kept. So no proof speaks of how threads interleave.
+//!
+//! After as many objects as `Limits` says, a loss marks its region (`marking.rt`): the objects whose stored chain uses what is
+//! lost, found by the stored chains alone, without a look. Those of 1,024 objects tell whether that seems worthwhile. If the
+//! looks of a search and those so far are at most twice the region's degree, the loss ends with these marks; else it goes on.
+//! `renew` (`renewing.rt`) then takes what the search found in the region, with stamps above all that were kept, and leaves the
+//! rest as it was. `renew_changed` does the same after a gain, where strengths differ; its caller knows beforehand that many do.
 //!
 //! A gain (`gaining.rt`) takes the targets of what was gained, each once (`targets.rt`), and finds the best offer to each.
-//! One that gives more than its target has is spread in the same way. One that gives the same from an earlier source
+//! One that gives more than its target has is spread in the same way, in rounds. One that gives the same from an earlier source
 //! becomes the support, so that chains stay short. Nothing is detached, since a gain weakens nothing.
 //!
 //! What the next objects of a queue need is read ahead for many of them at once (`ahead.rt`).
@@ -55,17 +61,20 @@
 mod ahead;
 mod best;
 mod change;
+mod falling;
 mod gaining;
 mod hanging;
 mod lifting;
 mod losing;
 mod marking;
+mod offering;
 mod offers;
 mod rehanging;
 mod renewing;
 mod sources;
 mod spreading;
 mod targets;
+mod threads;
 mod waiting;
 
 pub use change::Change;

@@ -9,7 +9,7 @@ ghost use Rattle.hd_repair.specs.Changing.{AreChangesAmong};
 ghost use Rattle.hd_repair.specs.Losing.{strengths_of};
 ghost use Rattle.hd_repair.specs.Marking.{IfAsked, IfSettled, IsLarge};
 
-use crate::best::offer_each;
+use crate::best::offer_best;
 use crate::change::Change;
 use crate::marking::Marks;
 use crate::rehanging::{Halfway, Limits, rehang_or_detach};
@@ -19,6 +19,7 @@ use hd_edges::{Edges, Held};
 use hd_supports::Supports;
 use hd_terms::NoMemory;
 use std::alloc::Global;
+use std::thread::Threads;
 
 /// The changes of the objects of a region, from the strengths that they had to those that are kept.
 fn changes_of(alloc: Global, region: &Region, kept: &Supports) -> Result<Vec<Change>, NoMemory>
@@ -50,22 +51,21 @@ pub enum Lost {
 /// Repairs what is kept after a loss, and tells whose strength has changed; or tells which objects are in its region, where that
 /// is large.
 ///
-/// What is lost stands no more, and while it did the supports were settled; `before` has them as they were. The looks are at most
-/// twice the degree of the objects whose stored chain used what is lost. Where more objects than `limits` allows lost their
-/// support, and objects still wait for one, a search afresh is asked for, if its looks and those so far keep that bound.
+/// What is lost stands no more, and while it did the supports were settled. The looks are at most twice the degree of the objects
+/// whose stored chain used what is lost. Where more objects than `limits` allows lost their support, and objects still wait for
+/// one, a search afresh is asked for, if its looks and those so far keep that bound; else they are taken apart by several threads.
 ///
 /// # Errors
 ///
 /// Memory ran out. What is kept may not be used further.
-pub fn lose<E: Edges>(
+pub fn lose<R: Threads + Sync, E: Edges + Sync + Drop>(
+    rt: &R,
     alloc: Global,
     edges: &mut E,
-    before: &Supports,
     kept: &mut Supports,
     lost: &[Held],
     limits: Limits,
 ) -> Result<Lost, NoMemory>
-    requires before { before.now ≡ kept.old }
     requires count { length kept.old ≡ (E.rows edges.old).objects }
     requires room { (o : ℕ) → (reached_at kept.old o).stamp ≤ 2 ^ 47 }
     requires targets { All (λ (h : Holding). h.target < (E.rows edges.old).objects) lost.now }
@@ -84,12 +84,12 @@ pub fn lose<E: Edges>(
     ensures large { IfOk result (λ l. IfAsked l (IsLarge (E.rows edges.old) kept.old lost.now (E.look_count edges.new) limits.search)) }
 {
     kept.are_few();
-    let half = rehang_or_detach(alloc, edges, before, kept, lost, limits)?;
+    let half = rehang_or_detach(rt, alloc, edges, kept, lost, limits)?;
     match half {
         Halfway::Large(marks) => Ok(Lost::Large(marks)),
         Halfway::Done(losing) => {
-            let offers = offer_each(alloc, edges, &losing.sought, kept)?;
-            let _rises = spread(alloc, edges, kept, offers)?;
+            let offers = offer_best(rt, alloc, edges, kept, &losing.sought)?;
+            let _rises = spread(rt, alloc, edges, kept, offers)?;
             let changes = changes_of(alloc, &losing.gone, kept)?;
             Ok(Lost::Settled(changes))
         }

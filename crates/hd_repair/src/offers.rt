@@ -1,6 +1,6 @@
 //! Offers of strengths to objects, the greatest first, those of one strength first in, first out.
 ghost use Rattle.std.specs.Prelude.{◌≡◌, [], IfNone, IfSome, OnOk};
-ghost use Rattle.hd_repair.specs.Offering.{AddsOffer, TakesBest};
+ghost use Rattle.hd_repair.specs.Offering.{AddsOffer, IsMost, JoinsOffers, NoneOf, TakesOne};
 ghost use Rattle.hd_repair.specs.OffersInside.{IsFirstOf};
 
 use hd_terms::{NoMemory, Strength, Support};
@@ -104,6 +104,29 @@ impl Offers {
         Ok(())
     }
 
+    /// The greatest strength that is offered.
+    pub(crate) fn most(&self) -> Option<Strength>
+        ensures none { IfNone result (self.now ≡ []) }
+        ensures some { IfSome result (IsMost self.now) }
+    {
+        if self.strong.len() > 0 {
+            return Some(Strength::Strong);
+        }
+        if self.soft.len() > 0 {
+            return Some(Strength::Soft);
+        }
+        if self.weak.len() > 0 {
+            return Some(Strength::Weak);
+        }
+        if self.finals.len() > 0 {
+            return Some(Strength::Final);
+        }
+        if self.phantom.len() > 0 {
+            return Some(Strength::Phantom);
+        }
+        None
+    }
+
     /// The queue of the offers that give the most.
     fn greatest(&self) -> &VecDeque<Queued> {
         if !self.strong.is_empty() {
@@ -127,24 +150,30 @@ impl Offers {
         Some(queued.target)
     }
 
-    /// Takes out the earliest of the offers that give the most.
-    pub(crate) fn pop_best(&mut self) -> Option<Offer>
-        ensures none { IfNone result (self.old ≡ []) }
-        ensures some { IfSome result (λ offer. TakesBest self.old self.new offer) }
+    /// Takes out the earliest offer of a strength.
+    pub(crate) fn pop(&mut self, strength: Strength) -> Option<Offer>
+        ensures none { IfNone result ((self.new ≡ self.old) × NoneOf self.old strength) }
+        ensures some { IfSome result (λ offer. TakesOne self.old self.new strength offer) }
     {
-        if let Some(offer) = pop_queued(&mut self.strong, Strength::Strong) {
-            return Some(offer);
+        match strength {
+            Strength::Strong => pop_queued(&mut self.strong, strength),
+            Strength::Soft => pop_queued(&mut self.soft, strength),
+            Strength::Weak => pop_queued(&mut self.weak, strength),
+            Strength::Final => pop_queued(&mut self.finals, strength),
+            Strength::Phantom => pop_queued(&mut self.phantom, strength),
+            Strength::Unreachable => None,
         }
-        if let Some(offer) = pop_queued(&mut self.soft, Strength::Soft) {
-            return Some(offer);
-        }
-        if let Some(offer) = pop_queued(&mut self.weak, Strength::Weak) {
-            return Some(offer);
-        }
-        if let Some(offer) = pop_queued(&mut self.finals, Strength::Final) {
-            return Some(offer);
-        }
-        let offer = pop_queued(&mut self.phantom, Strength::Phantom)?;
-        Some(offer)
+    }
+
+    /// Adds other offers behind these.
+    pub(crate) fn append(&mut self, mut others: Offers) -> Result<(), NoMemory>
+        ensures { OnOk result (JoinsOffers self.old others self.new) }
+    {
+        self.strong.append(&mut others.strong)?;
+        self.soft.append(&mut others.soft)?;
+        self.weak.append(&mut others.weak)?;
+        self.finals.append(&mut others.finals)?;
+        self.phantom.append(&mut others.phantom)?;
+        Ok(())
     }
 }

@@ -14,6 +14,7 @@ ghost use Rattle.hd_repair.specs.Alone.{IfDone, IfLarge, IsDoneLosing, IsHalfway
 ghost use Rattle.hd_repair.specs.Marking.{IsLarge};
 
 use crate::ahead::{Ahead, BATCH, read_object};
+use crate::falling::fall;
 use crate::lifting::lift_below;
 use crate::marking::{Marks, large_region};
 use crate::sources::find_support;
@@ -23,6 +24,7 @@ use hd_supports::Supports;
 use hd_terms::{NoMemory, Strength, Support};
 use std::alloc::Global;
 use std::collections::VecDeque;
+use std::thread::Threads;
 
 /// How many steps over stored chains a loss may take, beside those for each edge that is looked at.
 const MOST_STEPS: u64 = 1 << 20;
@@ -189,7 +191,6 @@ fn settle_waiting<E: Edges>(
     ensures looks { OnOk result (E.look_count edges.new + looks_due (E.rows edges.old) (progress_of losing.old) ≤ E.look_count edges.old + looks_due (E.rows edges.old) (progress_of losing.new)) }
     ensures halfway { OnOk result (IsHalfway (E.rows edges.old) kept.new losing.new) }
     ensures since { OnOk result ((ks0 : List Reached) (lost : List Holding) → IsSince ks0 lost kept.old (progress_of losing.old) → IsSince ks0 lost kept.new (progress_of losing.new)) }
-    ensures none { OnOk result ((E.rows edges.old).objects ≤ most → losing.new.waiting.items ≡ []) }
 {
     let mut ahead = Ahead::none();
     for _ in 0..most {
@@ -203,15 +204,14 @@ fn settle_waiting<E: Edges>(
 }
 
 /// Hangs each object that lost its support on another one, or detaches it; or tells that a search afresh looks at no more.
-pub(crate) fn rehang_or_detach<E: Edges>(
+pub(crate) fn rehang_or_detach<R: Threads + Sync, E: Edges + Sync + Drop>(
+    rt: &R,
     alloc: Global,
     edges: &mut E,
-    before: &Supports,
     kept: &mut Supports,
     lost: &[Held],
     limits: Limits,
 ) -> Result<Halfway, NoMemory>
-    requires before { before.now ≡ kept.old }
     requires count { length kept.old ≡ (E.rows edges.old).objects }
     requires room { (o : ℕ) → (reached_at kept.old o).stamp ≤ 2 ^ 47 }
     requires targets { All (λ (h : Holding). h.target < (E.rows edges.old).objects) lost.now }
@@ -222,15 +222,15 @@ pub(crate) fn rehang_or_detach<E: Edges>(
     ensures done { IfOk result (λ h. IfDone h (IsDoneLosing (E.rows edges.old) kept.old lost.now kept.new (E.look_count edges.old) (E.look_count edges.new))) }
     ensures large { IfOk result (λ h. IfLarge h (IsLarge (E.rows edges.old) kept.old lost.now (E.look_count edges.new) limits.search)) }
 {
+    let before = kept.share(alloc)?;
     let mut losing = begin_losing(alloc, kept, lost)?;
     let mut steps = MOST_STEPS;
     settle_waiting(edges, kept, &mut losing, &mut steps, limits.objects)?;
     if losing.waiting.len() > 0
-        && let Some(marks) = large_region(alloc, edges, before, lost, limits.search)?
+        && let Some(marks) = large_region(alloc, edges, &before, lost, limits.search)?
     {
         return Ok(Halfway::Large(marks));
     }
-    let most = kept.len();
-    settle_waiting(edges, kept, &mut losing, &mut steps, most)?;
+    fall(rt, alloc, edges, kept, &mut losing)?;
     Ok(Halfway::Done(losing))
 }

@@ -226,7 +226,7 @@ fn repaired_loss<R: Threads + Sync>(
         search: view.search_looks(),
     };
     let mut supports = before.share(alloc)?;
-    match lose(alloc, &mut view, before, &mut supports, lost, limits)? {
+    match lose(rt, alloc, &mut view, &mut supports, lost, limits)? {
         Lost::Settled(changes) => Ok(Repair {
             supports,
             changes,
@@ -293,7 +293,7 @@ pub fn repaired<R: Threads + Sync>(
         return Ok(repair);
     }
     let mut supports = supports.share(alloc)?;
-    let changes = gain(alloc, &mut view, &mut supports, &gained)?;
+    let changes = gain(rt, alloc, &mut view, &mut supports, &gained)?;
     let looks = view.looks();
     Ok(Repair {
         supports,

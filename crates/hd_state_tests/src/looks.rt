@@ -71,10 +71,10 @@ fn repair_between<R: Threads + Sync>(
     repair_over(rt, alloc, before, after, many)
 }
 
-/// A search afresh is asked for by no loss.
+/// No loss asks for a search afresh, or takes what it leaves apart as a whole.
 pub const NEVER: u32 = u32::MAX;
 
-/// A search afresh is asked for by each loss that takes an object's support.
+/// Each loss that takes an object's support asks for a search afresh; where none is made, it takes all below apart as a whole.
 pub const ALWAYS: u32 = 0;
 
 /// The repair for one more event of a log, where the log takes the event. A search afresh is asked for after `many` objects of a

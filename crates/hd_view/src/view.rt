@@ -198,5 +198,19 @@ impl Edges for View<'_> {
         self.looks
     }
 
+    fn unseen(&self) -> Self {
+        View {
+            edited: self.edited,
+            reverse: self.reverse,
+            added: self.added,
+            looks: 0,
+            cursor: self.cursor,
+        }
+    }
+
+    fn add_looks(&mut self, looks: u64) {
+        self.looks = self.looks.saturating_add(looks);
+    }
+
     ghost lawful = { λ v. lawful_rows v.dump v.log };
 }

@@ -282,7 +282,7 @@ fn usage_faults(rt: HostRuntime) {
 
 #[test]
 fn version(rt: HostRuntime) {
-    assert!(rt; ends(&rt, &["--version"], DONE, b"hdesk 1.8.0\n", b""));
+    assert!(rt; ends(&rt, &["--version"], DONE, b"hdesk 1.9.0\n", b""));
     assert!(rt; !usage_of(&rt, &["stat", "--version"]).is_empty());
 }
 

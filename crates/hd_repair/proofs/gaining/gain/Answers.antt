@@ -20,10 +20,10 @@ support_or_offer_each-requires-clause-spreading g c = rw c.deref.ensures.value (
     c.requires.settled.settled c.in_ok-targets.ensures.all)
 
 pub spread-requires-clause-targets : goal.spread-requires-clause-targets
-spread-requires-clause-targets g c = rw c.support_or_offer_each.ensures.same c.in_ok-offers.ensures.targets
+spread-requires-clause-targets g c κs within = rw c.support_or_offer_each.ensures.same c.in_ok-offers.ensures.targets
 
 pub spread-requires-clause-room : goal.spread-requires-clause-room
-spread-requires-clause-room g c o = omega (arith, c.requires.room o, c.in_ok-offers.ensures.resupported.stamps o)
+spread-requires-clause-room g c κs within o = omega (arith, c.requires.room o, c.in_ok-offers.ensures.resupported.stamps o)
 
 pub returns-clause-changes : goal.returns-clause-changes
 returns-clause-changes g c = changes_since c.args.kept.now c.support_or_offer_each.new.kept c.spread.new.kept _ c.in_ok-offers.ensures.resupported

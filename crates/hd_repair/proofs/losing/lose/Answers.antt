@@ -8,16 +8,16 @@ use Rattle.hd_repair.proofs.DistinctLemmas.{length-different}
 use Rattle.hd_repair.proofs.LossLemmas.{outside, stamps_grow, few_looks, all_changes}
 use Rattle.hd_repair.proofs.losing.lose.Goals as goal
 
-pub offer_each-requires-clause-objects : goal.offer_each-requires-clause-objects
-offer_each-requires-clause-objects g c =
+pub offer_best-requires-clause-objects : goal.offer_best-requires-clause-objects
+offer_best-requires-clause-objects g c κs within =
     let done = rw c.in-Done.is at c.in_ok-half.ensures.done in
     let sought = c.in-Done.losing.sought.items in
     rw (c.deref.ensures.value, c.rehang_or_detach.ensures.same)
     (λ k d lt. done.underway.distinct.within (get_or sought k d)
     (is_gone (done.sought.part (get_or sought k d) (Contains-get_or sought k d lt))))
 
-pub offer_each-requires-clause-spreading : goal.offer_each-requires-clause-spreading
-offer_each-requires-clause-spreading g c =
+pub offer_best-requires-clause-spreading : goal.offer_best-requires-clause-spreading
+offer_best-requires-clause-spreading g c κs within =
     let done = rw c.in-Done.is at c.in_ok-half.ensures.done in
     let r = g.E.Edges.rows c.args.edges.now in
     let w = c.requires.settled in
@@ -27,10 +27,10 @@ offer_each-requires-clause-spreading g c =
     done.sought)
 
 pub spread-requires-clause-targets : goal.spread-requires-clause-targets
-spread-requires-clause-targets g c = rw c.offer_each.ensures.same c.in_ok-offers-in-Done.ensures.targets
+spread-requires-clause-targets g c κs within = rw c.offer_best.ensures.same c.in_ok-offers-in-Done.ensures.targets
 
 pub spread-requires-clause-room : goal.spread-requires-clause-room
-spread-requires-clause-room g c o =
+spread-requires-clause-room g c κs within o =
     let done = rw c.in-Done.is at c.in_ok-half.ensures.done in
     let h = done.underway in
     let n = (g.E.Edges.rows c.args.edges.now).objects in
@@ -50,7 +50,7 @@ pub returns-in_ok-changes-in-Done-clause-outside : goal.returns-in_ok-changes-in
 returns-in_ok-changes-in-Done-clause-outside g c =
     let done = rw c.in-Done.is at c.in_ok-half.ensures.done in
     let rows = g.E.Edges.rows in
-    let same : rows c.offer_each.new.edges ≡ rows c.args.edges.now = c.offer_each.ensures.same ∙ c.rehang_or_detach.ensures.same in
+    let same : rows c.offer_best.new.edges ≡ rows c.args.edges.now = c.offer_best.ensures.same ∙ c.rehang_or_detach.ensures.same in
     let settled = rw same at c.in_ok-_rises-in-Done.ensures.settled in
     outside (rows c.args.edges.now).standing c.requires.settled.before c.args.lost.now (rows c.args.edges.now).objects c.args.kept.now
     c.rehang_or_detach.new.kept c.spread.new.kept (progress_of c.in-Done.losing) c.in_ok-_rises-in-Done._rises.items
@@ -61,7 +61,7 @@ returns-in_ok-changes-in-Done-clause-looks g c =
     let done = rw c.in-Done.is at c.in_ok-half.ensures.done in
     let rows = g.E.Edges.rows in
     let r = rows c.args.edges.now in
-    let same : rows c.offer_each.new.edges ≡ r = c.offer_each.ensures.same ∙ c.rehang_or_detach.ensures.same in
+    let same : rows c.offer_best.new.edges ≡ r = c.offer_best.ensures.same ∙ c.rehang_or_detach.ensures.same in
     let settled = rw same at c.in_ok-_rises-in-Done.ensures.settled in
     let first = done.few in
     let second = rw (c.rehang_or_detach.ensures.same, c.deref.ensures.value) at c.in_ok-offers-in-Done.ensures.looks in
@@ -76,7 +76,7 @@ returns-in_ok-changes-in-Done-clause-stamps g c =
     let done = rw c.in-Done.is at c.in_ok-half.ensures.done in
     let rows = g.E.Edges.rows in
     let r = rows c.args.edges.now in
-    let same : rows c.offer_each.new.edges ≡ r = c.offer_each.ensures.same ∙ c.rehang_or_detach.ensures.same in
+    let same : rows c.offer_best.new.edges ≡ r = c.offer_best.ensures.same ∙ c.rehang_or_detach.ensures.same in
     let settled = rw same at c.in_ok-_rises-in-Done.ensures.settled in
     stamps_grow r.standing c.requires.settled.before c.args.lost.now r.objects c.args.kept.now c.rehang_or_detach.new.kept c.spread.new.kept
     (progress_of c.in-Done.losing) c.in_ok-_rises-in-Done._rises.items
@@ -87,7 +87,7 @@ returns-in_ok-changes-in-Done-clause-changes g c =
     let done = rw c.in-Done.is at c.in_ok-half.ensures.done in
     let rows = g.E.Edges.rows in
     let r = rows c.args.edges.now in
-    let same : rows c.offer_each.new.edges ≡ r = c.offer_each.ensures.same ∙ c.rehang_or_detach.ensures.same in
+    let same : rows c.offer_best.new.edges ≡ r = c.offer_best.ensures.same ∙ c.rehang_or_detach.ensures.same in
     let settled = rw same at c.in_ok-_rises-in-Done.ensures.settled in
     all_changes r.standing c.requires.settled.before c.args.lost.now r.objects c.args.kept.now c.rehang_or_detach.new.kept c.spread.new.kept
     (progress_of c.in-Done.losing) c.in_ok-_rises-in-Done._rises.items

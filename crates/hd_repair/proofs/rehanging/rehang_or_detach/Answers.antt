@@ -1,4 +1,4 @@
--- It begins with what the lost items held, and settles objects that wait: some, and then all.
+-- It begins with what the lost items held, and settles objects that wait: some, and then all at once (`fall`).
 -- In between it may end with the marks of a large region.
 use Rattle.std.proofs.Common.{arith}
 use Rattle.hd_repair.proofs.rehanging.rehang_or_detach.Goals as goal
@@ -10,14 +10,12 @@ pub returns-2-clause-done : goal.returns-2-clause-done
 returns-2-clause-done g c =
     let r = g.E.Edges.rows c.args.edges.now in
     let same = c.in_ok-settle_waiting.ensures.same in
-    let h = rw same at c.in_ok-settle_waiting-2.ensures.halfway in
-    let second = rw same at c.in_ok-settle_waiting-2.ensures.looks in
+    let looks = rw same at c.in_ok-fall.ensures.looks in
     record {
-      few = omega (arith, c.in_ok-settle_waiting.ensures.looks, second, c.in_ok-losing.ensures.none r);
-      none = c.in_ok-settle_waiting-2.ensures.none
-          (rw same (omega (arith, c.len-most.ensures, c.settle_waiting.ensures.count, c.begin_losing.ensures.count, c.requires.count)));
-      underway = h.underway;
-      since = c.in_ok-settle_waiting-2.ensures.since c.args.kept.now c.args.lost.now (c.in_ok-settle_waiting.ensures.since c.args.kept.now c.args.lost.now
+      few = omega (arith, c.in_ok-settle_waiting.ensures.looks, looks, c.in_ok-losing.ensures.none r);
+      none = c.in_ok-fall.ensures.none;
+      underway = rw same at c.in_ok-fall.ensures.underway;
+      since = c.in_ok-fall.ensures.since c.args.kept.now c.args.lost.now (c.in_ok-settle_waiting.ensures.since c.args.kept.now c.args.lost.now
           (c.in_ok-losing.ensures.since r c.requires.count c.requires.settled));
-      sought = h.sought;
+      sought = rw same at c.in_ok-fall.ensures.sought;
     }

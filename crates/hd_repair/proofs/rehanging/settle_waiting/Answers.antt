@@ -1,8 +1,8 @@
--- Each turn settles one object that waits. An object is settled once, so none waits after as many turns as there are objects.
-use Rattle.std.proofs.Common.{◌≡◌, ◌∙◌, refl, sym, ap, subst, arith}
+-- Each turn settles one object that waits.
+use Rattle.std.proofs.Common.{◌≡◌, ◌∙◌, sym, ap, subst, arith}
 use Rattle.hd_terms.proofs.Lower.{Contains-first}
 use Rattle.hd_repair.specs.Losing.{looks_due, progress_of, waits, IsSince, Progress}
-use Rattle.hd_repair.proofs.AloneLemmas.{left_alone, none_halfway, none_progress, none_waits, taken_alone, taken_progress}
+use Rattle.hd_repair.proofs.AloneLemmas.{left_alone, none_halfway, none_progress, taken_alone, taken_progress}
 use Rattle.hd_repair.proofs.rehanging.settle_waiting.Goals as goal
 
 pub settle_next-requires-clause-object : goal.settle_next-requires-clause-object
@@ -40,7 +40,6 @@ loop-preserved g c =
       };
       since = λ ks0 lost s. c.in_ok-settle_next.ensures.since ks0 lost
           (subst (λ (p : Progress). IsSince ks0 lost c.loop.kept p) (sym before) (c.loop.invariant.since ks0 lost s));
-      done = omega (arith, c.loop.invariant.done, rw (t.rehung, t.gone) at c.in_ok-settle_next.ensures.done);
     }
 
 pub returns-in_default-clause-looks : goal.returns-in_default-clause-looks
@@ -58,9 +57,3 @@ pub returns-in_default-clause-since : goal.returns-in_default-clause-since
 returns-in_default-clause-since g c ks0 lost s =
     subst (λ (p : Progress). IsSince ks0 lost c.loop.kept p)
     (sym (none_progress c.loop.losing c.take_next.new.losing c.in_default.ensures.none)) (c.loop.invariant.since ks0 lost s)
-
-pub returns-clause-none : goal.returns-clause-none
-returns-clause-none g c few =
-    let r = g.E.Edges.rows c.args.edges.now in
-    none_waits r.standing r.objects c.loop.kept (progress_of c.loop.losing) c.loop.losing.waiting.items refl c.loop.invariant.halfway.underway
-    (omega (arith, few, c.loop-test.false, c.loop.invariant.done))

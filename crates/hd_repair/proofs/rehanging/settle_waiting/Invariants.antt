@@ -5,7 +5,7 @@ use Rattle.hd_repair.specs.Alone.{IsHalfway}
 use Rattle.hd_repair.specs.Losing.{looks_due, progress_of, IsSince}
 use Rattle.hd_repair.proofs.rehanging.settle_waiting.Given as goal
 
--- each turn is one object that is done
+-- what is done so far
 abbrev pub invariant-loop : goal.invariant-loop
 invariant-loop g l =
     let r = g.E.Edges.rows l.fn.edges in
@@ -16,5 +16,4 @@ invariant-loop g l =
       halfway : IsHalfway r l.kept l.losing;
       since : (ks0 : List Reached) (lost : List Holding) → IsSince ks0 lost l.fn.kept (progress_of l.fn.losing)
           → IsSince ks0 lost l.kept (progress_of l.losing);
-      done : l.counter ≤ length l.losing.rehung.items + length l.losing.gone.objects.items;
     }

@@ -43,7 +43,7 @@ gain-requires-clause-settled g c =
     let gains : LosesBy after before moved.event moved.edit =
     moves_gain before after moved.loses moved.event moved.edit c.moved_by-moved.ensures.moves c.if-moved.false in
     rw (c.view_of-view.ensures, c.in_ok-supports.ensures, c.deref-2.ensures.value)
-    (before_gain dump before after moved.event moved.edit c.in_ok-gained.gained.items c.args.supports.now gains c.in_ok-gained.ensures settled)
+    (λ κs le. before_gain dump before after moved.event moved.edit c.in_ok-gained.gained.items c.args.supports.now gains c.in_ok-gained.ensures settled)
 
 pub returns-then-moved-clause-outside : goal.returns-then-moved-clause-outside
 returns-then-moved-clause-outside g c o out =

@@ -1,8 +1,8 @@
 use Rattle.std.proofs.Common.{◌<◌, ◌∙◌, length, refl, arith}
 use Rattle.hd_repair.proofs.OutLemmas.{entry_within, step_some, step_none}
 use Rattle.hd_edges.specs.Marks.{marked_edge}
-use Rattle.hd_repair.proofs.spreading.offer_out.Goals as goal
-use Rattle.hd_repair.proofs.spreading.offer_out.Goals.{in-Some+in_ok-push, in_default}
+use Rattle.hd_repair.proofs.offering.offer_out_of.Goals as goal
+use Rattle.hd_repair.proofs.offering.offer_out_of.Goals.{in-Some+in_ok-push, in_default}
 
 pub offer_of-requires : goal.offer_of-requires
 offer_of-requires g c =

@@ -1,6 +1,6 @@
 use Rattle.std.proofs.Common.{◌≡◌, ◌+◌, ◌≤◌, take}
 use Rattle.hd_repair.specs.Spreading.{AddsOffers}
-use Rattle.hd_repair.proofs.spreading.offer_out.Given as goal
+use Rattle.hd_repair.proofs.offering.offer_out_of.Given as goal
 
 -- the entries so far are offered
 abbrev pub invariant-loop-i : goal.invariant-loop-i
